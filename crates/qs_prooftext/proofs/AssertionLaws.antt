@@ -346,3 +346,5 @@ fault_in k due fault (inr h) = inr h
 
 pub meant_fault : (g : Setting) (k : Sort) (s : Sexp) (fault : TextFault) → (flat g k s ≡ Err fault) ⊎ (fault ≡ NoMemory) → (means g (kind_of k) s ≡ Err fault) ⊎ (fault ≡ NoMemory)
 meant_fault g k s fault h = fault_in k (means g (kind_of k) s) fault h
+
+pub ruleset openings = (opens, stays_shut)

@@ -60,13 +60,6 @@ bound-ok : {A : Type 0} (x : Answer (List A)) → bind x (λ vs. Ok vs) ≡ x
 bound-ok (Err f) = refl
 bound-ok (Ok vs) = refl
 
-pub items_start : (g : Setting) (text : List ℕ) (nodes : List Node) (ss : Sexps) (items : List code.Item) → StandAll text nodes ss → items ≡ [] → ItemsLeft g text nodes (items_view items) (all_mean g an_item ss)
-items_start g text nodes ss items h e = record {
-  forest = ss;
-  stand = h;
-  same = (λ i. bind (all_mean g an_item ss) (λ vs. Ok (items_view (e i) ++ vs))) ∙ bound-ok (all_mean g an_item ss);
-}
-
 one_more : (x : Answer Item) (y : Answer (List Item)) (items : List Item) (item : Item) → x ≡ Ok item → bind (bind x (λ v. bind y (λ vs. Ok (v ∷ vs)))) (λ vs. Ok (items ++ vs)) ≡ bind y (λ vs. Ok ((items ++ item ∷ []) ++ vs))
 one_more x (Err f) items item e = λ i. bind (bind (e i) (λ v. Err f)) (λ vs. Ok (items ++ vs))
 one_more x (Ok vs) items item e =

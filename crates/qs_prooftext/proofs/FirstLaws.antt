@@ -31,3 +31,5 @@ tail_stands text nodes first others (part_and s ss) h p = others_stand text node
 pub tail_none : (text : List ℕ) (nodes : List Node) (ss : Sexps) → StandAll text nodes ss → nodes ≡ [] → StandAll text nodes (tail ss)
 tail_none text nodes no_parts h e = h
 tail_none text nodes (part_and s ss) h e = no_first text nodes s ss h e
+
+pub ruleset first_laws = (first_gives, first_none, first_tree)

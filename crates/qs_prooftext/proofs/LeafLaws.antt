@@ -76,3 +76,19 @@ old_variable_list g whole at (part_and (list place inner) parts) = refl
 
 pub old_variable_of_list : (g : Setting) (whole : ℕ) (text : List ℕ) (s : Sexp) (at n : ℕ) (nodes : List Node) → IsList text s at n nodes → means g (an_old_variable whole) s ≡ Err (UnknownForm at)
 old_variable_of_list g whole text s at n nodes h = ap (means g (an_old_variable whole)) h.same ∙ old_variable_list g whole at h.parts
+
+-- ---- what a reader of a number or a name takes
+
+pub ruleset index_laws = (of_number, of_symbol, index_of_list)
+
+pub ruleset natural_laws = (of_number, of_symbol, natural_of_list)
+
+pub ruleset name_laws = (of_number, of_symbol, name_of_list)
+
+pub ruleset divisor_laws = (of_number, of_symbol, divisor_of_list)
+
+pub ruleset function_laws = (of_number, of_symbol, function_of_list)
+
+pub ruleset known_name_laws = (of_number, of_symbol, known_name_of_list)
+
+pub ruleset old_variable_laws = (of_number, of_symbol, old_variable_of_list)

@@ -1,5 +1,5 @@
 -- The functions for which a file has lists, as they are marked.
-use Rattle.std.proofs.Common.{arith, ◌≡◌, ◌≢◌, ℕ, zero, suc, ℤ, codes, ◌+◌, ◌<◌, ◌==◌, Bool, true, false, if◌then◌else◌, List, [], ◌∷◌, length, map, get_or, set, Option, Some, None, refl, sym, ap, ◌∙◌, subst}
+use Rattle.std.proofs.Common.{arith, ◌≡◌, ◌≢◌, ℕ, zero, suc, ◌+◌, ◌<◌, ◌==◌, Bool, true, false, if◌then◌else◌, List, [], ◌∷◌, length, map, get_or, set, Option, Some, None, refl, sym, ap, ◌∙◌, subst}
 use Rattle.std.specs.Prelude.{bytes_eq, not, option_map, ◌||◌}
 use Rattle.std.specs.List.{slice_get, list_all}
 use Rattle.std.proofs.Math.Bool.{or-false}
@@ -17,13 +17,13 @@ use Rattle.qs_core.specs.declared.unit.CoreUnit.{CoreUnit}
 use Rattle.qs_core.specs.declared.units.CoreFunction.{CoreFunction}
 use Rattle.qs_core.proofs.FitLaws.{unit_parts}
 use Rattle.qs_sexpr.specs.Parts.{Splits}
-use Rattle.qs_sexpr.specs.Trees.{Sexp, number, symbol, list, Sexps, no_parts, part_and}
+use Rattle.qs_sexpr.specs.Trees.{Sexp, Sexps, no_parts, part_and}
 use Rattle.qs_sexpr.specs.declared.node.Node.{Node}
 use Rattle.qs_triples.specs.Filled.{function_name, name_in}
-use Rattle.qs_prooftext.specs.Answers.{HasNoHead, IsHeaded, IsList, StandAll, Stands}
+use Rattle.qs_prooftext.specs.Answers.{StandAll, Stands}
 use Rattle.qs_prooftext.specs.Contexts.{function_rows}
 use Rattle.qs_prooftext.specs.Listed.{ListsLeft, Marks}
-use Rattle.qs_prooftext.specs.Proofs.{entry_names, entry_names_of, has_list, is_among, name_of_parts}
+use Rattle.qs_prooftext.specs.Proofs.{entry_names, entry_names_of, has_list, is_among}
 use Rattle.qs_prooftext.specs.Settings.{functions_of, look_up, numbered}
 use Rattle.qs_prooftext.proofs.PartLaws.{first_stands, others_stand, no_first, no_split}
 
@@ -137,9 +137,6 @@ not_found_in unit w fs o e h is =
 
 -- ---- marks
 
-pub marks_nothing : (u : CoreUnitTree) (flags : List Bool) → Marks u [] flags flags
-marks_nothing u flags = record { as_many = refl; same = λ f b. sym (or-false (flag flags f)) }
-
 pub marks_none : (u : CoreUnitTree) → unit_fits u ≡ true → (w : List ℕ) (flags : List Bool) → look_up w (functions_of u) ≡ None → Marks u (w ∷ []) flags flags
 marks_none u fits w flags e = record {
   as_many = refl;
@@ -171,62 +168,7 @@ marks_one u fits w flags g e b = record {
 
 -- ---- all lists
 
-names_none : (ss : Sexps) → HasNoHead ss → name_of_parts ss ≡ []
-names_none no_parts h = refl
-names_none (part_and (number place n) parts) h = refl
-names_none (part_and (symbol place w) parts) h = absurd h
-names_none (part_and (list place inner) parts) h = refl
-
-marks_same : (u : CoreUnitTree) (xs ys : List (List ℕ)) (old new : List Bool) → xs ≡ ys → Marks u ys old new → Marks u xs old new
-marks_same u xs ys old new e h = subst (λ (zs : List (List ℕ)). Marks u zs old new) (sym e) h
-
-pub marks_headless : (u : CoreUnitTree) (ss : Sexps) (flags : List Bool) → HasNoHead ss → Marks u (name_of_parts ss) flags flags
-marks_headless u ss flags h =
-    marks_same u (name_of_parts ss) [] flags flags (names_none ss h) (marks_nothing u flags)
-
-pub marks_headed : (u : CoreUnitTree) (text : List ℕ) (ss : Sexps) (w : List ℕ) (others : List Node) (old new : List Bool) → IsHeaded text ss w others → Marks u (w ∷ []) old new → Marks u (name_of_parts ss) old new
-marks_headed u text ss w others old new h m =
-    marks_same u (name_of_parts ss) (w ∷ []) old new (ap name_of_parts h.same) m
-
-pub marks_number : (u : CoreUnitTree) (s : Sexp) (at : ℕ) (n : ℤ) (flags : List Bool) → s ≡ number at n → Marks u (entry_names_of s) flags flags
-marks_number u s at n flags e =
-    marks_same u (entry_names_of s) [] flags flags (ap entry_names_of e) (marks_nothing u flags)
-
-pub marks_symbol : (u : CoreUnitTree) (s : Sexp) (at : ℕ) (w : List ℕ) (flags : List Bool) → s ≡ symbol at w → Marks u (entry_names_of s) flags flags
-marks_symbol u s at w flags e =
-    marks_same u (entry_names_of s) [] flags flags (ap entry_names_of e) (marks_nothing u flags)
-
-list_headless : (at : ℕ) (ss : Sexps) → HasNoHead ss → entry_names_of (list at ss) ≡ []
-list_headless at no_parts h = refl
-list_headless at (part_and (number place n) parts) h = refl
-list_headless at (part_and (symbol place w) parts) h = absurd h
-list_headless at (part_and (list place inner) parts) h = refl
-
-pub marks_list_headless : (u : CoreUnitTree) (text : List ℕ) (s : Sexp) (at n : ℕ) (nodes : List Node) (flags : List Bool) → (p : IsList text s at n nodes) → HasNoHead p.parts → Marks u (entry_names_of s) flags flags
-marks_list_headless u text s at n nodes flags p h =
-    marks_same u (entry_names_of s) [] flags flags (ap entry_names_of p.same ∙ list_headless at p.parts h) (marks_nothing u flags)
-
-list_named : (text : List ℕ) (s : Sexp) (at n : ℕ) (nodes : List Node) (w : List ℕ) (others : List Node) → (p : IsList text s at n nodes) (h : IsHeaded text p.parts w others) → entry_names_of s ≡ (if bytes_eq w (codes "function") then name_of_parts h.parts else [])
-list_named text s at n nodes w others p h =
-    ap entry_names_of (p.same ∙ ap (λ (ss : Sexps). list at ss) h.same)
-
-pub marks_function : (u : CoreUnitTree) (text : List ℕ) (s : Sexp) (at n : ℕ) (nodes : List Node) (w : List ℕ) (others : List Node) (old new : List Bool) → (p : IsList text s at n nodes) (h : IsHeaded text p.parts w others) → bytes_eq w (codes "function") ≡ true → Marks u (name_of_parts h.parts) old new → Marks u (entry_names_of s) old new
-marks_function u text s at n nodes w others old new p h e m =
-    marks_same u (entry_names_of s) (name_of_parts h.parts) old new (list_named text s at n nodes w others p h ∙ ap (λ (b : Bool). if b then name_of_parts h.parts else []) e) m
-
-pub marks_other : (u : CoreUnitTree) (text : List ℕ) (s : Sexp) (at n : ℕ) (nodes : List Node) (w : List ℕ) (others : List Node) (flags : List Bool) → (p : IsList text s at n nodes) (h : IsHeaded text p.parts w others) → bytes_eq w (codes "function") ≡ false → Marks u (entry_names_of s) flags flags
-marks_other u text s at n nodes w others flags p h e =
-    marks_same u (entry_names_of s) [] flags flags (list_named text s at n nodes w others p h ∙ ap (λ (b : Bool). if b then name_of_parts h.parts else []) e) (marks_nothing u flags)
-
 -- ---- the walk
-
-pub lists_start : (u : CoreUnitTree) (text : List ℕ) (nodes : List Node) (ss : Sexps) (flags : List Bool) → StandAll text nodes ss → length flags ≡ length u.functions → ((f : ℕ) → f < length u.functions → flag flags f ≡ false) → ListsLeft u text nodes flags ss
-lists_start u text nodes ss flags h l none = record {
-  forest = ss;
-  stand = h;
-  as_many = l;
-  same = λ f b. ap (λ (t : Bool). t || has_list u ss f) (none f b);
-}
 
 or_assoc : (a b c : Bool) → ((a || b) || c) ≡ (a || (b || c))
 or_assoc true b c = refl

@@ -1,5 +1,5 @@
 -- Lists of which there is a range.
-use Rattle.std.proofs.Common.{arith, ◌≡◌, ℕ, ◌==◌, Bool, true, false, List, [], ◌∷◌, if◌then◌else◌, Option, Some, None, Result, Ok, Err, refl, sym, ap, ◌∙◌, subst}
+use Rattle.std.proofs.Common.{arith, ◌≡◌, ℕ, ◌==◌, true, false, List, Option, Some, None, Result, Ok, Err, refl, sym, ap, ◌∙◌, subst}
 use Rattle.qs_base.specs.Results.{bind}
 use Rattle.qs_memory.specs.Partial.{◌>>=◌}
 use Rattle.qs_assert.specs.declared.variable.Var.{Var}
@@ -13,11 +13,10 @@ use Rattle.qs_prooftext.specs.declared.fault.TextFault.TheVariants.{UnknownForm}
 use Rattle.qs_prooftext.specs.declared.ranges.RangeWord.{RangeWord}
 use Rattle.qs_prooftext.specs.declared.ranges.RangeWord.TheVariants as words
 use Rattle.qs_prooftext.specs.Answers.{Gives, HasNoHead, IsList, IsHeaded}
-use Rattle.qs_prooftext.specs.AssertionWords.{result_row}
 use Rattle.qs_prooftext.specs.Firsts.{first_means}
 use Rattle.qs_prooftext.specs.Heads.{range_rows}
 use Rattle.qs_prooftext.specs.Kinds.{Kind, Of, Row, one, a_range}
-use Rattle.qs_prooftext.specs.Meanings.{Answer, means, each_means}
+use Rattle.qs_prooftext.specs.Meanings.{Answer, means}
 use Rattle.qs_prooftext.specs.Ranges.{range_words, range_row, range_or, range_list}
 use Rattle.qs_prooftext.specs.Settings.{Setting, look_up}
 use Rattle.qs_prooftext.proofs.AssertionLaws.{no_head}
@@ -32,38 +31,11 @@ one_list g at k made no_parts e = absurd (omega (arith, e))
 one_list g at k made (part_and p no_parts) e = one_bound (means g k p) made
 one_list g at k made (part_and p (part_and q ss)) e = absurd (omega (arith, e))
 
-pub one_gives : (g : Setting) (at n : ℕ) (k : Kind) (made : Of k → FactTree) (ss : Sexps) (r : Result Fact TextFault) → n ≡ count ss → n ≡ 1 → Gives fact_tree (bind (first_means g k ss) (λ v. Ok (made v))) r → Gives fact_tree (range_list g at (Some (one k made)) ss) r
-one_gives g at n k made ss r c e h =
-    let P : Answer FactTree → Type 0 = λ a. Gives fact_tree a r in
-    subst P (sym (one_list g at k made ss (sym c ∙ e))) h
-
 not_one : (n m : ℕ) → n ≡ m → (n ≡ 1 → ⊥) → (m == 1) ≡ false
 not_one n m e h = grind (arith, e, h)
 
-pub one_fails : (g : Setting) (at n : ℕ) (k : Kind) (made : Of k → FactTree) (ss : Sexps) → n ≡ count ss → (n ≡ 1 → ⊥) → range_list g at (Some (one k made)) ss ≡ Err (UnknownForm at)
-one_fails g at n k made ss c h =
-    ap (λ (b : Bool). if b then bind (each_means g (k ∷ []) ss) (λ v. Ok (made v.0)) else Err (UnknownForm at)) (not_one n (count ss) c h)
-
 is_none : (m : ℕ) → m ≡ 0 → (m == 0) ≡ true
 is_none m e = grind (arith, e)
-
-not_none : (n m : ℕ) → n ≡ m → (n ≡ 0 → ⊥) → (m == 0) ≡ false
-not_none n m e h = grind (arith, e, h)
-
-returned_list : (g : Setting) (at n : ℕ) (o : Option Var) (ss : Sexps) → n ≡ count ss → n ≡ 0 → range_list g at (result_row range o) ss ≡ range_or at o
-returned_list g at n None ss c e = refl
-returned_list g at n (Some x) ss c e =
-    ap (λ (b : Bool). if b then Ok (range x) else Err (UnknownForm at)) (is_none (count ss) (sym c ∙ e))
-
-pub returned_gives : (g : Setting) (at n : ℕ) (ss : Sexps) (r : Result Fact TextFault) → n ≡ count ss → n ≡ 0 → Gives fact_tree (range_or at g.result) r → Gives fact_tree (range_list g at (result_row range g.result) ss) r
-returned_gives g at n ss r c e h =
-    let P : Answer FactTree → Type 0 = λ a. Gives fact_tree a r in
-    subst P (sym (returned_list g at n g.result ss c e)) h
-
-pub returned_fails : (g : Setting) (at n : ℕ) (o : Option Var) (ss : Sexps) → n ≡ count ss → (n ≡ 0 → ⊥) → range_list g at (result_row range o) ss ≡ Err (UnknownForm at)
-returned_fails g at n None ss c h = refl
-returned_fails g at n (Some x) ss c h =
-    ap (λ (b : Bool). if b then Ok (range x) else Err (UnknownForm at)) (not_none n (count ss) c h)
 
 pub ranges_found : (g : Setting) (at : ℕ) (w : List ℕ) → look_up w (range_rows g at) ≡ (look_up w range_words >>= range_row g at)
 ranges_found g at w =
@@ -74,10 +46,6 @@ pub head_gives : (g : Setting) (at : ℕ) (w : List ℕ) (word : RangeWord) (ss 
 head_gives g at w word ss r e h =
     let P : Option (Row a_range) → Type 0 = λ o. Gives fact_tree (range_list g at o ss) r in
     subst P (sym (ranges_found g at w ∙ ap (λ (o : Option RangeWord). o >>= range_row g at) e)) h
-
-pub head_fails : (g : Setting) (at : ℕ) (w : List ℕ) (ss : Sexps) → look_up w range_words ≡ None → range_list g at (look_up w (range_rows g at)) ss ≡ Err (UnknownForm at)
-head_fails g at w ss e =
-    ap (λ (o : Option (Row a_range)). range_list g at o ss) (ranges_found g at w ∙ ap (λ (o : Option RangeWord). o >>= range_row g at) e)
 
 pub list_gives : (g : Setting) (text : List ℕ) (s : Sexp) (at n : ℕ) (nodes : List Node) (w : List ℕ) (others : List Node) (r : Result Fact TextFault) (p : IsList text s at n nodes) (h : IsHeaded text p.parts w others) → Gives fact_tree (range_list g at (look_up w (range_rows g at)) h.parts) r → Gives fact_tree (means g a_range s) r
 list_gives g text s at n nodes w others r p h k =

@@ -216,3 +216,5 @@ read_is_writable u text proofs fits r = writable_so u text proofs fits r
 -- a unit in code fits
 pub unit_read_is_writable : (unit : CoreUnit) (text : List ℕ) (proofs : ProofsTree) → Reading (unit_tree unit) text proofs → IsWritable (unit_tree unit) proofs
 unit_read_is_writable unit text proofs r = read_is_writable (unit_tree unit) text proofs unit.fits r
+
+pub ruleset reads_well = (read_of_unit, unit_read_is_writable)

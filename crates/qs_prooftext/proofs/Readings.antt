@@ -18,3 +18,5 @@ spelled_reads u text proofs fits short w r = file_reads u text proofs fits (own_
 pub written_reads : (u : CoreUnitTree) (proofs : ProofsTree) → unit_fits u ≡ true → HasShortNumbers u → IsWritable u proofs → Reading u (lay_all (file_forms u proofs)) proofs
 written_reads u proofs fits short w =
     spelled_reads u (lay_all (file_forms u proofs)) proofs fits short w (laid_out_reads (file_forms u proofs) w.forms)
+
+pub ruleset reads_back = (written_reads, spelled_reads)

@@ -2,7 +2,7 @@
 use Rattle.std.proofs.Common.{arith, ◌≡◌, ℕ, ◌+◌, ◌==◌, ℤ, Bool, true, false, ◌&&◌, if◌then◌else◌, List, [], ◌∷◌, ◌++◌, map, Option, Some, None, Result, Ok, Err, codes, inl, inr, refl, sym, ap, ◌∙◌, subst}
 use Rattle.std.specs.Prelude.{bytes_eq, option_map, ◌⊎◌, ◌||◌}
 use Rattle.std.specs.Borrow.{Bor}
-use Rattle.std.proofs.lemmas.List.{append-nil, map-append}
+use Rattle.std.proofs.lemmas.List.{append-nil}
 use Rattle.std.proofs.lemmas.Option.{slice_get-get_or, slice_get-map}
 use Rattle.std.specs.List.{ItemBy, slice_get}
 use Rattle.qs_base.specs.Results.{bind}
@@ -15,17 +15,14 @@ use Rattle.qs_core.specs.TreeOf.{function_tree}
 use Rattle.qs_core.specs.UnitTrees.{unit_tree}
 use Rattle.qs_core.specs.declared.unit.CoreUnit.{CoreUnit}
 use Rattle.qs_core.specs.declared.units.CoreFunction.{CoreFunction}
-use Rattle.qs_base.specs.declared.function.FnId.{FnId}
 use Rattle.qs_entail.specs.Certificates.{CertTree}
-use Rattle.qs_entail.specs.View.{cert_tree}
 use Rattle.qs_sexpr.specs.Parts.{Splits}
 use Rattle.qs_sexpr.specs.Trees.{Sexp, number, symbol, list, Sexps, no_parts, part_and, count, sexp_nodes}
 use Rattle.qs_sexpr.specs.declared.node.Node.{Node}
 use Rattle.qs_triples.specs.Derivations.{DerivationTree, ProofsTree}
 use Rattle.qs_triples.specs.Entries.{has_entry}
-use Rattle.qs_triples.specs.TreeOf.{derivation_tree, entry_tree, spec_tree}
+use Rattle.qs_triples.specs.TreeOf.{entry_tree}
 use Rattle.qs_triples.specs.Valuations.{number_if}
-use Rattle.qs_triples.specs.declared.derivation.FunctionProof.{FunctionProof}
 use Rattle.qs_prooftext.specs.declared.fault.TextFault.{TextFault}
 use Rattle.qs_prooftext.specs.declared.fault.TextFault.TheVariants.{NoMemory, UnknownForm, Duplicate}
 use Rattle.qs_prooftext.specs.declared.context.Word.{Word}
@@ -40,8 +37,9 @@ use Rattle.qs_prooftext.specs.Heads.{rows}
 use Rattle.qs_prooftext.specs.Meanings.{Answer, all_mean, each_means, headed_means, list_means, means, number_means, symbol_means}
 use Rattle.qs_prooftext.specs.Proofs.{Sofar, define_means, entry_means, function_means, headed_top_means, is_defined, named_entry_means, top_means, tops_mean, with_define, with_entry}
 use Rattle.qs_prooftext.specs.Settings.{Setting, functions_of, in_definition, in_entry, look_up, typed, words_of}
-use Rattle.qs_prooftext.specs.Tops.{EntryParts, GivesPart, TopsLeft, definition, entry_at, entry_of_parts, entry_parts_mean, first_only, first_word, found_entry, function, known_entry, named_define, named_entry, new_entry_means, only_part, part_means, parts_view, proofs_so_far, single, sofar_of}
+use Rattle.qs_prooftext.specs.Tops.{EntryParts, GivesPart, TopsLeft, definition, entry_at, entry_of_parts, entry_parts_mean, first_only, found_entry, function, known_entry, named_define, named_entry, only_part, part_means, proofs_so_far, single, sofar_of}
 use Rattle.qs_prooftext.specs.Walking.{HasParts}
+use Rattle.qs_prooftext.proofs.AssertionLaws.{has_parts}
 use Rattle.qs_prooftext.proofs.FirstLaws.{first_tree}
 use Rattle.qs_prooftext.proofs.PartLaws.{first_stands, others_stand, no_first, no_split}
 use Rattle.qs_prooftext.proofs.RangeLaws.{one_bound}
@@ -188,29 +186,6 @@ define_done file proofs now at name word g ss body e h means same added kept =
 
 -- ---- entries
 
-pub entry_twice : (s : Sofar) (at f : ℕ) (function : CoreFunctionTree) (ss : Sexps) → has_entry s.proofs f ≡ true → known_entry s at f function ss ≡ Err (Duplicate at)
-entry_twice s at f function ss e =
-    ap (λ (b : Bool). if b then Err (Duplicate at) else bind (new_entry_means s function ss) (λ v. Ok (with_entry s.proofs f v))) e
-
-entry_once : (s : Sofar) (at f : ℕ) (function : CoreFunctionTree) (ss : Sexps) → has_entry s.proofs f ≡ false → known_entry s at f function ss ≡ bind (new_entry_means s function ss) (λ v. Ok (with_entry s.proofs f v))
-entry_once s at f function ss e =
-    ap (λ (b : Bool). if b then Err (Duplicate at) else bind (new_entry_means s function ss) (λ v. Ok (with_entry s.proofs f v))) e
-
-pub entry_stops : (s : Sofar) (at f : ℕ) (function : CoreFunctionTree) (ss : Sexps) (fault : TextFault) → has_entry s.proofs f ≡ false → (new_entry_means s function ss ≡ Err fault) ⊎ (fault ≡ NoMemory) → (known_entry s at f function ss ≡ Err fault) ⊎ (fault ≡ NoMemory)
-entry_stops s at f function ss fault e (inl stop) =
-    inl (entry_once s at f function ss e ∙ ap (λ (a : Answer EntryParts). bind a (λ v. Ok (with_entry s.proofs f v))) stop)
-entry_stops s at f function ss fault e (inr none) = inr none
-
-pub entry_done : (file : File) (proofs now : ProofsSoFar) (at : ℕ) (f : FnId) (function : CoreFunctionTree) (ss : Sexps) (e : FunctionProof) → has_entry (proofs_so_far proofs) f.0 ≡ false → new_entry_means (sofar_of file proofs) function ss ≡ Ok (parts_view e) → e.function ≡ f → now.functions.items ≡ proofs.functions.items ++ e ∷ [] → now.definitions ≡ proofs.definitions → known_entry (sofar_of file proofs) at f.0 function ss ≡ Ok (proofs_so_far now)
-entry_done file proofs now at f function ss e new means same pushed kept =
-    entry_once (sofar_of file proofs) at f.0 function ss new
-    ∙ (ap (λ (a : Answer EntryParts). bind a (λ v. Ok (with_entry (proofs_so_far proofs) f.0 v))) means
-    ∙ (λ i. Ok (record {
-      defines = (sym kept i).defines.items;
-      functions = (ap (λ (g : FnId). map entry_tree proofs.functions.items ++ record { function = g.0; spec = spec_tree e.spec; entry = cert_tree e.entry; body = derivation_tree e.body } ∷ []) (sym same)
-          ∙ (sym (map-append entry_tree proofs.functions.items (e ∷ [])) ∙ ap (λ (es : List FunctionProof). map entry_tree es) (sym pushed))) i;
-    })))
-
 -- ---- the function of an entry
 
 got : {X : Type 0} (xs : List X) (k : ℕ) (r : Option (Bor X)) (x : Bor X) → ItemBy (λ (y : Bor X). y.now) xs k k r → r ≡ Some x → slice_get xs k ≡ Some x.now
@@ -289,15 +264,6 @@ unknown_top s at place w ss e f =
 
 -- ---- the parts that are met
 
-no_head_in : (head : List ℕ) (at : ℕ) (ss : Sexps) → HasNoHead ss → only_part head (list at ss) ≡ Err (UnknownForm at)
-no_head_in head at no_parts h = refl
-no_head_in head at (part_and (number place n) parts) h = refl
-no_head_in head at (part_and (symbol place w) parts) h = absurd h
-no_head_in head at (part_and (list place inner) parts) h = refl
-
-pub only_headless : (head text : List ℕ) (s : Sexp) (at n : ℕ) (nodes : List Node) → (p : IsList text s at n nodes) → HasNoHead p.parts → only_part head s ≡ Err (UnknownForm at)
-only_headless head text s at n nodes p h = ap (only_part head) p.same ∙ no_head_in head at p.parts h
-
 only_headed : (head text : List ℕ) (s : Sexp) (at n : ℕ) (nodes : List Node) (w : List ℕ) (others : List Node) → (p : IsList text s at n nodes) (h : IsHeaded text p.parts w others) → only_part head s ≡ (if bytes_eq head w then single at h.parts else Err (UnknownForm at))
 only_headed head text s at n nodes w others p h =
     ap (only_part head) (p.same ∙ ap (λ (ss : Sexps). list at ss) h.same)
@@ -308,11 +274,6 @@ one_stands text others at (part_and s no_parts) h e =
     (s, refl, record { nodes_are = h.nodes_are ∙ append-nil (sexp_nodes s); lies = h.lie.0 })
 one_stands text others at (part_and s (part_and t ss)) h e = absurd (omega (arith, e))
 
-others_fail : (at : ℕ) (ss : Sexps) → (count ss ≡ 1 → ⊥) → single at ss ≡ Err (UnknownForm at)
-others_fail at no_parts h = refl
-others_fail at (part_and s no_parts) h = absurd (h refl)
-others_fail at (part_and s (part_and t ss)) h = refl
-
 pub only_found : (head text : List ℕ) (s : Sexp) (at n : ℕ) (nodes : List Node) (w : List ℕ) (others : List Node) → (p : IsList text s at n nodes) (h : IsHeaded text p.parts w others) → bytes_eq head w ≡ true → n ≡ 2 → (q : Sexp) × (only_part head s ≡ Ok q) × Stands text others q
 only_found head text s at n nodes w others p h is two =
     let whole : count p.parts ≡ count h.parts + 1 = ap count h.same in
@@ -320,58 +281,15 @@ only_found head text s at n nodes w others p h is two =
     let t = one_stands text others at h.parts h.stand (omega (arith, whole, c, two)) in
     (t.0, only_headed head text s at n nodes w others p h ∙ (ap (λ (b : Bool). if b then single at h.parts else Err (UnknownForm at)) is ∙ t.1), t.2)
 
-pub only_other : (head text : List ℕ) (s : Sexp) (at n : ℕ) (nodes : List Node) (w : List ℕ) (others : List Node) → (p : IsList text s at n nodes) (h : IsHeaded text p.parts w others) → bytes_eq head w ≡ false → only_part head s ≡ Err (UnknownForm at)
-only_other head text s at n nodes w others p h other =
-    only_headed head text s at n nodes w others p h ∙ ap (λ (b : Bool). if b then single at h.parts else Err (UnknownForm at)) other
-
 either : (b : Bool) (a : Answer Sexp) → (if b then a else a) ≡ a
 either true a = refl
 either false a = refl
-
-pub only_many : (head text : List ℕ) (s : Sexp) (at n : ℕ) (nodes : List Node) (w : List ℕ) (others : List Node) → (p : IsList text s at n nodes) (h : IsHeaded text p.parts w others) → (n ≡ 2 → ⊥) → only_part head s ≡ Err (UnknownForm at)
-only_many head text s at n nodes w others p h other =
-    let whole : count p.parts ≡ count h.parts + 1 = ap count h.same in
-    let c = p.counts in
-    only_headed head text s at n nodes w others p h
-    ∙ (ap (λ (a : Answer Sexp). if bytes_eq head w then a else Err (UnknownForm at)) (others_fail at h.parts (λ e. other (omega (arith, whole, c, e)))) ∙ either (bytes_eq head w) (Err (UnknownForm at)))
 
 pub first_only_gives : (text head : List ℕ) (nodes first others : List Node) (ss : Sexps) (r : Result (Bor (List Node)) TextFault) → StandAll text nodes ss → Splits nodes first others → ((s : Sexp) → Stands text first s → GivesPart text (only_part head s) r) → GivesPart text (first_only head ss) r
 first_only_gives text head nodes first others no_parts r h p f = no_split text nodes first others h p
 first_only_gives text head nodes first others (part_and s ss) r h p f = f s (first_stands text nodes s ss first others h p)
 
-pub first_only_none : (text head : List ℕ) (nodes : List Node) (ss : Sexps) → StandAll text nodes ss → nodes ≡ [] → first_only head ss ≡ Err (UnknownForm 0)
-first_only_none text head nodes no_parts h e = refl
-first_only_none text head nodes (part_and s ss) h e = no_first text nodes s ss h e
-
--- the answer that is due for the only part
-pub part_gives : {T : Type 0} (g : Setting) (k : Kind) (view : T → Of k) (head text : List ℕ) (nodes : List Node) (ss : Sexps) (r : Result T TextFault) → (t : (q : Sexp) × (first_only head ss ≡ Ok q) × Stands text nodes q) → Gives view (means g k t.0) r → Gives view (part_means g k head ss) r
-part_gives g k view head text nodes ss r t h =
-    let P : Answer (Of k) → Type 0 = λ a. Gives view a r in
-    subst P (sym (ap (λ (a : Answer Sexp). bind a (λ s. means g k s)) t.1)) h
-
-pub part_stops : (g : Setting) (k : Kind) (head : List ℕ) (ss : Sexps) (fault : TextFault) → first_only head ss ≡ Err fault → part_means g k head ss ≡ Err fault
-part_stops g k head ss fault e = ap (λ (a : Answer Sexp). bind a (λ s. means g k s)) e
-
 -- ---- the symbol that is the first part
-
-pub word_number : (text : List ℕ) (nodes first others : List Node) (ss : Sexps) (place : ℕ) (n : ℤ) → StandAll text nodes ss → Splits nodes first others → ((s : Sexp) → Stands text first s → s ≡ number place n) → first_word ss ≡ Err (UnknownForm place)
-word_number text nodes first others no_parts place n h p f = no_split text nodes first others h p
-word_number text nodes first others (part_and s ss) place n h p f =
-    ap (λ (x : Sexp). first_word (part_and x ss)) (f s (first_stands text nodes s ss first others h p))
-
-pub word_symbol : (text : List ℕ) (nodes first others : List Node) (ss : Sexps) (place : ℕ) (w : List ℕ) → StandAll text nodes ss → Splits nodes first others → ((s : Sexp) → Stands text first s → s ≡ symbol place w) → first_word ss ≡ Ok w
-word_symbol text nodes first others no_parts place w h p f = no_split text nodes first others h p
-word_symbol text nodes first others (part_and s ss) place w h p f =
-    ap (λ (x : Sexp). first_word (part_and x ss)) (f s (first_stands text nodes s ss first others h p))
-
-pub word_list : (text : List ℕ) (nodes first others : List Node) (ss : Sexps) (place n : ℕ) (inner : List Node) → StandAll text nodes ss → Splits nodes first others → ((s : Sexp) → Stands text first s → IsList text s place n inner) → first_word ss ≡ Err (UnknownForm place)
-word_list text nodes first others no_parts place n inner h p f = no_split text nodes first others h p
-word_list text nodes first others (part_and s ss) place n inner h p f =
-    ap (λ (x : Sexp). first_word (part_and x ss)) (f s (first_stands text nodes s ss first others h p)).same
-
-pub word_none : (text : List ℕ) (nodes : List Node) (ss : Sexps) → StandAll text nodes ss → nodes ≡ [] → first_word ss ≡ Err (UnknownForm 0)
-word_none text nodes no_parts h e = refl
-word_none text nodes (part_and s ss) h e = no_first text nodes s ss h e
 
 -- ---- the lists of a file
 
@@ -388,9 +306,6 @@ pub top_headed : {T : Type 0} (s : Sofar) (view : T → ProofsTree) (r : Result 
 top_headed s view r text t at n nodes w others p h gives =
     let P : Answer ProofsTree → Type 0 = λ a. Gives view a r in
     subst P (sym (ap (top_means s) (p.same ∙ ap (λ (ss : Sexps). list at ss) h.same))) gives
-
-pub tops_start : (s : Sofar) (text : List ℕ) (nodes : List Node) (ss : Sexps) (due : Answer ProofsTree) → StandAll text nodes ss → tops_mean s ss ≡ due → TopsLeft s text nodes due
-tops_start s text nodes ss due h e = record { forest = ss; stand = h; same = e }
 
 pub tops_go : (s : Sofar) (text : List ℕ) (rest first others : List Node) (proofs : ProofsTree) (due : Answer ProofsTree) → TopsLeft s text rest due → Splits rest first others → ((t : Sexp) → Stands text first t → top_means s t ≡ Ok proofs) → TopsLeft (record s { proofs = proofs }) text others due
 tops_go s text rest first others proofs due l p f = go l.forest l.stand l.same
@@ -425,3 +340,7 @@ tops_end s text rest due l e = go l.forest l.stand l.same
     go : (ss : Sexps) → StandAll text rest ss → tops_mean s ss ≡ due → due ≡ Ok s.proofs
     go no_parts h f = sym f
     go (part_and t ss) h f = no_first text rest t ss h e
+
+pub ruleset headed_tops = (define_top, define_unfit, function_top, function_unfit, unknown_top)
+
+pub ruleset top_lists = (top_headless, top_headed, has_parts)

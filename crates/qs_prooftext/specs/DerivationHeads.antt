@@ -68,6 +68,10 @@ statement_means g statements.Call n ss = bind (reason_means g ss) (λ r. Ok (cal
 statement_means g statements.BalancedCall n ss = Ok balanced_call
 statement_means g statements.Consequence n ss = bind (reason_means g ss) (λ r. Ok (consequence r))
 
+-- with so many parts behind its head
+abbrev pub head_of : Statement → (n : ℕ) → Setting → Sexps → Answer HeadTree
+head_of statement n g ss = statement_means g statement n ss
+
 -- ---- derivations from their heads, the last first
 
 abbrev pub first_derivation : List DerivationTree → DerivationTree

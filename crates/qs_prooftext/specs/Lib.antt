@@ -15,11 +15,13 @@ pub mod Flattening
 pub mod AssertionRows
 pub mod Walking
 pub mod Firsts
+pub mod Readers
 pub mod RuleWords
 pub mod Ranges
 pub mod Facts
 pub mod CertHeads
 pub mod Putting
+pub mod Tokens
 pub mod Planting
 pub mod CertRows
 pub mod HeadWalks

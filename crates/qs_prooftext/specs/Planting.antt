@@ -1,5 +1,6 @@
 -- Trees of one kind from their heads, the last first. What was made last stands in front.
-use Rattle.std.specs.Prelude.{ℕ, zero, suc, List, [], ◌∷◌}
+use Rattle.std.specs.Prelude.{◌≡◌, ℕ, zero, suc, List, [], ◌∷◌, map, reverse, Box, Vec, Result, IfOk}
+use Rattle.std.specs.declared.alloc.Global.{Global}
 use Rattle.qs_assert.specs.Reading.{others}
 use Rattle.qs_assert.specs.Stacks.{first_or}
 
@@ -29,3 +30,27 @@ plants s (h ∷ hs) xs = plant s h (plants s hs xs)
 -- the tree with these heads
 abbrev pub grown : {H A : Type 0} → Shape H A → List H → List A → A
 grown s hs xs = first_or s.blank (plants s hs xs)
+
+-- ---- stacks
+
+-- what stands on a stack as trees, its front being the Vec's end
+abbrev pub stacked : {A T : Type 0} → (T → A) → Vec T Global → List A
+stacked tree stack = reverse (map tree stack.items)
+
+-- this tree is made of those on the stack
+abbrev pub Makes : {A T E : Type 0} → (T → A) → (List A → A) → (stack : Vec T Global) → Result T E → Type 0
+Makes tree made stack result = IfOk result (λ x. tree x ≡ made (stacked tree stack))
+
+-- so many trees are taken off the stack
+abbrev pub Takes : {A T E R : Type 0} → (T → A) → ℕ → (old new : Vec T Global) → Result R E → Type 0
+Takes tree n old new result = IfOk result (λ _. stacked tree new ≡ behind n (stacked tree old))
+
+-- the answer is the first of them
+abbrev pub GivesFirst :
+    {A T E : Type 0} → (T → A) → A → (stack : Vec T Global) → Result (Box T Global) E → Type 0
+GivesFirst tree blank stack result = IfOk result (λ part. tree part.value ≡ first_or blank (stacked tree stack))
+
+-- the answer is the first so many
+abbrev pub GivesFirsts :
+    {A T E : Type 0} → (T → A) → A → ℕ → (stack : Vec T Global) → Result (Vec T Global) E → Type 0
+GivesFirsts tree blank n stack result = IfOk result (λ parts. map tree parts.items ≡ firsts blank n (stacked tree stack))

@@ -1,5 +1,5 @@
 -- How trees are put as tokens, node by node.
-use Rattle.std.specs.Prelude.{◌≡◌, ℕ, List, [], ◌∷◌, ◌++◌, map, replicate, codes, decimal}
+use Rattle.std.specs.Prelude.{◌≡◌, ℕ, ℤ, List, [], ◌∷◌, ◌++◌, map, replicate, codes, decimal}
 use Rattle.std.specs.List.{slice_get}
 use Rattle.std.specs.Fmt.{signed_decimal}
 use Rattle.qs_assert.specs.declared.node.TermNode.{TermNode}
@@ -13,7 +13,7 @@ use Rattle.qs_assert.specs.declared.node.Node.TheVariants.{Term, Condition, Asse
 use Rattle.qs_core.specs.TreeOf.{function_tree}
 use Rattle.qs_sexpr.specs.declared.token.Token.{Token}
 use Rattle.qs_entail.specs.Certificates as certificates
-use Rattle.qs_entail.specs.Certificates.{FactTree}
+use Rattle.qs_entail.specs.Certificates.{FactTree, Item}
 use Rattle.qs_entail.specs.View.{cert_tree}
 use Rattle.qs_sexpr.specs.Marks.{Mark, opens, closes, word, mark_of, marks, all_marks}
 use Rattle.qs_sexpr.specs.Writing.{Form, symbol_form}
@@ -113,13 +113,16 @@ all_put w (node ∷ nodes) ds =
 
 -- ---- certificates and derivations
 
+-- a fact that two terms differ
+abbrev pub apart_begins : (number : ℤ) → List Item → List Mark
+apart_begins i items = opens ∷ word (codes "apart") ∷ word (signed_decimal i) ∷ marks (combination_form items)
+
 -- how a fact begins; the certificate behind it and a `)` are to follow
 abbrev pub fact_begins : Words → FactTree → List Mark
 fact_begins w (certificates.range x) = opens ∷ word (codes "range") ∷ marks (variable_form w x x.kind)
 fact_begins w (certificates.cost_range f) =
     opens ∷ word (codes "range") ∷ opens ∷ word (codes "cost") ∷ word (w.functions f) ∷ closes ∷ []
-fact_begins w (certificates.apart i items) =
-    opens ∷ word (codes "apart") ∷ word (signed_decimal i) ∷ marks (combination_form items)
+fact_begins w (certificates.apart i items) = apart_begins i items
 fact_begins w (certificates.num_is t items) =
     opens ∷ word (codes "num") ∷ (marks (term_form w t) ++ marks (combination_form items))
 fact_begins w (certificates.num_bounds t) = opens ∷ word (codes "pos") ∷ marks (term_form w t)

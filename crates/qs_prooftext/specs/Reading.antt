@@ -1,5 +1,5 @@
 -- Readings of proof files, and their faults.
-use Rattle.std.specs.Prelude.{◌≡◌, ℕ, Bool, List, Ok, Err}
+use Rattle.std.specs.Prelude.{◌≡◌, ◌⊎◌, ℕ, Bool, List, Result, Ok, Err, IfErr}
 use Rattle.qs_callgraph.specs.Opens.{TellsOpen}
 use Rattle.qs_core.specs.Trees.{CoreUnitTree}
 use Rattle.qs_sexpr.specs.Reading as lists
@@ -33,3 +33,7 @@ pub data Fault (u : CoreUnitTree) (text : List ℕ) : TextFault → Type 0 where
   no_meaning :
       (file : Sexps) (is_open : ℕ → Bool) (fault : TextFault) → lists.Reading text file
       → TellsOpen u (has_list u file) is_open → file_means u is_open file ≡ Err fault → Fault u text fault
+
+-- no reading: for the text's first fault, or for want of memory
+abbrev pub Refuses : {A : Type 0} → CoreUnitTree → (text : List ℕ) → Result A TextFault → Type 0
+Refuses u text result = IfErr result (λ fault. (fault ≡ faults.NoMemory) ⊎ Fault u text fault)

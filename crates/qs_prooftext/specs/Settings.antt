@@ -37,10 +37,13 @@ variable_words f i (v ∷ vs) =
     ++ variable_words f (i + 1) vs
 
 -- a temporary of integer type
+abbrev pub temporary_word : (number : ℕ) → Scalar → List (List ℕ × Var)
+temporary_word k s = with_word (temporary_text k) (typed (kinds.Temporary k) (if_number s))
+
 abbrev pub temporary_words : (from : ℕ) → List Scalar → List (List ℕ × Var)
 temporary_words k [] = []
 temporary_words k (s ∷ ss) =
-    with_word (temporary_text k) (typed (kinds.Temporary k) (if_number s)) ++ temporary_words (k + 1) ss
+    temporary_word k s ++ temporary_words (k + 1) ss
 
 abbrev pub words_of : CoreFunctionTree → List (List ℕ × Var)
 words_of f = variable_words f 0 f.variables ++ temporary_words 0 f.temporaries

@@ -3,10 +3,13 @@ use Rattle.std.specs.Prelude.{◌≡◌, ℕ, List, ◌∷◌, [], map, codes, b
 use Rattle.std.specs.Borrow.{Bor}
 use Rattle.std.specs.List.{slice_get}
 use Rattle.qs_base.specs.Results.{bind}
+use Rattle.qs_base.specs.declared.function.FnId.{FnId}
 use Rattle.qs_assert.specs.Trees.{AssertionTree}
 use Rattle.qs_callgraph.specs.CallLists.{flag}
 use Rattle.qs_core.specs.Trees.{CoreFunctionTree}
+use Rattle.qs_core.specs.TreeOf.{function_tree}
 use Rattle.qs_core.specs.UnitTrees.{unit_tree}
+use Rattle.qs_core.specs.declared.units.CoreFunction.{CoreFunction}
 use Rattle.qs_entail.specs.Certificates.{CertTree}
 use Rattle.qs_entail.specs.View.{cert_tree}
 use Rattle.qs_sexpr.specs.Trees.{Sexp, number, symbol, list, Sexps, no_parts, part_and}
@@ -15,16 +18,20 @@ use Rattle.qs_triples.specs.Derivations.{DerivationTree, ProofsTree}
 use Rattle.qs_triples.specs.Entries.{has_entry}
 use Rattle.qs_triples.specs.TreeOf.{derivation_tree, entry_tree}
 use Rattle.qs_triples.specs.declared.derivation.FunctionProof.{FunctionProof}
+use Rattle.qs_prooftext.specs.declared.context.Context.{Context}
 use Rattle.qs_prooftext.specs.declared.fault.TextFault.{TextFault}
 use Rattle.qs_prooftext.specs.declared.fault.TextFault.TheVariants.{UnknownForm, Duplicate, NoSuchFunction}
 use Rattle.qs_prooftext.specs.declared.tops.File.{File}
 use Rattle.qs_prooftext.specs.declared.tops.ProofsSoFar.{ProofsSoFar}
-use Rattle.qs_prooftext.specs.Answers.{StandAll, Stands}
+use Rattle.qs_prooftext.specs.Answers.{Gives, StandAll, Stands}
+use Rattle.qs_prooftext.specs.Contexts.{setting_of}
 use Rattle.qs_prooftext.specs.Firsts.{first_means, tail}
 use Rattle.qs_prooftext.specs.Kinds.{Kind, Of, Values, a_body, a_certificate, a_definition_body, a_derivation, a_postcondition, a_precondition, an_assertion, an_entry_certificate}
 use Rattle.qs_prooftext.specs.Meanings.{Answer, means}
-use Rattle.qs_prooftext.specs.Proofs.{Sofar, is_defined, tops_mean, with_define, with_entry}
+use Rattle.qs_prooftext.specs.Proofs.{Sofar, file_means, headed_top_means, is_defined, top_means, tops_mean, with_define, with_entry}
+use Rattle.qs_prooftext.specs.Readers.{GivesParts}
 use Rattle.qs_prooftext.specs.Settings.{Setting, functions_of, in_definition, in_entry, look_up}
+use Rattle.qs_prooftext.specs.Walking.{HasParts}
 
 abbrev pub open_in : File → ℕ → Bool
 open_in file = flag file.is_open.now
@@ -74,6 +81,24 @@ part_means g k head ss = bind (first_only head ss) (λ s. means g k s)
 abbrev pub GivesPart : (text : List ℕ) → Answer Sexp → Result (Bor (List Node)) TextFault → Type 0
 GivesPart text due (Ok nodes) = (s : Sexp) × (due ≡ Ok s) × Stands text nodes.now s
 GivesPart text due (Err fault) = due ≡ Err fault
+
+-- the answer is the only part of the list with these nodes, which has this head, or of the first of the parts
+-- with these
+abbrev pub FindsOnly :
+    (text head : List ℕ) → (nodes : List Node) → Result (Bor (List Node)) TextFault → Type 0
+FindsOnly text head nodes result = (s : Sexp) → Stands text nodes s → GivesPart text (only_part head s) result
+
+abbrev pub FindsFirstOnly :
+    (text head : List ℕ) → (parts : List Node) → Result (Bor (List Node)) TextFault → Type 0
+FindsFirstOnly text head parts result =
+    (ss : Sexps) → StandAll text parts ss → GivesPart text (first_only head ss) result
+
+-- it is read as one of the kind
+abbrev pub ReadsOnly :
+    {T : Type 0} → Context → (head : List ℕ) → (parts : List Node) → (k : Kind) → (T → Of k)
+    → Result T TextFault → Type 0
+ReadsOnly c head parts k view result =
+    (ss : Sexps) → StandAll c.text.now parts ss → Gives view (part_means (setting_of c) k head ss) result
 
 -- ---- definitions
 
@@ -134,3 +159,45 @@ pub record TopsLeft (s : Sofar) (text : List ℕ) (rest : List Node) (due : Answ
   pub forest : Sexps
   pub stand : StandAll text rest forest
   pub same : tops_mean s forest ≡ due
+
+-- ---- what the readers of a file promise
+
+-- the proofs are those so far and what the parts mean behind them
+abbrev pub Adds :
+    File → (parts : List Node) → (Sofar → Sexps → Answer ProofsTree) → (old new : ProofsSoFar)
+    → Result (Unit {0}) TextFault → Type 0
+Adds file parts meaning old new result = GivesParts file.text.now parts (meaning (sofar_of file old)) (λ done. proofs_so_far new) result
+
+-- by the parts behind the name, of a definition and of an entry
+abbrev pub define_of : (at : ℕ) → (name : List ℕ) → Sofar → Sexps → Answer ProofsTree
+define_of at name s parts = named_define s at name parts
+
+abbrev pub entry_of : (at : ℕ) → (name : List ℕ) → Sofar → Sexps → Answer ProofsTree
+entry_of at name s parts = named_entry s at name parts
+
+abbrev pub entry_in : (at : ℕ) → FnId → CoreFunction → Sofar → Sexps → Answer ProofsTree
+entry_in at f function s parts = known_entry s at f.0 (function_tree function) parts
+
+-- and what the list at this place with this head, so many parts and these nodes behind its head means
+abbrev pub AddsHeaded :
+    File → (at : ℕ) → (head : List ℕ) → (parts : ℕ) → (others : List Node) → (old new : ProofsSoFar)
+    → Result (Unit {0}) TextFault → Type 0
+AddsHeaded file at head n others old new result =
+    (place : ℕ) (ss : Sexps) → StandAll file.text.now others ss → HasParts n ss
+    → Gives (λ done. proofs_so_far new) (headed_top_means (sofar_of file old) at (symbol place head) ss) result
+
+-- and what the list or atom at the top with these nodes means
+abbrev pub AddsTop :
+    File → (nodes : List Node) → (old new : ProofsSoFar) → Result (Unit {0}) TextFault → Type 0
+AddsTop file nodes old new result =
+    (s : Sexp) → Stands file.text.now nodes s → Gives (λ done. proofs_so_far new) (top_means (sofar_of file old) s) result
+
+-- behind the proofs so far the parts are those of an entry of this function
+abbrev pub ReadsEntry :
+    File → ProofsSoFar → CoreFunction → (parts : List Node) → Result FunctionProof TextFault → Type 0
+ReadsEntry file proofs function parts result =
+    GivesParts file.text.now parts (new_entry_means (sofar_of file proofs) (function_tree function)) parts_view result
+
+-- the proofs that the lists of the file are
+abbrev pub meaning_of : File → Sexps → Answer ProofsTree
+meaning_of file ss = file_means (unit_tree file.unit.now) (open_in file) ss

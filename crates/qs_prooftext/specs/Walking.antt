@@ -1,20 +1,23 @@
 -- What is still to be read of an assertion.
-use Rattle.std.specs.Prelude.{◌≡◌, ◌⊎◌, ℕ, zero, suc, ◌+◌, ℤ, pos, negsuc, Bool, if◌then◌else◌, List, [], ◌∷◌, ◌++◌, length, reverse, Option, Some, None, Result, Ok, Err}
+use Rattle.std.specs.Prelude.{◌≡◌, ◌⊎◌, ℕ, zero, suc, ◌+◌, ℤ, pos, negsuc, Bool, if◌then◌else◌, List, [], ◌∷◌, ◌++◌, ◌<◌, length, reverse, Option, Some, None, Vec, Result, Ok, Err, IfOk}
 use Rattle.std.specs.Borrow.{Bor}
+use Rattle.std.specs.Option.{option_to_list}
+use Rattle.std.specs.declared.alloc.Global.{Global}
 use Rattle.qs_assert.specs.declared.node.Node.{Node as AssertNode}
 use Rattle.qs_assert.specs.declared.node.Node.TheVariants as nodes
 use Rattle.qs_assert.specs.declared.node.TermNode.TheVariants as term_nodes
 use Rattle.qs_assert.specs.declared.node.AssertionNode.TheVariants as assertion_nodes
 use Rattle.qs_assert.specs.declared.variable.Var.{Var}
-use Rattle.qs_sexpr.specs.Trees.{Sexps, count}
+use Rattle.qs_sexpr.specs.Trees.{Sexp, symbol, list, Sexps, part_and, count}
 use Rattle.qs_sexpr.specs.declared.node.Node.{Node}
+use Rattle.qs_prooftext.specs.declared.context.Context.{Context}
 use Rattle.qs_prooftext.specs.declared.fault.TextFault.{TextFault}
 use Rattle.qs_prooftext.specs.declared.fault.TextFault.TheVariants as faults
 use Rattle.qs_prooftext.specs.declared.sorts.Sort.{Sort}
 use Rattle.qs_prooftext.specs.declared.sorts.Sort.TheVariants.{Term, Condition, Assertion, Definition, Divisor, OldVariable, Function, KnownName, Name}
-use Rattle.qs_prooftext.specs.Answers.{StandAll}
-use Rattle.qs_prooftext.specs.Contexts.{old_by_word}
-use Rattle.qs_prooftext.specs.Flattening.{flats, joined}
+use Rattle.qs_prooftext.specs.Answers.{Gives, Stands, StandAll}
+use Rattle.qs_prooftext.specs.Contexts.{old_by_word, setting_of}
+use Rattle.qs_prooftext.specs.Flattening.{flat, flats, joined}
 use Rattle.qs_prooftext.specs.Meanings.{Answer}
 use Rattle.qs_prooftext.specs.Settings.{Setting, look_up}
 
@@ -34,6 +37,24 @@ abbrev pub Goes : Setting → (text : List ℕ) → Result (List Node) TextFault
 Goes g text (Ok rest) todo out due = Remains g text rest todo out due
 Goes g text (Err fault) todo out due = (due ≡ Err fault) ⊎ (fault ≡ faults.NoMemory)
 
+-- something of the rest is read, if there is a rest
+abbrev pub Shortens : (rest : List Node) → Result (Bor (List Node)) TextFault → Type 0
+Shortens rest result = IfOk result (λ left. 0 < length rest → length left.now < length rest)
+
+-- one step: of what is due more nodes are out, and fewer are to be read
+abbrev pub Steps :
+    Context → (rest : List Node) → (todo todo_now : Vec Sort Global) → (out out_now : Vec AssertNode Global)
+    → Result (Bor (List Node)) TextFault → Type 0
+Steps c rest todo todo_now out out_now result =
+    (due : Answer (List AssertNode)) → Remains (setting_of c) c.text.now rest todo.items out.items due → 0 < length rest
+    → Goes (setting_of c) c.text.now (nodes_in result) todo_now.items out_now.items due
+
+-- the nodes of what the list or atom with these nodes means as one of the sort
+abbrev pub GivesNodes :
+    Context → (nodes : List Node) → Sort → Result (Vec AssertNode Global) TextFault → Type 0
+GivesNodes c nodes sort result =
+    (s : Sexp) → Stands c.text.now nodes s → Gives (λ read. read.items) (flat (setting_of c) sort s) result
+
 -- a list is opened: its own node is out, and its parts are to be read
 pub record Opened (g : Setting) (flat_list : Answer (List AssertNode)) (parts : Sexps) (todo todo_now : List Sort) (out out_now : List AssertNode) : Type 0 where
   pub sorts : List Sort
@@ -51,7 +72,21 @@ GivesOpened g due parts todo todo_now out out_now (Err fault) = (due ≡ Err fau
 abbrev pub HasParts : ℕ → Sexps → Type 0
 HasParts n parts = n ≡ count parts + 1
 
+-- the list at this place with this head, so many parts and these nodes behind its head is opened
+abbrev pub Opens :
+    Context → Sort → (at : ℕ) → (word : List ℕ) → (parts : ℕ) → (others : List Node)
+    → (todo todo_now : Vec Sort Global) → (out out_now : Vec AssertNode Global) → Result (Unit {0}) TextFault
+    → Type 0
+Opens c sort at word n others todo todo_now out out_now result =
+    (place : ℕ) (parts : Sexps) → StandAll c.text.now others parts → HasParts n parts
+    → GivesOpened (setting_of c) (flat (setting_of c) sort (list at (part_and (symbol place word) parts)))
+    parts todo.items todo_now.items out.items out_now.items result
+
 -- ---- the nodes of atoms
+
+-- the node that an atom makes, if it makes one
+abbrev pub GivesNode : Answer (List AssertNode) → Result (Option AssertNode) TextFault → Type 0
+GivesNode due result = Gives option_to_list due result
 
 abbrev pub natural_flat : (at : ℕ) → ℤ → Answer (List AssertNode)
 natural_flat at (pos n) = Ok (nodes.Assertion (assertion_nodes.Natural n) ∷ [])
@@ -87,6 +122,10 @@ name_flat name = Ok (nodes.Assertion (assertion_nodes.Named name) ∷ [])
 abbrev pub known_flat : (place : ℕ) → Bool → (name : List ℕ) → Answer (List AssertNode)
 known_flat place known name = if known then name_flat name else Err (faults.UnknownForm place)
 
+-- a name with a definition
+abbrev pub named_flat : Setting → (place : ℕ) → (name : List ℕ) → Answer (List AssertNode)
+named_flat g place name = known_flat place (g.has_name name) name
+
 abbrev pub symbol_flat : Setting → Sort → (at : ℕ) → (word : List ℕ) → Answer (List AssertNode)
 symbol_flat g Term at w = variable_flat at (look_up w g.variables)
 symbol_flat g Condition at w = Err (faults.UnknownForm at)
@@ -95,5 +134,5 @@ symbol_flat g Definition at w = Err (faults.UnknownForm at)
 symbol_flat g Divisor at w = Err (faults.UnknownForm at)
 symbol_flat g (OldVariable whole) at w = variable_flat whole (old_by_word g.variables w)
 symbol_flat g (Function whole) at w = function_flat whole (look_up w g.functions)
-symbol_flat g (KnownName whole) at w = known_flat whole (g.has_name w) w
+symbol_flat g (KnownName whole) at w = named_flat g whole w
 symbol_flat g Name at w = name_flat w

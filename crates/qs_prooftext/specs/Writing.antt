@@ -11,7 +11,7 @@ use Rattle.qs_entail.specs.Certificates as certificates
 use Rattle.qs_entail.specs.Certificates.{Item, once, twice, FactTree, CertTree, CertTrees, no_certs, cert_and}
 use Rattle.qs_core.specs.Fits.{differ}
 use Rattle.qs_core.specs.Trees.{CoreFunctionTree, CoreUnitTree, CoreVariableTree}
-use Rattle.qs_sexpr.specs.Layout.{lay}
+use Rattle.qs_sexpr.specs.Layout.{lay, lay_all}
 use Rattle.qs_sexpr.specs.Writing.{Form, symbol_form, number_form, list_form, Forms, no_forms, form_and}
 use Rattle.qs_sexpr.specs.declared.layout.Layer.TheVariants.{OnLine}
 use Rattle.qs_triples.specs.Derivations as derivations
@@ -200,9 +200,11 @@ abbrev pub words_of_entry : CoreUnitTree → (function : ℕ) → Words
 words_of_entry u f =
     record { functions = function_name u; variables = words_in (slice_get u.functions f) }
 
+abbrev pub define_form_by : Words → Define → Form
+define_form_by w d = headed (codes "define") (symbol_form d.name ∷ assertion_form w d.body ∷ [])
+
 abbrev pub define_form : CoreUnitTree → Define → Form
-define_form u d =
-    headed (codes "define") (symbol_form d.name ∷ assertion_form (record { functions = function_name u; variables = [] }) d.body ∷ [])
+define_form u d = define_form_by (record { functions = function_name u; variables = [] }) d
 
 abbrev pub entry_form_by : (name : List ℕ) → Words → EntryTree → Form
 entry_form_by name w e =
@@ -213,6 +215,9 @@ entry_form u e = entry_form_by (function_name u e.function) (words_of_entry u e.
 
 abbrev pub file_forms : CoreUnitTree → ProofsTree → Forms
 file_forms u proofs = forms_of (map (define_form u) proofs.defines ++ map (entry_form u) proofs.functions)
+
+abbrev pub file_text : CoreUnitTree → ProofsTree → List ℕ
+file_text u proofs = lay_all (file_forms u proofs)
 
 -- ---- variables
 

@@ -1,14 +1,16 @@
-// Terms, conditions and assertions: one walk over their nodes, with a stack of what is still to be read.
-ghost use Rattle.std.specs.Prelude.{◌≡◌, ◌<◌, ◌++◌, ◌∷◌, [], ◌+◌, ℕ, List, Option, length, reverse, option_map, OnOk, IfOk};
+// Terms, conditions and assertions: one walk over their nodes, with a stack of what is still to be
+// read.
+ghost use Rattle.std.specs.Prelude.{◌≡◌, ◌++◌, ◌∷◌, [], ◌+◌, Option, reverse, option_map, OnOk};
 ghost use Rattle.std.specs.Option.{option_to_list};
-ghost use Rattle.qs_assert.specs.declared.node.Node.{Node as AssertNode};
-ghost use Rattle.qs_prooftext.specs.Answers.{Gives, Stands, StandAll};
+ghost use Rattle.qs_prooftext.specs.Answers.{Stands};
 ghost use Rattle.qs_prooftext.specs.Contexts.{setting_of};
-ghost use Rattle.qs_prooftext.specs.Flattening.{flat, sorts};
+ghost use Rattle.qs_prooftext.specs.Flattening.{sorts};
 ghost use Rattle.qs_prooftext.specs.Kinds.{a_condition, a_definition_body, a_term, an_assertion};
-ghost use Rattle.qs_prooftext.specs.Meanings.{Answer, means};
-ghost use Rattle.qs_prooftext.specs.Walking.{Goes, GivesOpened, HasParts, Remains, function_flat, known_flat, name_flat, natural_flat, nodes_in, number_flat, symbol_flat, variable_flat};
-ghost use Rattle.qs_sexpr.specs.Trees.{Sexp, Sexps, list, number, part_and, symbol};
+ghost use Rattle.qs_prooftext.specs.Walking.{function_flat, name_flat, natural_flat, number_flat};
+ghost use Rattle.qs_prooftext.specs.Walking.{symbol_flat, variable_flat, Shortens, Steps};
+ghost use Rattle.qs_prooftext.specs.Walking.{GivesNodes, Opens, GivesNode, named_flat};
+ghost use Rattle.qs_sexpr.specs.Trees.{Sexp, number};
+ghost use Rattle.qs_prooftext.specs.Readers.{Reads};
 
 use crate::context::{Context, find_function, find_variable, is_defined};
 use crate::fault::TextFault;
@@ -25,7 +27,7 @@ use std::alloc::Global;
 // ---- atoms
 
 fn natural_node(at: u32, value: i64) -> Result<Option<Node>, TextFault>
-    ensures { Gives option_to_list (natural_flat at value) result }
+    ensures { GivesNode (natural_flat at value) result }
 {
     if value < 0 {
         Err(TextFault::UnknownForm(at))
@@ -36,7 +38,7 @@ fn natural_node(at: u32, value: i64) -> Result<Option<Node>, TextFault>
 
 /// The node that a number makes, or none where its list knows of it.
 fn number_node(sort: Sort, at: u32, value: i64) -> Result<Option<Node>, TextFault>
-    ensures { Gives option_to_list (number_flat sort at value) result }
+    ensures { GivesNode (number_flat sort at value) result }
 {
     match sort {
         Sort::Term => Ok(Some(Node::Term(TermNode::Number(value)))),
@@ -58,7 +60,7 @@ fn number_node(sort: Sort, at: u32, value: i64) -> Result<Option<Node>, TextFaul
 }
 
 fn variable_node(place: u32, found: Option<Var>) -> Result<Option<Node>, TextFault>
-    ensures { Gives option_to_list (variable_flat place found) result }
+    ensures { GivesNode (variable_flat place found) result }
 {
     match found {
         Some(x) => Ok(Some(Node::Term(TermNode::Variable(x)))),
@@ -67,7 +69,7 @@ fn variable_node(place: u32, found: Option<Var>) -> Result<Option<Node>, TextFau
 }
 
 fn function_node(place: u32, found: Option<FnId>) -> Result<Option<Node>, TextFault>
-    ensures { Gives option_to_list (function_flat place (option_map (λ f. f.0) found)) result }
+    ensures { GivesNode (function_flat place (option_map (λ f. f.0) found)) result }
 {
     match found {
         Some(f) => Ok(Some(Node::Assertion(AssertionNode::Cost(f)))),
@@ -76,7 +78,7 @@ fn function_node(place: u32, found: Option<FnId>) -> Result<Option<Node>, TextFa
 }
 
 fn name_node(alloc: Global, word: &[u8]) -> Result<Option<Node>, TextFault>
-    ensures { Gives option_to_list (name_flat word.now) result }
+    ensures { GivesNode (name_flat word.now) result }
 {
     let name = Name::new(alloc, word)?;
     Ok(Some(Node::Assertion(AssertionNode::Named(name))))
@@ -88,7 +90,7 @@ fn known_name_node(
     whole: u32,
     word: &[u8],
 ) -> Result<Option<Node>, TextFault>
-    ensures { Gives option_to_list (known_flat whole ((setting_of context.entry).has_name word.now) word.now) result }
+    ensures { GivesNode (named_flat (setting_of context.entry) whole word.now) result }
 {
     if is_defined(context.names, context.functions, word) {
         name_node(alloc, word)
@@ -105,7 +107,7 @@ fn symbol_node(
     at: u32,
     word: &[u8],
 ) -> Result<Option<Node>, TextFault>
-    ensures { Gives option_to_list (symbol_flat (setting_of context.entry) sort at word.now) result }
+    ensures { GivesNode (symbol_flat (setting_of context.entry) sort at word.now) result }
 {
     match sort {
         Sort::Term => variable_node(at, find_variable(context.words, word)),
@@ -158,7 +160,7 @@ fn put_sorts(todo: &mut Vec<Sort>, parts: Parts, count: usize) -> Result<(), NoM
 }
 
 /// Puts the node of the list at this place with this head, and the sorts of its other parts.
-#[tactic(auto, using(crate::proofs::AssertionLaws::opens, crate::proofs::AssertionLaws::stays_shut))]
+#[tactic(auto, using(crate::proofs::AssertionLaws::openings))]
 fn open_list(
     context: Context<'_>,
     sort: Sort,
@@ -169,8 +171,8 @@ fn open_list(
     todo: &mut Vec<Sort>,
     out: &mut Vec<Node>,
 ) -> Result<(), TextFault>
-    ensures { (place : ℕ) (parts : Sexps) → StandAll context.entry.text.now others.now parts → HasParts count parts
-        → GivesOpened (setting_of context.entry) (flat (setting_of context.entry) sort (list at (part_and (symbol place word.now) parts))) parts todo.old.items todo.new.items out.old.items out.new.items result }
+    ensures { Opens context.entry sort at word.now count others.now
+        todo.old todo.new out.old out.new result }
 {
     let behind = count.saturating_sub(1);
     let divisor = divisor_in(context.text, others);
@@ -186,7 +188,8 @@ fn open_list(
 
 // ---- the walk
 
-/// Reads the first node of the rest, and the head behind it where it is a list; the answer is what is left.
+/// Reads the first node of the rest, and the head behind it where it is a list; the answer is what
+/// is left.
 fn next<'a>(
     alloc: Global,
     context: Context<'_>,
@@ -194,9 +197,8 @@ fn next<'a>(
     todo: &mut Vec<Sort>,
     out: &mut Vec<Node>,
 ) -> Result<&'a [qs_sexpr::Node], TextFault>
-    ensures goes { (due : Answer (List AssertNode)) → Remains (setting_of context.entry) context.entry.text.now rest.now todo.old.items out.old.items due → 0 < length rest.now
-        → Goes (setting_of context.entry) context.entry.text.now (nodes_in result) todo.new.items out.new.items due }
-    ensures shorter { IfOk result (λ left. 0 < length rest.now → length left.now < length rest.now) }
+    ensures goes { Steps context.entry rest.now todo.old todo.new out.old out.new result }
+    ensures shorter { Shortens rest.now result }
 {
     let Some(sort) = todo.pop() else {
         return Err(TextFault::UnknownForm(0));
@@ -232,7 +234,7 @@ fn read_nodes(
     sort: Sort,
     nodes: &[qs_sexpr::Node],
 ) -> Result<Vec<Node>, TextFault>
-    ensures { (s : Sexp) → Stands context.entry.text.now nodes.now s → Gives (λ read. read.items) (flat (setting_of context.entry) sort s) result }
+    ensures { GivesNodes context.entry nodes.now sort result }
 {
     let mut out = Vec::new(alloc);
     let mut todo = Vec::new(alloc);
@@ -253,7 +255,7 @@ pub fn read_assertion(
     nodes: &[qs_sexpr::Node],
 ) -> Result<Assertion, TextFault>
     requires { (s : Sexp) × Stands context.text.now nodes.now s }
-    ensures { (s : Sexp) → Stands context.entry.text.now nodes.now s → Gives (λ a. a) (means (setting_of context.entry) an_assertion s) result }
+    ensures { Reads context.entry nodes.now an_assertion (λ a. a) result }
 {
     let read = read_nodes(alloc, context, Sort::Assertion, nodes)?;
     Ok(Assertion::from_nodes(read))
@@ -266,7 +268,7 @@ pub fn read_definition(
     nodes: &[qs_sexpr::Node],
 ) -> Result<Assertion, TextFault>
     requires { (s : Sexp) × Stands context.text.now nodes.now s }
-    ensures { (s : Sexp) → Stands context.entry.text.now nodes.now s → Gives (λ a. a) (means (setting_of context.entry) a_definition_body s) result }
+    ensures { Reads context.entry nodes.now a_definition_body (λ a. a) result }
 {
     let read = read_nodes(alloc, context, Sort::Definition, nodes)?;
     Ok(Assertion::from_nodes(read))
@@ -279,7 +281,7 @@ pub fn read_condition(
     nodes: &[qs_sexpr::Node],
 ) -> Result<Cond, TextFault>
     requires { (s : Sexp) × Stands context.text.now nodes.now s }
-    ensures { (s : Sexp) → Stands context.entry.text.now nodes.now s → Gives (λ c. c) (means (setting_of context.entry) a_condition s) result }
+    ensures { Reads context.entry nodes.now a_condition (λ c. c) result }
 {
     let read = read_nodes(alloc, context, Sort::Condition, nodes)?;
     Ok(Cond::from_nodes(read))
@@ -292,7 +294,7 @@ pub fn read_term(
     nodes: &[qs_sexpr::Node],
 ) -> Result<Term, TextFault>
     requires { (s : Sexp) × Stands context.text.now nodes.now s }
-    ensures { (s : Sexp) → Stands context.entry.text.now nodes.now s → Gives (λ t. t) (means (setting_of context.entry) a_term s) result }
+    ensures { Reads context.entry nodes.now a_term (λ t. t) result }
 {
     let read = read_nodes(alloc, context, Sort::Term, nodes)?;
     Ok(Term::from_inner(alloc, &read)?)

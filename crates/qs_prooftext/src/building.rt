@@ -1,11 +1,11 @@
 // Derivations from their heads, the last first.
-ghost use Rattle.std.specs.Prelude.{◌≡◌, [], map, reverse, IfOk};
 ghost use Rattle.qs_prooftext.specs.DerivationHeads as heads;
-ghost use Rattle.qs_prooftext.specs.DerivationHeads.{arity, derivation_head, derivation_shape, planted, reason_view};
-ghost use Rattle.qs_prooftext.specs.Planting.{behind, grown};
+ghost use Rattle.qs_prooftext.specs.DerivationHeads.{arity, derivation_head, planted, reason_view};
+ghost use Rattle.qs_prooftext.specs.Planting.{Makes, Takes};
 ghost use Rattle.qs_triples.specs.Derivations as derivations;
 ghost use Rattle.qs_triples.specs.Derivations.{DerivationTree};
-ghost use Rattle.qs_triples.specs.TreeOf.{derivation_tree};
+ghost use Rattle.qs_triples.specs.TreeOf.{derivation_tree as tree_of};
+ghost use Rattle.qs_prooftext.specs.HeadWalks.{derivation_walk, Grows};
 
 use crate::statements::{DerivationHead, Reason};
 use crate::taking::{Subtree, boxed, taken, taken_all};
@@ -16,7 +16,7 @@ use std::alloc::Global;
 impl Subtree for Derivation {
     ghost Tree = { DerivationTree };
 
-    ghost tree = { derivation_tree };
+    ghost tree = { tree_of };
 
     ghost blank = { derivations.leaf };
 
@@ -26,8 +26,8 @@ impl Subtree for Derivation {
 }
 
 fn conditional(alloc: Global, stack: &mut Vec<Derivation>) -> Result<Derivation, NoMemory>
-    ensures made { IfOk result (λ d. derivation_tree d ≡ planted heads.conditional (reverse (map derivation_tree stack.old.items))) }
-    ensures left { IfOk result (λ d. reverse (map derivation_tree stack.new.items) ≡ behind 2 (reverse (map derivation_tree stack.old.items))) }
+    ensures made { Makes tree_of (planted heads.conditional) stack.old result }
+    ensures left { Takes tree_of 2 stack.old stack.new result }
 {
     let first = boxed(alloc, stack)?;
     let second = boxed(alloc, stack)?;
@@ -39,8 +39,8 @@ fn repeated(
     stack: &mut Vec<Derivation>,
     reason: Reason,
 ) -> Result<Derivation, NoMemory>
-    ensures made { IfOk result (λ d. derivation_tree d ≡ planted (heads.loop (reason_view reason)) (reverse (map derivation_tree stack.old.items))) }
-    ensures left { IfOk result (λ d. reverse (map derivation_tree stack.new.items) ≡ behind 2 (reverse (map derivation_tree stack.old.items))) }
+    ensures made { Makes tree_of (planted (heads.loop (reason_view reason))) stack.old result }
+    ensures left { Takes tree_of 2 stack.old stack.new result }
 {
     let body = boxed(alloc, stack)?;
     let step = boxed(alloc, stack)?;
@@ -53,8 +53,8 @@ fn plant(
     stack: &mut Vec<Derivation>,
     made: DerivationHead,
 ) -> Result<Derivation, NoMemory>
-    ensures made { IfOk result (λ d. derivation_tree d ≡ planted (derivation_head made) (reverse (map derivation_tree stack.old.items))) }
-    ensures left { IfOk result (λ d. reverse (map derivation_tree stack.new.items) ≡ behind (arity (derivation_head made)) (reverse (map derivation_tree stack.old.items))) }
+    ensures made { Makes tree_of (planted (derivation_head made)) stack.old result }
+    ensures left { Takes tree_of (arity (derivation_head made)) stack.old stack.new result }
 {
     match made {
         DerivationHead::Leaf => Ok(Derivation::Leaf),
@@ -74,7 +74,7 @@ fn plant(
 
 /// The derivation whose heads these are, each before those of its parts.
 pub fn build(alloc: Global, heads: Vec<DerivationHead>) -> Result<Derivation, NoMemory>
-    ensures { IfOk result (λ d. derivation_tree d ≡ grown derivation_shape (map derivation_head heads.items) []) }
+    ensures { Grows derivation_walk tree_of heads result }
 {
     let mut left = heads;
     let mut stack = Vec::new(alloc);

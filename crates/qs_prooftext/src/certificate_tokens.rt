@@ -1,10 +1,9 @@
 // Certificates as tokens.
-ghost use Rattle.std.specs.Prelude.{◌++◌, ◌∷◌, [], OnOk};
-ghost use Rattle.qs_entail.specs.Certificates as certificates;
-ghost use Rattle.qs_entail.specs.View.{cert_tree, certs_tree, fact_tree, items_view};
-ghost use Rattle.qs_sexpr.specs.Marks.{closes, marks};
-ghost use Rattle.qs_prooftext.specs.Putting.{Puts, list_marks, words_in_table};
-ghost use Rattle.qs_prooftext.specs.Writing.{certificate_form, certificate_forms, combination_form, headed};
+ghost use Rattle.std.specs.Prelude.{◌++◌, ◌∷◌, []};
+ghost use Rattle.qs_sexpr.specs.Marks.{closes};
+ghost use Rattle.qs_prooftext.specs.Tokens.{Writes, cert_marks, around, with_fact, certs_marks};
+ghost use Rattle.qs_prooftext.specs.Tokens.{headed_certs, headed_combination};
+ghost use Rattle.qs_entail.specs.Certificates.{pick, assume, by_definition};
 
 use crate::fact_tokens::{begin_fact, put_combination};
 use crate::naming::WordTable;
@@ -16,7 +15,7 @@ use std::alloc::Global;
 
 /// Puts a list with this head and a combination.
 fn put_items<'a>(out: &mut Vec<Token<'a>>, head: &'a [u8], items: &[Item]) -> Result<(), NoMemory>
-    ensures { OnOk result (Puts out.old.items (marks (headed head.now (combination_form (items_view items.now) ∷ []))) out.new.items) }
+    ensures { Writes out.old (headed_combination head.now items.now) out.new result }
 {
     begin(out, head)?;
     put_combination(out, items)?;
@@ -31,7 +30,7 @@ fn put_certificates<'a>(
     table: WordTable<'a>,
     parts: &'a [Certificate],
 ) -> Result<(), NoMemory>
-    ensures { OnOk result (Puts out.old.items (list_marks (certificate_forms (words_in_table table.entry) (certs_tree parts.now))) out.new.items) }
+    ensures { Writes out.old (certs_marks table.entry parts.now) out.new result }
 {
     for part in parts {
         put_certificate(alloc, out, table, part)?;
@@ -48,7 +47,7 @@ fn put_headed<'a>(
     head: &'a [u8],
     parts: &'a [Certificate],
 ) -> Result<(), NoMemory>
-    ensures { OnOk result (Puts out.old.items (marks (headed head.now (certificate_forms (words_in_table table.entry) (certs_tree parts.now)))) out.new.items) }
+    ensures { Writes out.old (headed_certs table.entry head.now parts.now) out.new result }
 {
     begin(out, head)?;
     put_certificates(alloc, out, table, parts)?;
@@ -63,7 +62,7 @@ fn put_last<'a>(
     table: WordTable<'a>,
     part: &'a Certificate,
 ) -> Result<(), NoMemory>
-    ensures { OnOk result (Puts out.old.items (marks (certificate_form (words_in_table table.entry) (cert_tree part.now)) ++ closes ∷ []) out.new.items) }
+    ensures { Writes out.old (cert_marks table.entry part.now ++ closes ∷ []) out.new result }
 {
     put_certificate(alloc, out, table, part)?;
     put(out, Token::Close)
@@ -77,7 +76,7 @@ fn put_pick<'a>(
     number: i64,
     part: &'a Certificate,
 ) -> Result<(), NoMemory>
-    ensures { OnOk result (Puts out.old.items (marks (certificate_form (words_in_table table.entry) (certificates.pick number (cert_tree part.now)))) out.new.items) }
+    ensures { Writes out.old (around table.entry (pick number) part.now) out.new result }
 {
     begin(out, b"pick")?;
     put(out, Token::Number(number))?;
@@ -91,7 +90,7 @@ fn put_assume<'a>(
     table: WordTable<'a>,
     part: &'a Certificate,
 ) -> Result<(), NoMemory>
-    ensures { OnOk result (Puts out.old.items (marks (certificate_form (words_in_table table.entry) (certificates.assume (cert_tree part.now)))) out.new.items) }
+    ensures { Writes out.old (around table.entry assume part.now) out.new result }
 {
     begin(out, b"assume")?;
     put_last(alloc, out, table, part)
@@ -105,7 +104,7 @@ fn put_unfold<'a>(
     name: &'a Name,
     part: &'a Certificate,
 ) -> Result<(), NoMemory>
-    ensures { OnOk result (Puts out.old.items (marks (certificate_form (words_in_table table.entry) (certificates.by_definition name.now (cert_tree part.now)))) out.new.items) }
+    ensures { Writes out.old (around table.entry (by_definition name.now) part.now) out.new result }
 {
     begin(out, b"unfold")?;
     put(out, Token::Symbol(name.bytes()))?;
@@ -120,7 +119,7 @@ fn put_fact<'a>(
     fact: &'a Fact,
     part: &'a Certificate,
 ) -> Result<(), NoMemory>
-    ensures { OnOk result (Puts out.old.items (marks (certificate_form (words_in_table table.entry) (certificates.fact (fact_tree fact.now) (cert_tree part.now)))) out.new.items) }
+    ensures { Writes out.old (around table.entry (with_fact fact.now) part.now) out.new result }
 {
     begin_fact(alloc, out, table, fact)?;
     put_last(alloc, out, table, part)
@@ -134,7 +133,7 @@ pub fn put_certificate<'a>(
     table: WordTable<'a>,
     certificate: &'a Certificate,
 ) -> Result<(), NoMemory>
-    ensures { OnOk result (Puts out.old.items (marks (certificate_form (words_in_table table.entry) (cert_tree certificate.now))) out.new.items) }
+    ensures { Writes out.old (cert_marks table.entry certificate.now) out.new result }
 {
     match certificate {
         Certificate::Same => put_alone(out, b"same"),

@@ -1,16 +1,12 @@
 // Certificates: the heads of all nodes in the order of the text, and then the nodes from the last.
-ghost use Rattle.std.specs.Prelude.{◌<◌, ℕ, Some, length, map, IfOk};
-ghost use Rattle.qs_entail.specs.Certificates.{CertTree};
 ghost use Rattle.qs_entail.specs.View.{cert_tree};
-ghost use Rattle.qs_prooftext.specs.Answers.{Gives, Stands, StandAll};
-ghost use Rattle.qs_prooftext.specs.CertHeads.{cert_shape, head_view};
+ghost use Rattle.qs_prooftext.specs.Answers.{Stands, StandAll};
 ghost use Rattle.qs_prooftext.specs.CertRows.{fact_row, rule_row};
-ghost use Rattle.qs_prooftext.specs.Contexts.{setting_of};
-ghost use Rattle.qs_prooftext.specs.HeadWalks.{GivesHead, HeadsGo, HeadsLeft, PartsOf, headed_list, listed};
+ghost use Rattle.qs_prooftext.specs.HeadWalks.{certificate_walk, RowHead, ListHead, HeadStep};
 ghost use Rattle.qs_prooftext.specs.Kinds.{a_certificate};
-ghost use Rattle.qs_prooftext.specs.Meanings.{Answer, means};
-ghost use Rattle.qs_prooftext.specs.Walking.{nodes_in};
+ghost use Rattle.qs_prooftext.specs.Walking.{Shortens};
 ghost use Rattle.qs_sexpr.specs.Trees.{Sexp, Sexps};
+ghost use Rattle.qs_prooftext.specs.Readers.{Reads};
 
 use crate::context::Context;
 use crate::fault::TextFault;
@@ -32,8 +28,7 @@ fn of_rule(
     headed: Headed<'_>,
 ) -> Result<(CertHead, usize), TextFault>
     requires { (ss : Sexps) × StandAll context.text.now headed.parts.now ss }
-    ensures { (parts : Sexps) → PartsOf context.entry.text.now headed.entry parts
-        → GivesHead a_certificate cert_shape head_view (setting_of context.entry) (listed (setting_of context.entry) headed.entry.at (Some (rule_row rule)) parts) parts result }
+    ensures { RowHead certificate_walk context.entry headed.entry (rule_row rule) result }
 {
     if !rule_takes(rule, headed.behind) {
         return Err(TextFault::UnknownForm(headed.at));
@@ -50,8 +45,7 @@ fn of_fact(
     headed: Headed<'_>,
 ) -> Result<(CertHead, usize), TextFault>
     requires { (ss : Sexps) × StandAll context.text.now headed.parts.now ss }
-    ensures { (parts : Sexps) → PartsOf context.entry.text.now headed.entry parts
-        → GivesHead a_certificate cert_shape head_view (setting_of context.entry) (listed (setting_of context.entry) headed.entry.at (Some (fact_row word)) parts) parts result }
+    ensures { RowHead certificate_walk context.entry headed.entry (fact_row word) result }
 {
     let leaves = fact_leaves(word);
     if headed.behind != leaves + 1 {
@@ -68,8 +62,7 @@ fn read_head(
     headed: Headed<'_>,
 ) -> Result<(CertHead, usize), TextFault>
     requires { (ss : Sexps) × StandAll context.text.now headed.parts.now ss }
-    ensures { (place : ℕ) (parts : Sexps) → PartsOf context.entry.text.now headed.entry parts
-        → GivesHead a_certificate cert_shape head_view (setting_of context.entry) (means (setting_of context.entry) a_certificate (headed_list headed.entry place parts)) parts result }
+    ensures { ListHead certificate_walk context.entry headed.entry result }
 {
     match rule_word(headed.word) {
         Some(rule) => of_rule(alloc, context, rule, headed),
@@ -82,8 +75,8 @@ fn read_head(
 
 // ---- the walk
 
-/// Reads the head of the first certificate of the rest and its parts that are no certificates; the answer is what is
-/// left.
+/// Reads the head of the first certificate of the rest and its parts that are no certificates; the
+/// answer is what is left.
 fn next<'a>(
     alloc: Global,
     context: Context<'_>,
@@ -91,9 +84,8 @@ fn next<'a>(
     heads: &mut Vec<CertHead>,
 ) -> Result<&'a [Node], TextFault>
     requires { (ss : Sexps) × StandAll context.text.now rest.now ss }
-    ensures goes { (due : Answer CertTree) → HeadsLeft a_certificate cert_shape (setting_of context.entry) context.entry.text.now rest.now (map head_view heads.old.items) due → 0 < length rest.now
-        → HeadsGo a_certificate cert_shape (setting_of context.entry) context.entry.text.now (nodes_in result) (map head_view heads.new.items) due }
-    ensures shorter { IfOk result (λ left. 0 < length rest.now → length left.now < length rest.now) }
+    ensures goes { HeadStep certificate_walk context.entry rest.now heads.old heads.new result }
+    ensures shorter { Shortens rest.now result }
 {
     let headed = first_list(context.text, rest)?;
     let (made, leaves) = read_head(alloc, context, headed)?;
@@ -108,7 +100,7 @@ pub fn read_certificate(
     nodes: &[Node],
 ) -> Result<Certificate, TextFault>
     requires { (s : Sexp) × Stands context.text.now nodes.now s }
-    ensures { (s : Sexp) → Stands context.entry.text.now nodes.now s → Gives cert_tree (means (setting_of context.entry) a_certificate s) result }
+    ensures { Reads context.entry nodes.now a_certificate cert_tree result }
 {
     let mut heads = Vec::new(alloc);
     let mut rest = nodes;

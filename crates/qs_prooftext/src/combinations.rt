@@ -1,12 +1,9 @@
 // Combinations: lists of items.
 ghost use Rattle.std.specs.Prelude.{◌≡◌, ℕ};
-ghost use Rattle.qs_entail.specs.View.{item_view, items_view};
-ghost use Rattle.qs_prooftext.specs.Answers.{Gives, StandAll, Stands};
-ghost use Rattle.qs_prooftext.specs.Firsts.{first_means, once_means, twice_means};
+ghost use Rattle.qs_entail.specs.View.{item_view};
+ghost use Rattle.qs_prooftext.specs.Firsts.{once_means, twice_means, all_items, items_in};
 ghost use Rattle.qs_prooftext.specs.Kinds.{a_combination, a_natural, an_index, an_item};
-ghost use Rattle.qs_prooftext.specs.Meanings.{all_mean, means};
-ghost use Rattle.qs_prooftext.specs.Settings.{Setting};
-ghost use Rattle.qs_sexpr.specs.Trees.{Sexp, Sexps};
+ghost use Rattle.qs_prooftext.specs.Readers.{ReadsAnywhere, ReadsPartsAnywhere, ReadsFirstAnywhere};
 
 use crate::fault::TextFault;
 use crate::leaves::{index, natural};
@@ -18,7 +15,7 @@ use std::alloc::Global;
 /// The number of a condition, a polynomial or a member, in the first of these parts.
 #[tactic(auto, using(crate::proofs::FirstLaws::first_gives, crate::proofs::FirstLaws::first_none))]
 pub fn first_index(text: &[u8], parts: &[Node]) -> Result<i64, TextFault>
-    ensures { (ss : Sexps) (g : Setting) → StandAll text.now parts.now ss → Gives (λ n. n) (first_means g an_index ss) result }
+    ensures { ReadsFirstAnywhere text.now parts.now an_index (λ n. n) result }
 {
     match first_part(parts) {
         Some((first, _others)) => index(part_of(text, first)),
@@ -29,7 +26,7 @@ pub fn first_index(text: &[u8], parts: &[Node]) -> Result<i64, TextFault>
 /// A number of at least 0, in the first of these parts.
 #[tactic(auto, using(crate::proofs::FirstLaws::first_gives, crate::proofs::FirstLaws::first_none))]
 pub fn first_natural(text: &[u8], parts: &[Node]) -> Result<u64, TextFault>
-    ensures { (ss : Sexps) (g : Setting) → StandAll text.now parts.now ss → Gives (λ n. n) (first_means g a_natural ss) result }
+    ensures { ReadsFirstAnywhere text.now parts.now a_natural (λ n. n) result }
 {
     match first_part(parts) {
         Some((first, _others)) => natural(part_of(text, first)),
@@ -38,7 +35,7 @@ pub fn first_natural(text: &[u8], parts: &[Node]) -> Result<u64, TextFault>
 }
 
 fn once(text: &[u8], parts: &[Node]) -> Result<Item, TextFault>
-    ensures { (ss : Sexps) (g : Setting) → StandAll text.now parts.now ss → Gives item_view (once_means g ss) result }
+    ensures { ReadsPartsAnywhere text.now parts.now once_means item_view result }
 {
     let times = first_natural(text, parts)?;
     let first = first_index(text, after_first(parts))?;
@@ -46,7 +43,7 @@ fn once(text: &[u8], parts: &[Node]) -> Result<Item, TextFault>
 }
 
 fn twice(text: &[u8], parts: &[Node]) -> Result<Item, TextFault>
-    ensures { (ss : Sexps) (g : Setting) → StandAll text.now parts.now ss → Gives item_view (twice_means g ss) result }
+    ensures { ReadsPartsAnywhere text.now parts.now twice_means item_view result }
 {
     let times = first_natural(text, parts)?;
     let first = first_index(text, after_first(parts))?;
@@ -55,7 +52,7 @@ fn twice(text: &[u8], parts: &[Node]) -> Result<Item, TextFault>
 }
 
 fn read_item(text: &[u8], nodes: &[Node]) -> Result<Item, TextFault>
-    ensures { (s : Sexp) (g : Setting) → Stands text.now nodes.now s → Gives item_view (means g an_item s) result }
+    ensures { ReadsAnywhere text.now nodes.now an_item item_view result }
 {
     match part_of(text, nodes) {
         Part::Number(at, _) => Err(TextFault::UnknownForm(at)),
@@ -73,7 +70,7 @@ fn read_item(text: &[u8], nodes: &[Node]) -> Result<Item, TextFault>
 }
 
 fn read_items(alloc: Global, text: &[u8], parts: &[Node]) -> Result<Vec<Item>, TextFault>
-    ensures { (ss : Sexps) (g : Setting) → StandAll text.now parts.now ss → Gives (λ items. items_view items.items) (all_mean g an_item ss) result }
+    ensures { ReadsPartsAnywhere text.now parts.now all_items items_in result }
 {
     let mut items = Vec::new(alloc);
     let mut rest = parts;
@@ -86,7 +83,7 @@ fn read_items(alloc: Global, text: &[u8], parts: &[Node]) -> Result<Vec<Item>, T
 
 /// A combination.
 pub fn read_combination(alloc: Global, text: &[u8], nodes: &[Node]) -> Result<Vec<Item>, TextFault>
-    ensures { (s : Sexp) (g : Setting) → Stands text.now nodes.now s → Gives (λ items. items_view items.items) (means g a_combination s) result }
+    ensures { ReadsAnywhere text.now nodes.now a_combination items_in result }
 {
     match part_of(text, nodes) {
         Part::Number(at, _) => Err(TextFault::UnknownForm(at)),

@@ -1,7 +1,8 @@
 // What the words of an entry or a definition mean.
-ghost use Rattle.std.specs.Prelude.{◌≡◌, map, bytes_eq, option_map, IfOk, OnOk};
+ghost use Rattle.std.specs.Prelude.{◌≡◌, map, bytes_eq, IfOk, OnOk};
 ghost use Rattle.std.specs.List.{list_any};
 ghost use Rattle.qs_prooftext.specs.Contexts.{function_rows, has_name_in, is_open_word, word_view};
+ghost use Rattle.qs_prooftext.specs.Contexts.{FindsFunction};
 ghost use Rattle.qs_prooftext.specs.Settings.{look_up};
 
 use crate::definitions::Definitions;
@@ -54,7 +55,7 @@ pub fn function_at(index: usize) -> Result<FnId, NoMemory>
 
 /// The function with this name.
 pub fn find_function(functions: &[CoreFunction], word: &[u8]) -> Result<Option<FnId>, NoMemory>
-    ensures { IfOk result (λ found. option_map (λ f. f.0) found ≡ look_up word.now (function_rows functions.now)) }
+    ensures { FindsFunction functions.now word.now result }
 {
     let mut index: usize = 0;
     for function in functions {

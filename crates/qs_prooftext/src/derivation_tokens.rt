@@ -1,11 +1,8 @@
 // Derivations as tokens.
-ghost use Rattle.std.specs.Prelude.{◌++◌, ◌∷◌, [], OnOk};
-ghost use Rattle.qs_entail.specs.View.{cert_tree};
-ghost use Rattle.qs_sexpr.specs.Marks.{closes, marks};
-ghost use Rattle.qs_triples.specs.Derivations as derivations;
-ghost use Rattle.qs_triples.specs.TreeOf.{derivation_tree, derivation_trees};
-ghost use Rattle.qs_prooftext.specs.Putting.{Puts, list_marks, words_in_table};
-ghost use Rattle.qs_prooftext.specs.Writing.{derivation_form, derivation_forms};
+ghost use Rattle.std.specs.Prelude.{◌++◌, ◌∷◌, []};
+ghost use Rattle.qs_sexpr.specs.Marks.{closes};
+ghost use Rattle.qs_prooftext.specs.Tokens.{Writes, derivation_marks, call_marks};
+ghost use Rattle.qs_prooftext.specs.Tokens.{derivations_marks};
 
 use crate::certificate_tokens::put_certificate;
 use crate::naming::WordTable;
@@ -25,7 +22,7 @@ fn put_derivations<'a>(
     table: WordTable<'a>,
     parts: &'a [Derivation],
 ) -> Result<(), NoMemory>
-    ensures { OnOk result (Puts out.old.items (list_marks (derivation_forms (words_in_table table.entry) (derivation_trees parts.now))) out.new.items) }
+    ensures { Writes out.old (derivations_marks table.entry parts.now) out.new result }
 {
     for part in parts {
         put_derivation(alloc, out, table, part)?;
@@ -41,7 +38,7 @@ fn put_last<'a>(
     table: WordTable<'a>,
     part: &'a Derivation,
 ) -> Result<(), NoMemory>
-    ensures { OnOk result (Puts out.old.items (marks (derivation_form (words_in_table table.entry) (derivation_tree part.now)) ++ closes ∷ []) out.new.items) }
+    ensures { Writes out.old (derivation_marks table.entry part.now ++ closes ∷ []) out.new result }
 {
     put_derivation(alloc, out, table, part)?;
     put(out, Token::Close)
@@ -54,7 +51,7 @@ fn put_call<'a>(
     frame: &'a Assertion,
     certificate: &'a Certificate,
 ) -> Result<(), NoMemory>
-    ensures { OnOk result (Puts out.old.items (marks (derivation_form (words_in_table table.entry) (derivations.call frame.now (cert_tree certificate.now)))) out.new.items) }
+    ensures { Writes out.old (call_marks table.entry frame.now certificate.now) out.new result }
 {
     begin(out, b"call")?;
     put_assertion(alloc, out, table, frame)?;
@@ -70,7 +67,7 @@ pub fn put_derivation<'a>(
     table: WordTable<'a>,
     derivation: &'a Derivation,
 ) -> Result<(), NoMemory>
-    ensures { OnOk result (Puts out.old.items (marks (derivation_form (words_in_table table.entry) (derivation_tree derivation.now))) out.new.items) }
+    ensures { Writes out.old (derivation_marks table.entry derivation.now) out.new result }
 {
     match derivation {
         Derivation::Leaf => put_alone(out, b"leaf"),

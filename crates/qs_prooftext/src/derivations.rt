@@ -1,15 +1,12 @@
 // Derivations: the heads of all nodes in the order of the text, and then the nodes from the last.
-ghost use Rattle.std.specs.Prelude.{◌<◌, ℕ, Some, length, map, IfOk};
-ghost use Rattle.qs_prooftext.specs.Answers.{Gives, Stands, StandAll};
-ghost use Rattle.qs_prooftext.specs.Contexts.{setting_of};
-ghost use Rattle.qs_prooftext.specs.DerivationHeads.{derivation_head, derivation_shape, statement_row};
-ghost use Rattle.qs_prooftext.specs.HeadWalks.{GivesHead, HeadsGo, HeadsLeft, PartsOf, headed_list, listed};
+ghost use Rattle.qs_prooftext.specs.Answers.{Stands, StandAll};
+ghost use Rattle.qs_prooftext.specs.DerivationHeads.{statement_row};
+ghost use Rattle.qs_prooftext.specs.HeadWalks.{derivation_walk, RowHead, ListHead, HeadStep};
 ghost use Rattle.qs_prooftext.specs.Kinds.{a_derivation};
-ghost use Rattle.qs_prooftext.specs.Meanings.{Answer, means};
-ghost use Rattle.qs_prooftext.specs.Walking.{nodes_in};
+ghost use Rattle.qs_prooftext.specs.Walking.{Shortens};
 ghost use Rattle.qs_sexpr.specs.Trees.{Sexp, Sexps};
-ghost use Rattle.qs_triples.specs.Derivations.{DerivationTree};
 ghost use Rattle.qs_triples.specs.TreeOf.{derivation_tree};
+ghost use Rattle.qs_prooftext.specs.Readers.{Reads};
 
 use crate::building::build;
 use crate::context::Context;
@@ -32,8 +29,7 @@ fn of_statement(
     headed: Headed<'_>,
 ) -> Result<(DerivationHead, usize), TextFault>
     requires { (ss : Sexps) × StandAll context.text.now headed.parts.now ss }
-    ensures { (parts : Sexps) → PartsOf context.entry.text.now headed.entry parts
-        → GivesHead a_derivation derivation_shape derivation_head (setting_of context.entry) (listed (setting_of context.entry) headed.entry.at (Some (statement_row statement)) parts) parts result }
+    ensures { RowHead derivation_walk context.entry headed.entry (statement_row statement) result }
 {
     if !statement_takes(statement, headed.behind) {
         return Err(TextFault::UnknownForm(headed.at));
@@ -49,8 +45,7 @@ fn read_head(
     headed: Headed<'_>,
 ) -> Result<(DerivationHead, usize), TextFault>
     requires { (ss : Sexps) × StandAll context.text.now headed.parts.now ss }
-    ensures { (place : ℕ) (parts : Sexps) → PartsOf context.entry.text.now headed.entry parts
-        → GivesHead a_derivation derivation_shape derivation_head (setting_of context.entry) (means (setting_of context.entry) a_derivation (headed_list headed.entry place parts)) parts result }
+    ensures { ListHead derivation_walk context.entry headed.entry result }
 {
     match statement_word(headed.word) {
         Some(statement) => of_statement(alloc, context, statement, headed),
@@ -60,8 +55,8 @@ fn read_head(
 
 // ---- the walk
 
-/// Reads the head of the first derivation of the rest and its parts that are no derivations; the answer is what is
-/// left.
+/// Reads the head of the first derivation of the rest and its parts that are no derivations; the
+/// answer is what is left.
 fn next<'a>(
     alloc: Global,
     context: Context<'_>,
@@ -69,9 +64,8 @@ fn next<'a>(
     heads: &mut Vec<DerivationHead>,
 ) -> Result<&'a [Node], TextFault>
     requires { (ss : Sexps) × StandAll context.text.now rest.now ss }
-    ensures goes { (due : Answer DerivationTree) → HeadsLeft a_derivation derivation_shape (setting_of context.entry) context.entry.text.now rest.now (map derivation_head heads.old.items) due → 0 < length rest.now
-        → HeadsGo a_derivation derivation_shape (setting_of context.entry) context.entry.text.now (nodes_in result) (map derivation_head heads.new.items) due }
-    ensures shorter { IfOk result (λ left. 0 < length rest.now → length left.now < length rest.now) }
+    ensures goes { HeadStep derivation_walk context.entry rest.now heads.old heads.new result }
+    ensures shorter { Shortens rest.now result }
 {
     let headed = first_list(context.text, rest)?;
     let (made, leaves) = read_head(alloc, context, headed)?;
@@ -86,7 +80,7 @@ pub fn read_derivation(
     nodes: &[Node],
 ) -> Result<Derivation, TextFault>
     requires { (s : Sexp) × Stands context.text.now nodes.now s }
-    ensures { (s : Sexp) → Stands context.entry.text.now nodes.now s → Gives derivation_tree (means (setting_of context.entry) a_derivation s) result }
+    ensures { Reads context.entry nodes.now a_derivation derivation_tree result }
 {
     let mut heads = Vec::new(alloc);
     let mut rest = nodes;

@@ -1,10 +1,12 @@
 // Combinations and facts as tokens.
-ghost use Rattle.std.specs.Prelude.{◌≡◌, ◌++◌, ◌∷◌, [], codes, map, OnOk};
-ghost use Rattle.std.specs.Fmt.{signed_decimal};
-ghost use Rattle.qs_entail.specs.View.{fact_tree, item_view, items_view};
-ghost use Rattle.qs_sexpr.specs.Marks.{marks, opens, word};
-ghost use Rattle.qs_prooftext.specs.Putting.{Puts, fact_begins, list_marks, words_in_table};
-ghost use Rattle.qs_prooftext.specs.Writing.{combination_form, item_form, term_form, variable_form};
+ghost use Rattle.std.specs.Prelude.{◌≡◌, [], map};
+ghost use Rattle.qs_entail.specs.View.{item_view, items_view};
+ghost use Rattle.qs_sexpr.specs.Marks.{marks};
+ghost use Rattle.qs_prooftext.specs.Putting.{fact_begins, list_marks, words_in_table, apart_begins};
+ghost use Rattle.qs_prooftext.specs.Writing.{item_form};
+ghost use Rattle.qs_prooftext.specs.Tokens.{Writes, combination_marks, term_begins, items_begin};
+ghost use Rattle.qs_prooftext.specs.Tokens.{BeginsBoth, fact_marks};
+ghost use Rattle.qs_entail.specs.Certificates.{range};
 
 use crate::naming::{WordTable, function_word};
 use crate::putting::{begin, put, put_named, put_term, put_variable};
@@ -15,7 +17,7 @@ use qs_sexpr::Token;
 use std::alloc::Global;
 
 fn put_item<'a>(out: &mut Vec<Token<'a>>, item: Item) -> Result<(), NoMemory>
-    ensures { OnOk result (Puts out.old.items (marks (item_form (item_view item))) out.new.items) }
+    ensures { Writes out.old (marks (item_form (item_view item))) out.new result }
 {
     put(out, Token::Open)?;
     match item {
@@ -33,7 +35,7 @@ fn put_item<'a>(out: &mut Vec<Token<'a>>, item: Item) -> Result<(), NoMemory>
 }
 
 fn put_items<'a>(out: &mut Vec<Token<'a>>, items: &[Item]) -> Result<(), NoMemory>
-    ensures { OnOk result (Puts out.old.items (list_marks (map item_form (items_view items.now))) out.new.items) }
+    ensures { Writes out.old (list_marks (map item_form (items_view items.now))) out.new result }
 {
     for item in items {
         put_item(out, *item)?;
@@ -43,7 +45,7 @@ fn put_items<'a>(out: &mut Vec<Token<'a>>, items: &[Item]) -> Result<(), NoMemor
 
 /// Puts a combination.
 pub fn put_combination<'a>(out: &mut Vec<Token<'a>>, items: &[Item]) -> Result<(), NoMemory>
-    ensures { OnOk result (Puts out.old.items (marks (combination_form (items_view items.now))) out.new.items) }
+    ensures { Writes out.old (combination_marks items.now) out.new result }
 {
     put(out, Token::Open)?;
     put_items(out, items)?;
@@ -58,7 +60,7 @@ fn begin_with<'a>(
     head: &'a [u8],
     t: &'a Term,
 ) -> Result<(), NoMemory>
-    ensures { OnOk result (Puts out.old.items (opens ∷ word head.now ∷ marks (term_form (words_in_table table.entry) t.now)) out.new.items) }
+    ensures { Writes out.old (term_begins table.entry head.now t.now) out.new result }
 {
     begin(out, head)?;
     put_term(alloc, out, table, t)
@@ -73,7 +75,7 @@ fn begin_with_items<'a>(
     t: &'a Term,
     items: &[Item],
 ) -> Result<(), NoMemory>
-    ensures { OnOk result (Puts out.old.items (opens ∷ word head.now ∷ (marks (term_form (words_in_table table.entry) t.now) ++ marks (combination_form (items_view items.now)))) out.new.items) }
+    ensures { Writes out.old (items_begin table.entry head.now t.now items.now) out.new result }
 {
     begin_with(alloc, out, table, head, t)?;
     put_combination(out, items)
@@ -89,7 +91,7 @@ fn begin_with_both<'a>(
     first: &[Item],
     second: &[Item],
 ) -> Result<(), NoMemory>
-    ensures { OnOk result (Puts out.old.items (opens ∷ word head.now ∷ (marks (term_form (words_in_table table.entry) t.now) ++ (marks (combination_form (items_view first.now)) ++ marks (combination_form (items_view second.now))))) out.new.items) }
+    ensures { BeginsBoth out.old table.entry head.now t.now first.now second.now out.new result }
 {
     begin_with_items(alloc, out, table, head, t, first)?;
     put_combination(out, second)
@@ -97,7 +99,7 @@ fn begin_with_both<'a>(
 
 // Puts the beginning of a fact that a variable is in the range of its type.
 fn begin_range<'a>(out: &mut Vec<Token<'a>>, table: WordTable<'a>, x: Var) -> Result<(), NoMemory>
-    ensures { OnOk result (Puts out.old.items (opens ∷ word (codes "range") ∷ marks (variable_form (words_in_table table.entry) x x.kind)) out.new.items) }
+    ensures { Writes out.old (fact_begins (words_in_table table.entry) (range x)) out.new result }
 {
     begin(out, b"range")?;
     put_variable(out, table, x)
@@ -105,7 +107,7 @@ fn begin_range<'a>(out: &mut Vec<Token<'a>>, table: WordTable<'a>, x: Var) -> Re
 
 // Puts the beginning of a fact that two terms differ.
 fn begin_apart<'a>(out: &mut Vec<Token<'a>>, number: i64, items: &[Item]) -> Result<(), NoMemory>
-    ensures { OnOk result (Puts out.old.items (opens ∷ word (codes "apart") ∷ word (signed_decimal number) ∷ marks (combination_form (items_view items.now))) out.new.items) }
+    ensures { Writes out.old (apart_begins number (items_view items.now)) out.new result }
 {
     begin(out, b"apart")?;
     put(out, Token::Number(number))?;
@@ -119,7 +121,7 @@ pub fn begin_fact<'a>(
     table: WordTable<'a>,
     fact: &'a Fact,
 ) -> Result<(), NoMemory>
-    ensures { OnOk result (Puts out.old.items (fact_begins (words_in_table table.entry) (fact_tree fact.now)) out.new.items) }
+    ensures { Writes out.old (fact_marks table.entry fact.now) out.new result }
 {
     match fact {
         Fact::Range(x) => begin_range(out, table, *x),

@@ -1,11 +1,12 @@
 // Facts of certificates, from the first parts of their lists.
-ghost use Rattle.qs_entail.specs.View.{fact_tree, items_view};
-ghost use Rattle.qs_prooftext.specs.Answers.{Gives, StandAll};
-ghost use Rattle.qs_prooftext.specs.Contexts.{setting_of};
+ghost use Rattle.qs_entail.specs.View.{fact_tree};
+ghost use Rattle.qs_prooftext.specs.Answers.{StandAll};
 ghost use Rattle.qs_prooftext.specs.Facts as spec;
-ghost use Rattle.qs_prooftext.specs.Firsts.{first_means};
-ghost use Rattle.qs_prooftext.specs.Kinds.{a_combination, a_condition, a_name, a_range, a_term, an_assertion};
+ghost use Rattle.qs_prooftext.specs.Firsts.{items_in};
+ghost use Rattle.qs_prooftext.specs.Kinds.{a_combination, a_condition, a_name, a_range, a_term};
+ghost use Rattle.qs_prooftext.specs.Kinds.{an_assertion};
 ghost use Rattle.qs_sexpr.specs.Trees.{Sexps};
+ghost use Rattle.qs_prooftext.specs.Readers.{ReadsParts, ReadsFirst};
 
 use crate::assertions::{read_assertion, read_condition, read_term};
 use crate::combinations::{first_index, first_natural, read_combination};
@@ -25,7 +26,7 @@ use std::alloc::Global;
 /// The term that is the first of these parts.
 pub fn first_term(alloc: Global, context: Context<'_>, parts: &[Node]) -> Result<Term, TextFault>
     requires { (ss : Sexps) × StandAll context.text.now parts.now ss }
-    ensures { (ss : Sexps) → StandAll context.entry.text.now parts.now ss → Gives (λ t. t) (first_means (setting_of context.entry) a_term ss) result }
+    ensures { ReadsFirst context.entry parts.now a_term (λ t. t) result }
 {
     match first_part(parts) {
         Some((first, _others)) => read_term(alloc, context, first),
@@ -40,7 +41,7 @@ pub fn first_assertion(
     parts: &[Node],
 ) -> Result<Assertion, TextFault>
     requires { (ss : Sexps) × StandAll context.text.now parts.now ss }
-    ensures { (ss : Sexps) → StandAll context.entry.text.now parts.now ss → Gives (λ a. a) (first_means (setting_of context.entry) an_assertion ss) result }
+    ensures { ReadsFirst context.entry parts.now an_assertion (λ a. a) result }
 {
     match first_part(parts) {
         Some((first, _others)) => read_assertion(alloc, context, first),
@@ -55,7 +56,7 @@ pub fn first_condition(
     parts: &[Node],
 ) -> Result<Cond, TextFault>
     requires { (ss : Sexps) × StandAll context.text.now parts.now ss }
-    ensures { (ss : Sexps) → StandAll context.entry.text.now parts.now ss → Gives (λ c. c) (first_means (setting_of context.entry) a_condition ss) result }
+    ensures { ReadsFirst context.entry parts.now a_condition (λ c. c) result }
 {
     match first_part(parts) {
         Some((first, _others)) => read_condition(alloc, context, first),
@@ -69,7 +70,7 @@ pub fn first_combination(
     context: Context<'_>,
     parts: &[Node],
 ) -> Result<Vec<Item>, TextFault>
-    ensures { (ss : Sexps) → StandAll context.entry.text.now parts.now ss → Gives (λ items. items_view items.items) (first_means (setting_of context.entry) a_combination ss) result }
+    ensures { ReadsFirst context.entry parts.now a_combination items_in result }
 {
     match first_part(parts) {
         Some((first, _others)) => read_combination(alloc, context.text, first),
@@ -79,7 +80,7 @@ pub fn first_combination(
 
 /// What a range is of, in the first of these parts.
 pub fn first_range(context: Context<'_>, parts: &[Node]) -> Result<Fact, TextFault>
-    ensures { (ss : Sexps) → StandAll context.entry.text.now parts.now ss → Gives fact_tree (first_means (setting_of context.entry) a_range ss) result }
+    ensures { ReadsFirst context.entry parts.now a_range fact_tree result }
 {
     match first_part(parts) {
         Some((first, _others)) => read_range(context, first),
@@ -89,7 +90,7 @@ pub fn first_range(context: Context<'_>, parts: &[Node]) -> Result<Fact, TextFau
 
 /// The name that is the first of these parts.
 pub fn first_name(alloc: Global, context: Context<'_>, parts: &[Node]) -> Result<Name, TextFault>
-    ensures { (ss : Sexps) → StandAll context.entry.text.now parts.now ss → Gives (λ n. n) (first_means (setting_of context.entry) a_name ss) result }
+    ensures { ReadsFirst context.entry parts.now a_name (λ n. n) result }
 {
     match first_part(parts) {
         Some((first, _others)) => name(alloc, part_of(context.text, first)),
@@ -101,7 +102,7 @@ pub fn first_name(alloc: Global, context: Context<'_>, parts: &[Node]) -> Result
 
 /// `(apart i w ..)`
 pub fn apart(alloc: Global, context: Context<'_>, parts: &[Node]) -> Result<Fact, TextFault>
-    ensures { (ss : Sexps) → StandAll context.entry.text.now parts.now ss → Gives fact_tree (spec.apart_means (setting_of context.entry) ss) result }
+    ensures { ReadsParts context.entry parts.now spec.apart_means fact_tree result }
 {
     let number = first_index(context.text, parts)?;
     let items = first_combination(alloc, context, after_first(parts))?;
@@ -111,7 +112,7 @@ pub fn apart(alloc: Global, context: Context<'_>, parts: &[Node]) -> Result<Fact
 /// `(num t w ..)`
 pub fn num_is(alloc: Global, context: Context<'_>, parts: &[Node]) -> Result<Fact, TextFault>
     requires { (ss : Sexps) × StandAll context.text.now parts.now ss }
-    ensures { (ss : Sexps) → StandAll context.entry.text.now parts.now ss → Gives fact_tree (spec.num_means (setting_of context.entry) ss) result }
+    ensures { ReadsParts context.entry parts.now spec.num_means fact_tree result }
 {
     let term = first_term(alloc, context, parts)?;
     let items = first_combination(alloc, context, after_first(parts))?;
@@ -121,7 +122,7 @@ pub fn num_is(alloc: Global, context: Context<'_>, parts: &[Node]) -> Result<Fac
 /// `(half t w ..)`
 pub fn bits_half(alloc: Global, context: Context<'_>, parts: &[Node]) -> Result<Fact, TextFault>
     requires { (ss : Sexps) × StandAll context.text.now parts.now ss }
-    ensures { (ss : Sexps) → StandAll context.entry.text.now parts.now ss → Gives fact_tree (spec.half_means (setting_of context.entry) ss) result }
+    ensures { ReadsParts context.entry parts.now spec.half_means fact_tree result }
 {
     let term = first_term(alloc, context, parts)?;
     let items = first_combination(alloc, context, after_first(parts))?;
@@ -131,7 +132,7 @@ pub fn bits_half(alloc: Global, context: Context<'_>, parts: &[Node]) -> Result<
 /// `(div t k ..)`
 pub fn quotient(alloc: Global, context: Context<'_>, parts: &[Node]) -> Result<Fact, TextFault>
     requires { (ss : Sexps) × StandAll context.text.now parts.now ss }
-    ensures { (ss : Sexps) → StandAll context.entry.text.now parts.now ss → Gives fact_tree (spec.quotient_means (setting_of context.entry) ss) result }
+    ensures { ReadsParts context.entry parts.now spec.quotient_means fact_tree result }
 {
     let term = first_term(alloc, context, parts)?;
     let divisor = first_natural(context.text, after_first(parts))?;
@@ -141,7 +142,7 @@ pub fn quotient(alloc: Global, context: Context<'_>, parts: &[Node]) -> Result<F
 /// `(wrapu t v w ..)`
 pub fn wrap_unsigned(alloc: Global, context: Context<'_>, parts: &[Node]) -> Result<Fact, TextFault>
     requires { (ss : Sexps) × StandAll context.text.now parts.now ss }
-    ensures { (ss : Sexps) → StandAll context.entry.text.now parts.now ss → Gives fact_tree (spec.wrapu_means (setting_of context.entry) ss) result }
+    ensures { ReadsParts context.entry parts.now spec.wrapu_means fact_tree result }
 {
     let term = first_term(alloc, context, parts)?;
     let first = first_combination(alloc, context, after_first(parts))?;
@@ -152,7 +153,7 @@ pub fn wrap_unsigned(alloc: Global, context: Context<'_>, parts: &[Node]) -> Res
 /// `(wraps t v w ..)`
 pub fn wrap_signed(alloc: Global, context: Context<'_>, parts: &[Node]) -> Result<Fact, TextFault>
     requires { (ss : Sexps) × StandAll context.text.now parts.now ss }
-    ensures { (ss : Sexps) → StandAll context.entry.text.now parts.now ss → Gives fact_tree (spec.wraps_means (setting_of context.entry) ss) result }
+    ensures { ReadsParts context.entry parts.now spec.wraps_means fact_tree result }
 {
     let term = first_term(alloc, context, parts)?;
     let first = first_combination(alloc, context, after_first(parts))?;
@@ -163,7 +164,7 @@ pub fn wrap_signed(alloc: Global, context: Context<'_>, parts: &[Node]) -> Resul
 /// `(mono t u w ..)`
 pub fn bits_rise(alloc: Global, context: Context<'_>, parts: &[Node]) -> Result<Fact, TextFault>
     requires { (ss : Sexps) × StandAll context.text.now parts.now ss }
-    ensures { (ss : Sexps) → StandAll context.entry.text.now parts.now ss → Gives fact_tree (spec.rise_means (setting_of context.entry) ss) result }
+    ensures { ReadsParts context.entry parts.now spec.rise_means fact_tree result }
 {
     let term = first_term(alloc, context, parts)?;
     let greater = first_term(alloc, context, after_first(parts))?;

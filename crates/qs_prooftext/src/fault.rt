@@ -6,14 +6,15 @@ use qs_base::NoMemory;
 use std::alloc::{AllocError, AllocFailed};
 use thiserror::Error;
 
-/// Why a text is no proofs of a unit: the first fault, with the number of the byte where it stands. A fault of lists
-/// and atoms anywhere in the text comes before all others.
+/// Why a text is no proofs of a unit: the first fault, with the number of the byte where it stands.
+/// A fault of lists and atoms anywhere in the text comes before all others.
 #[derive(Clone, Copy, PartialEq, Eq, Debug, Error)]
 pub enum TextFault {
     /// No memory was found.
     #[error("out of memory")]
     NoMemory,
-    /// This byte begins nothing, or it is the first that does not fit the symbol in which it stands.
+    /// This byte begins nothing, or it is the first that does not fit the symbol in which it
+    /// stands.
     #[error("bad byte at {0}")]
     BadByte(u32),
     /// This `)` closes no list, or the text ends here in a list.
@@ -28,8 +29,8 @@ pub enum TextFault {
     /// This `(` stands in 1,024 lists.
     #[error("too deep at {0}")]
     TooDeep(u32),
-    /// This list defines a name for the second time or the name of an open function, or it is the second of its
-    /// function.
+    /// This list defines a name for the second time or the name of an open function, or it is the
+    /// second of its function.
     #[error("duplicate at {0}")]
     Duplicate(u32),
     /// This list names a function, or the cost of one, that has no body in the unit.

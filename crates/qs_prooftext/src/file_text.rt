@@ -1,14 +1,12 @@
 // Proofs as the text of a file.
-ghost use Rattle.std.specs.Prelude.{◌≡◌, ◌++◌, ◌∷◌, [], codes, map, IfOk, OnOk};
+ghost use Rattle.std.specs.Prelude.{◌∷◌, []};
 ghost use Rattle.qs_core.specs.UnitTrees.{unit_tree};
-ghost use Rattle.qs_sexpr.specs.Layout.{lay_all};
-ghost use Rattle.qs_sexpr.specs.Marks.{all_marks, mark_of, marks};
-ghost use Rattle.qs_sexpr.specs.Writing.{Forms, symbol_form};
-ghost use Rattle.qs_triples.specs.TreeOf.{entry_tree, proofs_tree};
-ghost use Rattle.qs_prooftext.specs.Putting.{Puts, entry_part_form, words_in_table};
-ghost use Rattle.qs_prooftext.specs.Reading.{Reading};
-ghost use Rattle.qs_prooftext.specs.Writable.{IsWritable};
-ghost use Rattle.qs_prooftext.specs.Writing.{assertion_form, define_form, entry_form, entry_form_by, file_forms, forms_of, headed};
+ghost use Rattle.qs_sexpr.specs.Writing.{Forms};
+ghost use Rattle.qs_triples.specs.TreeOf.{proofs_tree};
+ghost use Rattle.qs_prooftext.specs.Tokens.{Writes, entry_part_marks, headed_entry_part};
+ghost use Rattle.qs_prooftext.specs.Tokens.{define_marks, entry_marks, AreTokensOf, Lays, LaysList};
+ghost use Rattle.qs_prooftext.specs.Tokens.{defines_forms, entries_forms};
+ghost use Rattle.qs_prooftext.specs.Laws.{LaysOut, ReadsBack};
 
 use crate::certificate_tokens::put_certificate;
 use crate::derivation_tokens::put_derivation;
@@ -43,7 +41,7 @@ fn put_entry_part<'a>(
     table: WordTable<'a>,
     part: EntryPart<'a>,
 ) -> Result<(), NoMemory>
-    ensures { OnOk result (Puts out.old.items (marks (entry_part_form (words_in_table table.entry) part.entry)) out.new.items) }
+    ensures { Writes out.old (entry_part_marks table.entry part.entry) out.new result }
 {
     match part {
         EntryPart::Bound(bound) => put_assertion(alloc, out, table, bound),
@@ -60,7 +58,7 @@ fn put_part<'a>(
     head: &'a [u8],
     part: EntryPart<'a>,
 ) -> Result<(), NoMemory>
-    ensures { OnOk result (Puts out.old.items (marks (headed head.now (entry_part_form (words_in_table table.entry) part.entry ∷ []))) out.new.items) }
+    ensures { Writes out.old (headed_entry_part table.entry head.now part.entry) out.new result }
 {
     begin(out, head)?;
     put_entry_part(alloc, out, table, part)?;
@@ -74,7 +72,7 @@ fn put_define<'a>(
     table: WordTable<'a>,
     define: &'a Define,
 ) -> Result<(), NoMemory>
-    ensures { OnOk result (Puts out.old.items (marks (headed (codes "define") (symbol_form define.now.name ∷ assertion_form (words_in_table table.entry) define.now.body ∷ []))) out.new.items) }
+    ensures { Writes out.old (define_marks table.entry define.now) out.new result }
 {
     begin(out, b"define")?;
     put(out, Token::Symbol(define.name.bytes()))?;
@@ -89,7 +87,7 @@ fn put_entry<'a>(
     table: WordTable<'a>,
     entry: &'a FunctionProof,
 ) -> Result<(), NoMemory>
-    ensures { OnOk result (Puts out.old.items (marks (entry_form_by ((words_in_table table.entry).functions entry.now.function.0) (words_in_table table.entry) (entry_tree entry.now))) out.new.items) }
+    ensures { Writes out.old (entry_marks table.entry entry.now) out.new result }
 {
     begin(out, b"function")?;
     put(out, Token::Symbol(function_word(table, entry.function)))?;
@@ -110,7 +108,7 @@ fn put_entry<'a>(
 
 /// Lays lists and atoms out behind the text.
 fn lay(alloc: Global, text: &mut Vec<u8>, tokens: &[Token<'_>]) -> Result<(), NoMemory>
-    ensures { (forms : Forms) → map mark_of tokens.now ≡ all_marks forms → OnOk result (text.new.items ≡ text.old.items ++ lay_all forms) }
+    ensures { (forms : Forms) → AreTokensOf tokens.now forms → Lays text.old forms text.new result }
 {
     let more = qs_sexpr::write(alloc, tokens)?;
     text.extend_from_slice(&more)?;
@@ -123,7 +121,7 @@ fn write_define(
     define: &Define,
     text: &mut Vec<u8>,
 ) -> Result<(), NoMemory>
-    ensures { OnOk result (text.new.items ≡ text.old.items ++ lay_all (forms_of (define_form (unit_tree unit.now) define.now ∷ []))) }
+    ensures { LaysList text.old (defines_forms unit.now (define.now ∷ [])) text.new result }
 {
     let table = WordTable {
         functions: &unit.functions,
@@ -140,7 +138,7 @@ fn write_entry(
     entry: &FunctionProof,
     text: &mut Vec<u8>,
 ) -> Result<(), NoMemory>
-    ensures { OnOk result (text.new.items ≡ text.old.items ++ lay_all (forms_of (entry_form (unit_tree unit.now) (entry_tree entry.now) ∷ []))) }
+    ensures { LaysList text.old (entries_forms unit.now (entry.now ∷ [])) text.new result }
 {
     let words = words_in(alloc, unit, entry.function)?;
     let table = WordTable {
@@ -158,7 +156,7 @@ fn write_defines(
     defines: &[Define],
     text: &mut Vec<u8>,
 ) -> Result<(), NoMemory>
-    ensures { OnOk result (text.new.items ≡ text.old.items ++ lay_all (forms_of (map (define_form (unit_tree unit.now)) defines.now))) }
+    ensures { LaysList text.old (defines_forms unit.now defines.now) text.new result }
 {
     for define in defines {
         write_define(alloc, unit, define, text)?;
@@ -172,7 +170,7 @@ fn write_entries(
     entries: &[FunctionProof],
     text: &mut Vec<u8>,
 ) -> Result<(), NoMemory>
-    ensures { OnOk result (text.new.items ≡ text.old.items ++ lay_all (forms_of (map (entry_form (unit_tree unit.now)) (map entry_tree entries.now)))) }
+    ensures { LaysList text.old (entries_forms unit.now entries.now) text.new result }
 {
     for entry in entries {
         write_entry(alloc, unit, entry, text)?;
@@ -180,13 +178,13 @@ fn write_entries(
     Ok(())
 }
 
-/// The text of proofs of a unit, laid out for people: a list for each definition, and then one for each entry. It reads
-/// back to the proofs, where these can be written in the unit. What has no word is written as nothing: a function that
-/// the unit doesn't have, and a variable that the function doesn't have.
+/// The text of proofs of a unit, laid out for people: a list for each definition, and then one for
+/// each entry. It reads back to the proofs, where these can be written in the unit. What has no
+/// word is written as nothing: a function that the unit doesn't have, and a variable that the
+/// function doesn't have.
 pub fn write(alloc: Global, proofs: &Proofs, unit: &CoreUnit) -> Result<Vec<u8>, NoMemory>
-    ensures laid { IfOk result (λ text. text.items ≡ lay_all (file_forms (unit_tree unit.now) (proofs_tree proofs.now))) }
-    ensures reads { IsWritable (unit_tree unit.now) (proofs_tree proofs.now)
-        → IfOk result (λ text. Reading (unit_tree unit.now) text.items (proofs_tree proofs.now)) }
+    ensures laid { LaysOut (unit_tree unit.now) (proofs_tree proofs.now) result }
+    ensures reads { ReadsBack (unit_tree unit.now) (proofs_tree proofs.now) result }
 {
     short_numbers(unit);
     let mut text = Vec::new(alloc);

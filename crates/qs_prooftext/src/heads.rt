@@ -1,10 +1,10 @@
 // The nodes of certificates without the certificates in them.
-ghost use Rattle.qs_prooftext.specs.Answers.{Gives, StandAll};
+ghost use Rattle.qs_prooftext.specs.Answers.{StandAll};
 ghost use Rattle.qs_prooftext.specs.CertHeads.{fact_means, head_means, head_view};
-ghost use Rattle.qs_prooftext.specs.Contexts.{setting_of};
 ghost use Rattle.qs_prooftext.specs.CertHeads as spec;
 ghost use Rattle.qs_entail.specs.View.{fact_tree};
 ghost use Rattle.qs_sexpr.specs.Trees.{Sexps};
+ghost use Rattle.qs_prooftext.specs.Readers.{ReadsParts};
 
 use crate::combinations::first_index;
 use crate::context::Context;
@@ -41,14 +41,14 @@ pub enum CertHead {
 
 fn via(alloc: Global, context: Context<'_>, parts: &[Node]) -> Result<CertHead, TextFault>
     requires { (ss : Sexps) × StandAll context.text.now parts.now ss }
-    ensures { (ss : Sexps) → StandAll context.entry.text.now parts.now ss → Gives head_view (spec.via_means (setting_of context.entry) ss) result }
+    ensures { ReadsParts context.entry parts.now spec.via_means head_view result }
 {
     let assertion = first_assertion(alloc, context, parts)?;
     Ok(CertHead::Via(assertion))
 }
 
 fn pick(context: Context<'_>, parts: &[Node]) -> Result<CertHead, TextFault>
-    ensures { (ss : Sexps) → StandAll context.entry.text.now parts.now ss → Gives head_view (spec.pick_means (setting_of context.entry) ss) result }
+    ensures { ReadsParts context.entry parts.now spec.pick_means head_view result }
 {
     let number = first_index(context.text, parts)?;
     Ok(CertHead::Pick(number))
@@ -56,28 +56,28 @@ fn pick(context: Context<'_>, parts: &[Node]) -> Result<CertHead, TextFault>
 
 fn split(alloc: Global, context: Context<'_>, parts: &[Node]) -> Result<CertHead, TextFault>
     requires { (ss : Sexps) × StandAll context.text.now parts.now ss }
-    ensures { (ss : Sexps) → StandAll context.entry.text.now parts.now ss → Gives head_view (spec.split_means (setting_of context.entry) ss) result }
+    ensures { ReadsParts context.entry parts.now spec.split_means head_view result }
 {
     let condition = first_condition(alloc, context, parts)?;
     Ok(CertHead::Split(condition))
 }
 
 fn contradict(alloc: Global, context: Context<'_>, parts: &[Node]) -> Result<CertHead, TextFault>
-    ensures { (ss : Sexps) → StandAll context.entry.text.now parts.now ss → Gives head_view (spec.contradict_means (setting_of context.entry) ss) result }
+    ensures { ReadsParts context.entry parts.now spec.contradict_means head_view result }
 {
     let items = first_combination(alloc, context, parts)?;
     Ok(CertHead::Contradict(items))
 }
 
 fn arithmetic(alloc: Global, context: Context<'_>, parts: &[Node]) -> Result<CertHead, TextFault>
-    ensures { (ss : Sexps) → StandAll context.entry.text.now parts.now ss → Gives head_view (spec.arithmetic_means (setting_of context.entry) ss) result }
+    ensures { ReadsParts context.entry parts.now spec.arithmetic_means head_view result }
 {
     let items = first_combination(alloc, context, parts)?;
     Ok(CertHead::Arithmetic(items))
 }
 
 fn by_definition(alloc: Global, context: Context<'_>, parts: &[Node]) -> Result<CertHead, TextFault>
-    ensures { (ss : Sexps) → StandAll context.entry.text.now parts.now ss → Gives head_view (spec.unfold_means (setting_of context.entry) ss) result }
+    ensures { ReadsParts context.entry parts.now spec.unfold_means head_view result }
 {
     let known = first_name(alloc, context, parts)?;
     Ok(CertHead::ByDefinition(known))
@@ -85,7 +85,7 @@ fn by_definition(alloc: Global, context: Context<'_>, parts: &[Node]) -> Result<
 
 fn num_bounds(alloc: Global, context: Context<'_>, parts: &[Node]) -> Result<Fact, TextFault>
     requires { (ss : Sexps) × StandAll context.text.now parts.now ss }
-    ensures { (ss : Sexps) → StandAll context.entry.text.now parts.now ss → Gives fact_tree (spec.num_bounds_means (setting_of context.entry) ss) result }
+    ensures { ReadsParts context.entry parts.now spec.num_bounds_means fact_tree result }
 {
     let term = first_term(alloc, context, parts)?;
     Ok(Fact::NumBounds(term))
@@ -93,7 +93,7 @@ fn num_bounds(alloc: Global, context: Context<'_>, parts: &[Node]) -> Result<Fac
 
 fn wrapu_bounds(alloc: Global, context: Context<'_>, parts: &[Node]) -> Result<Fact, TextFault>
     requires { (ss : Sexps) × StandAll context.text.now parts.now ss }
-    ensures { (ss : Sexps) → StandAll context.entry.text.now parts.now ss → Gives fact_tree (spec.wrapu_bounds_means (setting_of context.entry) ss) result }
+    ensures { ReadsParts context.entry parts.now spec.wrapu_bounds_means fact_tree result }
 {
     let term = first_term(alloc, context, parts)?;
     Ok(Fact::WrapUnsignedBounds(term))
@@ -101,7 +101,7 @@ fn wrapu_bounds(alloc: Global, context: Context<'_>, parts: &[Node]) -> Result<F
 
 fn wraps_bounds(alloc: Global, context: Context<'_>, parts: &[Node]) -> Result<Fact, TextFault>
     requires { (ss : Sexps) × StandAll context.text.now parts.now ss }
-    ensures { (ss : Sexps) → StandAll context.entry.text.now parts.now ss → Gives fact_tree (spec.wraps_bounds_means (setting_of context.entry) ss) result }
+    ensures { ReadsParts context.entry parts.now spec.wraps_bounds_means fact_tree result }
 {
     let term = first_term(alloc, context, parts)?;
     Ok(Fact::WrapSignedBounds(term))
@@ -109,7 +109,7 @@ fn wraps_bounds(alloc: Global, context: Context<'_>, parts: &[Node]) -> Result<F
 
 fn bits_bound(alloc: Global, context: Context<'_>, parts: &[Node]) -> Result<Fact, TextFault>
     requires { (ss : Sexps) × StandAll context.text.now parts.now ss }
-    ensures { (ss : Sexps) → StandAll context.entry.text.now parts.now ss → Gives fact_tree (spec.bits_bound_means (setting_of context.entry) ss) result }
+    ensures { ReadsParts context.entry parts.now spec.bits_bound_means fact_tree result }
 {
     let term = first_term(alloc, context, parts)?;
     Ok(Fact::BitsBound(term))
@@ -124,7 +124,7 @@ pub fn rule_head(
     parts: &[Node],
 ) -> Result<CertHead, TextFault>
     requires { (ss : Sexps) × StandAll context.text.now parts.now ss }
-    ensures { (ss : Sexps) → StandAll context.entry.text.now parts.now ss → Gives head_view (head_means (setting_of context.entry) rule count ss) result }
+    ensures { ReadsParts context.entry parts.now (λ g. head_means g rule count) head_view result }
 {
     match rule {
         Rule::Same => Ok(CertHead::Same),
@@ -149,7 +149,7 @@ pub fn fact_of(
     parts: &[Node],
 ) -> Result<Fact, TextFault>
     requires { (ss : Sexps) × StandAll context.text.now parts.now ss }
-    ensures { (ss : Sexps) → StandAll context.entry.text.now parts.now ss → Gives fact_tree (fact_means (setting_of context.entry) word ss) result }
+    ensures { ReadsParts context.entry parts.now (λ g. fact_means g word) fact_tree result }
 {
     match word {
         FactWord::Range => first_range(context, parts),

@@ -1,11 +1,10 @@
 // Numbers and names.
-ghost use Rattle.std.specs.Prelude.{◌≡◌, ℕ, List};
-ghost use Rattle.qs_prooftext.specs.Answers.{Gives, IsPart};
-ghost use Rattle.qs_prooftext.specs.Kinds.{a_divisor, a_function, a_known_name, a_name, a_natural, an_index, an_old_variable};
-ghost use Rattle.qs_prooftext.specs.Meanings.{means};
+ghost use Rattle.std.specs.Prelude.{◌≡◌};
+ghost use Rattle.qs_prooftext.specs.Kinds.{a_divisor, a_function, a_known_name, a_name, a_natural};
+ghost use Rattle.qs_prooftext.specs.Kinds.{an_index, an_old_variable};
 ghost use Rattle.qs_prooftext.specs.Contexts.{old_by_word, setting_of};
-ghost use Rattle.qs_prooftext.specs.Settings.{Setting, old_variable};
-ghost use Rattle.qs_sexpr.specs.Trees.{Sexp};
+ghost use Rattle.qs_prooftext.specs.Settings.{old_variable};
+ghost use Rattle.qs_prooftext.specs.Readers.{ReadsPart, ReadsPartAnywhere};
 
 use crate::context::{Context, find_function, find_variable, is_defined};
 use crate::fault::TextFault;
@@ -15,9 +14,9 @@ use qs_base::{FnId, Name};
 use std::alloc::Global;
 
 /// The number of a condition, a polynomial or a member.
-#[tactic(auto, using(crate::proofs::LeafLaws::of_number, crate::proofs::LeafLaws::of_symbol, crate::proofs::LeafLaws::index_of_list))]
+#[tactic(auto, using(crate::proofs::LeafLaws::index_laws))]
 pub fn index(part: Part<'_>) -> Result<i64, TextFault>
-    ensures { (text : List ℕ) (s : Sexp) (g : Setting) → IsPart text s part.entry → Gives (λ n. n) (means g an_index s) result }
+    ensures { ReadsPartAnywhere part.entry an_index (λ n. n) result }
 {
     match part {
         Part::Number(_, number) => Ok(number),
@@ -27,9 +26,9 @@ pub fn index(part: Part<'_>) -> Result<i64, TextFault>
 }
 
 /// A number of at least 0.
-#[tactic(auto, using(crate::proofs::LeafLaws::of_number, crate::proofs::LeafLaws::of_symbol, crate::proofs::LeafLaws::natural_of_list))]
+#[tactic(auto, using(crate::proofs::LeafLaws::natural_laws))]
 pub fn natural(part: Part<'_>) -> Result<u64, TextFault>
-    ensures { (text : List ℕ) (s : Sexp) (g : Setting) → IsPart text s part.entry → Gives (λ n. n) (means g a_natural s) result }
+    ensures { ReadsPartAnywhere part.entry a_natural (λ n. n) result }
 {
     match part {
         Part::Number(at, number) => {
@@ -45,9 +44,9 @@ pub fn natural(part: Part<'_>) -> Result<u64, TextFault>
 }
 
 /// Any name.
-#[tactic(auto, using(crate::proofs::LeafLaws::of_number, crate::proofs::LeafLaws::of_symbol, crate::proofs::LeafLaws::name_of_list))]
+#[tactic(auto, using(crate::proofs::LeafLaws::name_laws))]
 pub fn name(alloc: Global, part: Part<'_>) -> Result<Name, TextFault>
-    ensures { (text : List ℕ) (s : Sexp) (g : Setting) → IsPart text s part.entry → Gives (λ n. n) (means g a_name s) result }
+    ensures { ReadsPartAnywhere part.entry a_name (λ n. n) result }
 {
     match part {
         Part::Number(at, _) => Err(TextFault::UnknownForm(at)),
@@ -57,9 +56,9 @@ pub fn name(alloc: Global, part: Part<'_>) -> Result<Name, TextFault>
 }
 
 /// A number of at least 1.
-#[tactic(auto, using(crate::proofs::LeafLaws::of_number, crate::proofs::LeafLaws::of_symbol, crate::proofs::LeafLaws::divisor_of_list))]
+#[tactic(auto, using(crate::proofs::LeafLaws::divisor_laws))]
 pub fn divisor(part: Part<'_>) -> Result<u64, TextFault>
-    ensures { (text : List ℕ) (s : Sexp) (g : Setting) → IsPart text s part.entry → Gives (λ n. n) (means g a_divisor s) result }
+    ensures { ReadsPartAnywhere part.entry a_divisor (λ n. n) result }
 {
     match part {
         Part::Number(at, number) => {
@@ -75,9 +74,9 @@ pub fn divisor(part: Part<'_>) -> Result<u64, TextFault>
 }
 
 /// A function, in the list at this place.
-#[tactic(auto, using(crate::proofs::LeafLaws::of_number, crate::proofs::LeafLaws::of_symbol, crate::proofs::LeafLaws::function_of_list))]
+#[tactic(auto, using(crate::proofs::LeafLaws::function_laws))]
 pub fn function(context: Context<'_>, whole: u32, part: Part<'_>) -> Result<FnId, TextFault>
-    ensures { (s : Sexp) → IsPart context.entry.text.now s part.entry → Gives (λ f. f.0) (means (setting_of context.entry) (a_function whole) s) result }
+    ensures { ReadsPart context.entry part.entry (a_function whole) (λ f. f.0) result }
 {
     match part {
         Part::Number(at, _) => Err(TextFault::UnknownForm(at)),
@@ -90,14 +89,14 @@ pub fn function(context: Context<'_>, whole: u32, part: Part<'_>) -> Result<FnId
 }
 
 /// A name with a definition, in the list at this place.
-#[tactic(auto, using(crate::proofs::LeafLaws::of_number, crate::proofs::LeafLaws::of_symbol, crate::proofs::LeafLaws::known_name_of_list))]
+#[tactic(auto, using(crate::proofs::LeafLaws::known_name_laws))]
 pub fn known_name(
     alloc: Global,
     context: Context<'_>,
     whole: u32,
     part: Part<'_>,
 ) -> Result<Name, TextFault>
-    ensures { (s : Sexp) → IsPart context.entry.text.now s part.entry → Gives (λ n. n) (means (setting_of context.entry) (a_known_name whole) s) result }
+    ensures { ReadsPart context.entry part.entry (a_known_name whole) (λ n. n) result }
 {
     match part {
         Part::Number(at, _) => Err(TextFault::UnknownForm(at)),
@@ -138,9 +137,9 @@ pub fn find_old(context: Context<'_>, word: &[u8]) -> Option<Var>
 }
 
 /// A variable whose value at the entry is meant, in the list at this place.
-#[tactic(auto, using(crate::proofs::LeafLaws::of_number, crate::proofs::LeafLaws::of_symbol, crate::proofs::LeafLaws::old_variable_of_list))]
+#[tactic(auto, using(crate::proofs::LeafLaws::old_variable_laws))]
 pub fn old_variable(context: Context<'_>, whole: u32, part: Part<'_>) -> Result<Var, TextFault>
-    ensures { (s : Sexp) → IsPart context.entry.text.now s part.entry → Gives (λ x. x) (means (setting_of context.entry) (an_old_variable whole) s) result }
+    ensures { ReadsPart context.entry part.entry (an_old_variable whole) (λ x. x) result }
 {
     match part {
         Part::Number(at, _) => Err(TextFault::UnknownForm(at)),

@@ -1,11 +1,7 @@
 // The functions for which a file has lists.
-ghost use Rattle.std.specs.Prelude.{◌≡◌, ◌<◌, ◌∷◌, [], length, IfOk, OnOk};
-ghost use Rattle.qs_callgraph.specs.Opens.{AreOf};
+ghost use Rattle.std.specs.Prelude.{◌≡◌, ◌<◌, ◌∷◌, [], length, OnOk};
 ghost use Rattle.qs_core.specs.UnitTrees.{unit_tree};
-ghost use Rattle.qs_prooftext.specs.Answers.{StandAll, Stands};
-ghost use Rattle.qs_prooftext.specs.Listed.{Marks};
-ghost use Rattle.qs_prooftext.specs.Proofs.{entry_names_of, has_list, name_of_parts};
-ghost use Rattle.qs_sexpr.specs.Trees.{Sexp, Sexps};
+ghost use Rattle.qs_prooftext.specs.Listed.{Marks, MarksNamed, MarksTop, TellsListed};
 
 use crate::context::find_function;
 use crate::parts::{Part, head_of, part_of};
@@ -36,8 +32,7 @@ fn mark_named(
     flags: &mut [bool],
 ) -> Result<(), NoMemory>
     requires { length flags.old ≡ length unit.now.functions.items }
-    ensures { (ss : Sexps) → StandAll text.now parts.now ss
-        → OnOk result (Marks (unit_tree unit.now) (name_of_parts ss) flags.old flags.new) }
+    ensures { MarksNamed unit.now text.now parts.now flags.old flags.new result }
 {
     match head_of(text, parts) {
         Some((word, _others)) => mark_function(unit, word, flags),
@@ -48,8 +43,7 @@ fn mark_named(
 /// Marks the function for which a list at the top stands.
 fn mark(text: &[u8], unit: &CoreUnit, nodes: &[Node], flags: &mut [bool]) -> Result<(), NoMemory>
     requires { length flags.old ≡ length unit.now.functions.items }
-    ensures { (s : Sexp) → Stands text.now nodes.now s
-        → OnOk result (Marks (unit_tree unit.now) (entry_names_of s) flags.old flags.new) }
+    ensures { MarksTop unit.now text.now nodes.now flags.old flags.new result }
 {
     match part_of(text, nodes) {
         Part::Number(_, _) => Ok(()),
@@ -71,8 +65,7 @@ pub fn listed_functions(
     unit: &CoreUnit,
     nodes: &[Node],
 ) -> Result<Vec<bool>, NoMemory>
-    ensures { (ss : Sexps) → StandAll text.now nodes.now ss
-        → IfOk result (λ flags. AreOf (unit_tree unit.now) (has_list (unit_tree unit.now) ss) flags.items) }
+    ensures { TellsListed unit.now text.now nodes.now result }
 {
     let mut flags = Vec::from_elem(alloc, false, unit.functions.len())?;
     let mut rest = nodes;

@@ -1,7 +1,7 @@
 // Lists with a head, and what stands behind their first parts.
-ghost use Rattle.std.specs.Prelude.{◌≤◌, ◌<◌, ℕ, List, drop, length};
+ghost use Rattle.std.specs.Prelude.{◌≤◌, ◌<◌, drop, length};
 ghost use Rattle.qs_prooftext.specs.Answers.{StandAll};
-ghost use Rattle.qs_prooftext.specs.Firsts.{tails};
+ghost use Rattle.qs_prooftext.specs.Firsts.{tails, StandBehind};
 ghost use Rattle.qs_prooftext.specs.HeadWalks.{IsFirst};
 ghost use Rattle.qs_sexpr.specs.Trees.{Sexps};
 
@@ -46,7 +46,7 @@ pub fn first_list<'a>(text: &'a [u8], rest: &'a [Node]) -> Result<Headed<'a>, Te
 
 /// What stands behind so many lists and atoms.
 fn skipped(rest: &[Node], count: usize) -> &[Node]
-    ensures stand { (text : List ℕ) (ss : Sexps) → StandAll text rest.now ss → StandAll text result.now (tails count ss) }
+    ensures stand { StandBehind rest.now (tails count) result.now }
     ensures shorter { length result.now ≤ length rest.now }
 {
     let mut left = rest;
@@ -58,7 +58,7 @@ fn skipped(rest: &[Node], count: usize) -> &[Node]
 
 /// What stands behind the node of a list, its head and so many of its other parts.
 pub fn behind_head(rest: &[Node], count: usize) -> &[Node]
-    ensures stand { (text : List ℕ) (ss : Sexps) → StandAll text (drop 2 rest.now) ss → StandAll text result.now (tails count ss) }
+    ensures stand { StandBehind (drop 2 rest.now) (tails count) result.now }
     ensures shorter { 0 < length rest.now → length result.now < length rest.now }
 {
     skipped(behind(rest, 2), count)

@@ -1,4 +1,5 @@
-// The numbers of a unit are below 2^64. What is read is known to be a number of its type, so each is read once.
+// The numbers of a unit are below 2^64. What is read is known to be a number of its type, so each
+// is read once.
 ghost use Rattle.std.specs.Prelude.{◌≡◌, true};
 ghost use Rattle.qs_core.specs.TreeOf.{function_tree, variable_tree};
 ghost use Rattle.qs_core.specs.UnitTrees.{unit_tree};

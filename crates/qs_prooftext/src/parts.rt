@@ -1,7 +1,7 @@
 // Lists and atoms as they stand in a text.
-ghost use Rattle.std.specs.Prelude.{◌≡◌, ◌≤◌, ℕ, List, drop, length};
+ghost use Rattle.std.specs.Prelude.{◌≡◌, ◌≤◌, drop, length};
 ghost use Rattle.qs_prooftext.specs.Answers.{IsHead, IsPart, StandAll, Stands};
-ghost use Rattle.qs_prooftext.specs.Firsts.{tail};
+ghost use Rattle.qs_prooftext.specs.Firsts.{tail, StandBehind};
 ghost use Rattle.qs_prooftext.specs.Flattening.{IsDivisor, natural_in};
 ghost use Rattle.qs_sexpr.specs.Trees.{Sexp, Sexps};
 
@@ -74,7 +74,7 @@ pub fn divisor_in(text: &[u8], parts: &[Node]) -> u64
 /// The nodes behind the first part.
 #[tactic(auto, using(crate::proofs::FirstLaws::tail_stands, crate::proofs::FirstLaws::tail_none))]
 pub fn after_first(parts: &[Node]) -> &[Node]
-    ensures stand { (text : List ℕ) (ss : Sexps) → StandAll text parts.now ss → StandAll text result.now (tail ss) }
+    ensures stand { StandBehind parts.now tail result.now }
     ensures shorter { length result.now ≤ length parts.now }
 {
     match first_part(parts) {

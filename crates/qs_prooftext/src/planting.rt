@@ -1,11 +1,11 @@
 // Certificates from their heads, the last first.
-ghost use Rattle.std.specs.Prelude.{◌≡◌, [], map, reverse, IfOk};
 ghost use Rattle.qs_entail.specs.Certificates as certificates;
 ghost use Rattle.qs_entail.specs.Certificates.{CertTree};
 ghost use Rattle.qs_entail.specs.View.{cert_tree};
 ghost use Rattle.qs_prooftext.specs.CertHeads as heads;
-ghost use Rattle.qs_prooftext.specs.CertHeads.{arity, cert_shape, head_view, planted};
-ghost use Rattle.qs_prooftext.specs.Planting.{behind, grown};
+ghost use Rattle.qs_prooftext.specs.CertHeads.{arity, head_view, planted};
+ghost use Rattle.qs_prooftext.specs.Planting.{Makes, Takes};
+ghost use Rattle.qs_prooftext.specs.HeadWalks.{certificate_walk, Grows};
 
 use crate::heads::CertHead;
 use crate::taking::{Subtree, boxed, taken, taken_all};
@@ -31,8 +31,8 @@ fn via(
     stack: &mut Vec<Certificate>,
     between: Assertion,
 ) -> Result<Certificate, NoMemory>
-    ensures made { IfOk result (λ c. cert_tree c ≡ planted (heads.via between) (reverse (map cert_tree stack.old.items))) }
-    ensures left { IfOk result (λ c. reverse (map cert_tree stack.new.items) ≡ behind 2 (reverse (map cert_tree stack.old.items))) }
+    ensures made { Makes cert_tree (planted (heads.via between)) stack.old result }
+    ensures left { Takes cert_tree 2 stack.old stack.new result }
 {
     let first = boxed(alloc, stack)?;
     let second = boxed(alloc, stack)?;
@@ -44,8 +44,8 @@ fn split(
     stack: &mut Vec<Certificate>,
     condition: Cond,
 ) -> Result<Certificate, NoMemory>
-    ensures made { IfOk result (λ c. cert_tree c ≡ planted (heads.split condition) (reverse (map cert_tree stack.old.items))) }
-    ensures left { IfOk result (λ c. reverse (map cert_tree stack.new.items) ≡ behind 2 (reverse (map cert_tree stack.old.items))) }
+    ensures made { Makes cert_tree (planted (heads.split condition)) stack.old result }
+    ensures left { Takes cert_tree 2 stack.old stack.new result }
 {
     let first = boxed(alloc, stack)?;
     let second = boxed(alloc, stack)?;
@@ -53,8 +53,8 @@ fn split(
 }
 
 fn drop_guard(alloc: Global, stack: &mut Vec<Certificate>) -> Result<Certificate, NoMemory>
-    ensures made { IfOk result (λ c. cert_tree c ≡ planted heads.drop (reverse (map cert_tree stack.old.items))) }
-    ensures left { IfOk result (λ c. reverse (map cert_tree stack.new.items) ≡ behind 2 (reverse (map cert_tree stack.old.items))) }
+    ensures made { Makes cert_tree (planted heads.drop) stack.old result }
+    ensures left { Takes cert_tree 2 stack.old stack.new result }
 {
     let first = boxed(alloc, stack)?;
     let second = boxed(alloc, stack)?;
@@ -67,8 +67,8 @@ fn plant(
     stack: &mut Vec<Certificate>,
     made: CertHead,
 ) -> Result<Certificate, NoMemory>
-    ensures made { IfOk result (λ c. cert_tree c ≡ planted (head_view made) (reverse (map cert_tree stack.old.items))) }
-    ensures left { IfOk result (λ c. reverse (map cert_tree stack.new.items) ≡ behind (arity (head_view made)) (reverse (map cert_tree stack.old.items))) }
+    ensures made { Makes cert_tree (planted (head_view made)) stack.old result }
+    ensures left { Takes cert_tree (arity (head_view made)) stack.old stack.new result }
 {
     match made {
         CertHead::Same => Ok(Certificate::Same),
@@ -88,7 +88,7 @@ fn plant(
 
 /// The certificate whose heads these are, each before those of its parts.
 pub fn build(alloc: Global, heads: Vec<CertHead>) -> Result<Certificate, NoMemory>
-    ensures { IfOk result (λ c. cert_tree c ≡ grown cert_shape (map head_view heads.items) []) }
+    ensures { Grows certificate_walk cert_tree heads result }
 {
     let mut left = heads;
     let mut stack = Vec::new(alloc);

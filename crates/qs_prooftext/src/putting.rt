@@ -1,9 +1,13 @@
-// Terms, conditions and assertions as tokens: one walk over their nodes, with a stack of what is still due.
-ghost use Rattle.std.specs.Prelude.{◌≡◌, ◌++◌, ◌∷◌, [], map, replicate, reverse, OnOk};
+// Terms, conditions and assertions as tokens: one walk over their nodes, with a stack of what is
+// still due.
+ghost use Rattle.std.specs.Prelude.{◌≡◌, ◌∷◌, [], map, reverse, OnOk};
 ghost use Rattle.qs_assert.specs.declared.node.Node.TheVariants.{Term as TermHead};
-ghost use Rattle.qs_sexpr.specs.Marks.{closes, mark_of, marks, opens, word};
-ghost use Rattle.qs_prooftext.specs.Putting.{Puts, all_put, assertion_put, condition_put, node_put, settled, term_put, waiting, words_in_table};
-ghost use Rattle.qs_prooftext.specs.Writing.{assertion_form, condition_form, term_form, variable_form};
+ghost use Rattle.qs_sexpr.specs.Marks.{closes, mark_of, opens, word};
+ghost use Rattle.qs_prooftext.specs.Putting.{assertion_put, condition_put, node_put, settled};
+ghost use Rattle.qs_prooftext.specs.Putting.{term_put, waiting, words_in_table as words};
+ghost use Rattle.qs_prooftext.specs.Tokens.{Writes, Begins, Owes, OwesList, variable_marks};
+ghost use Rattle.qs_prooftext.specs.Tokens.{term_marks, condition_marks, assertion_marks};
+ghost use Rattle.qs_prooftext.specs.Tokens.{nodes_marks};
 
 use crate::naming::{WordTable, function_word, variable_word};
 use qs_assert::stack::put_all;
@@ -24,7 +28,7 @@ pub enum Due {
 }
 
 pub fn put<'a>(out: &mut Vec<Token<'a>>, token: Token<'a>) -> Result<(), NoMemory>
-    ensures { OnOk result (Puts out.old.items (mark_of token.entry ∷ []) out.new.items) }
+    ensures { Writes out.old (mark_of token.entry ∷ []) out.new result }
 {
     out.push(token)?;
     Ok(())
@@ -32,7 +36,7 @@ pub fn put<'a>(out: &mut Vec<Token<'a>>, token: Token<'a>) -> Result<(), NoMemor
 
 /// Puts the beginning of a list with this head.
 pub fn begin<'a>(out: &mut Vec<Token<'a>>, head: &'a [u8]) -> Result<(), NoMemory>
-    ensures { OnOk result (Puts out.old.items (opens ∷ word head.now ∷ []) out.new.items) }
+    ensures { Writes out.old (opens ∷ word head.now ∷ []) out.new result }
 {
     put(out, Token::Open)?;
     put(out, Token::Symbol(head))
@@ -40,7 +44,7 @@ pub fn begin<'a>(out: &mut Vec<Token<'a>>, head: &'a [u8]) -> Result<(), NoMemor
 
 /// Puts a list with this head alone.
 pub fn put_alone<'a>(out: &mut Vec<Token<'a>>, head: &'a [u8]) -> Result<(), NoMemory>
-    ensures { OnOk result (Puts out.old.items (opens ∷ word head.now ∷ closes ∷ []) out.new.items) }
+    ensures { Writes out.old (opens ∷ word head.now ∷ closes ∷ []) out.new result }
 {
     begin(out, head)?;
     put(out, Token::Close)
@@ -52,7 +56,7 @@ pub fn put_named<'a>(
     head: &'a [u8],
     name: &'a [u8],
 ) -> Result<(), NoMemory>
-    ensures { OnOk result (Puts out.old.items (opens ∷ word head.now ∷ word name.now ∷ closes ∷ []) out.new.items) }
+    ensures { Writes out.old (opens ∷ word head.now ∷ word name.now ∷ closes ∷ []) out.new result }
 {
     begin(out, head)?;
     put(out, Token::Symbol(name))?;
@@ -65,7 +69,7 @@ pub fn put_variable<'a>(
     table: WordTable<'a>,
     x: Var,
 ) -> Result<(), NoMemory>
-    ensures { OnOk result (Puts out.old.items (marks (variable_form (words_in_table table.entry) x x.kind)) out.new.items) }
+    ensures { Writes out.old (variable_marks table.entry x) out.new result }
 {
     match x.kind {
         VarKind::Plain(_) => put(out, Token::Symbol(variable_word(table, x))),
@@ -90,8 +94,8 @@ fn begin_list<'a>(
     head: &'a [u8],
     trees: usize,
 ) -> Result<(), NoMemory>
-    ensures puts { OnOk result (Puts out.old.items (opens ∷ word head.now ∷ []) out.new.items) }
-    ensures dues { OnOk result (reverse due.new.items ≡ replicate trees Due.Tree ++ (Due.Close ∷ reverse due.old.items)) }
+    ensures puts { Writes out.old (opens ∷ word head.now ∷ []) out.new result }
+    ensures dues { OwesList due.old trees due.new result }
 {
     begin(out, head)?;
     due.push(Due::Close)?;
@@ -100,7 +104,7 @@ fn begin_list<'a>(
 
 /// Puts what is due up to the next tree.
 fn settle<'a>(out: &mut Vec<Token<'a>>, due: &mut Vec<Due>) -> Result<(), NoMemory>
-    ensures puts { OnOk result (Puts out.old.items (settled (reverse due.old.items)) out.new.items) }
+    ensures puts { Writes out.old (settled (reverse due.old.items)) out.new result }
     ensures dues { OnOk result (reverse due.new.items ≡ waiting (reverse due.old.items)) }
 {
     'due: while let Some(first) = due.pop() {
@@ -121,8 +125,8 @@ fn put_term_node<'a>(
     table: WordTable<'a>,
     node: TermNode,
 ) -> Result<(), NoMemory>
-    ensures puts { OnOk result (Puts out.old.items (term_put (words_in_table table.entry) node).begins out.new.items) }
-    ensures dues { OnOk result (reverse due.new.items ≡ (term_put (words_in_table table.entry) node).dues ++ reverse due.old.items) }
+    ensures puts { Begins out.old (term_put (words table.entry) node) out.new result }
+    ensures dues { Owes due.old (term_put (words table.entry) node).dues due.new result }
 {
     match node {
         TermNode::Number(value) => put(out, Token::Number(value)),
@@ -147,8 +151,8 @@ fn put_condition_node<'a>(
     due: &mut Vec<Due>,
     node: CondNode,
 ) -> Result<(), NoMemory>
-    ensures puts { OnOk result (Puts out.old.items (condition_put node).begins out.new.items) }
-    ensures dues { OnOk result (reverse due.new.items ≡ (condition_put node).dues ++ reverse due.old.items) }
+    ensures puts { Begins out.old (condition_put node) out.new result }
+    ensures dues { Owes due.old (condition_put node).dues due.new result }
 {
     match node {
         CondNode::Le => begin_list(out, due, b"le", 2),
@@ -167,8 +171,8 @@ fn put_assertion_node<'a>(
     table: WordTable<'a>,
     node: &'a AssertionNode,
 ) -> Result<(), NoMemory>
-    ensures puts { OnOk result (Puts out.old.items (assertion_put (words_in_table table.entry) node.now).begins out.new.items) }
-    ensures dues { OnOk result (reverse due.new.items ≡ (assertion_put (words_in_table table.entry) node.now).dues ++ reverse due.old.items) }
+    ensures puts { Begins out.old (assertion_put (words table.entry) node.now) out.new result }
+    ensures dues { Owes due.old (assertion_put (words table.entry) node.now).dues due.new result }
 {
     match node {
         AssertionNode::Natural(value) => put(out, Token::Natural(*value)),
@@ -190,8 +194,8 @@ fn put_node<'a>(
     table: WordTable<'a>,
     node: &'a Node,
 ) -> Result<(), NoMemory>
-    ensures puts { OnOk result (Puts out.old.items (node_put (words_in_table table.entry) node.now).begins out.new.items) }
-    ensures dues { OnOk result (reverse due.new.items ≡ (node_put (words_in_table table.entry) node.now).dues ++ reverse due.old.items) }
+    ensures puts { Begins out.old (node_put (words table.entry) node.now) out.new result }
+    ensures dues { Owes due.old (node_put (words table.entry) node.now).dues due.new result }
 {
     match node {
         Node::Term(head) => put_term_node(out, due, table, *head),
@@ -208,7 +212,7 @@ fn put_term_nodes<'a>(
     table: WordTable<'a>,
     nodes: &'a [TermNode],
 ) -> Result<(), NoMemory>
-    ensures { OnOk result (Puts out.old.items (all_put (words_in_table table.entry) (map TermHead nodes.now) (Due.Tree ∷ [])) out.new.items) }
+    ensures { Writes out.old (nodes_marks table.entry (map TermHead nodes.now)) out.new result }
 {
     let mut due = Vec::new(alloc);
     due.push(Due::Tree)?;
@@ -227,7 +231,7 @@ pub fn put_term<'a>(
     table: WordTable<'a>,
     t: &'a Term,
 ) -> Result<(), NoMemory>
-    ensures { OnOk result (Puts out.old.items (marks (term_form (words_in_table table.entry) t.now)) out.new.items) }
+    ensures { Writes out.old (term_marks table.entry t.now) out.new result }
 {
     put_term_nodes(alloc, out, table, t.nodes())
 }
@@ -238,7 +242,7 @@ fn put_nodes<'a>(
     table: WordTable<'a>,
     nodes: &'a [Node],
 ) -> Result<(), NoMemory>
-    ensures { OnOk result (Puts out.old.items (all_put (words_in_table table.entry) nodes.now (Due.Tree ∷ [])) out.new.items) }
+    ensures { Writes out.old (nodes_marks table.entry nodes.now) out.new result }
 {
     let mut due = Vec::new(alloc);
     due.push(Due::Tree)?;
@@ -257,7 +261,7 @@ pub fn put_condition<'a>(
     table: WordTable<'a>,
     c: &'a Cond,
 ) -> Result<(), NoMemory>
-    ensures { OnOk result (Puts out.old.items (marks (condition_form (words_in_table table.entry) c.now)) out.new.items) }
+    ensures { Writes out.old (condition_marks table.entry c.now) out.new result }
 {
     put_nodes(alloc, out, table, c.nodes())
 }
@@ -270,7 +274,7 @@ pub fn put_assertion<'a>(
     table: WordTable<'a>,
     a: &'a Assertion,
 ) -> Result<(), NoMemory>
-    ensures { OnOk result (Puts out.old.items (marks (assertion_form (words_in_table table.entry) a.now)) out.new.items) }
+    ensures { Writes out.old (assertion_marks table.entry a.now) out.new result }
 {
     put_nodes(alloc, out, table, a.nodes())
 }

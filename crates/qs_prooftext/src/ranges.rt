@@ -1,14 +1,12 @@
 // What ranges are of.
 ghost use Rattle.std.specs.Prelude.{◌≡◌};
 ghost use Rattle.qs_entail.specs.View.{fact_tree};
-ghost use Rattle.qs_prooftext.specs.Answers.{Gives, StandAll, Stands};
-ghost use Rattle.qs_prooftext.specs.Contexts.{setting_of};
-ghost use Rattle.qs_prooftext.specs.Heads.{range_rows};
+ghost use Rattle.qs_prooftext.specs.Answers.{Gives};
 ghost use Rattle.qs_prooftext.specs.Kinds.{a_range};
-ghost use Rattle.qs_prooftext.specs.Meanings.{means};
-ghost use Rattle.qs_prooftext.specs.Ranges.{cost_range_in, old_range, range_list, range_or, range_row, range_words};
+ghost use Rattle.qs_prooftext.specs.Ranges.{cost_range_in, old_range, range_or, range_row};
+ghost use Rattle.qs_prooftext.specs.Ranges.{range_words, row_named, ReadsRange};
 ghost use Rattle.qs_prooftext.specs.Settings.{look_up};
-ghost use Rattle.qs_sexpr.specs.Trees.{Sexp, Sexps, count};
+ghost use Rattle.qs_prooftext.specs.Readers.{Reads, ReadsParts};
 
 use crate::context::{Context, find_variable};
 use crate::fault::TextFault;
@@ -47,27 +45,25 @@ fn of_variable(at: u32, found: Option<Var>) -> Result<Fact, TextFault>
 }
 
 fn of_old(context: Context<'_>, whole: u32, parts: &[Node]) -> Result<Fact, TextFault>
-    ensures { (ss : Sexps) → StandAll context.entry.text.now parts.now ss → Gives fact_tree (old_range (setting_of context.entry) whole ss) result }
+    ensures { ReadsParts context.entry parts.now (λ g. old_range g whole) fact_tree result }
 {
     match first_part(parts) {
         Some((first, _others)) => {
-            match old_variable(context, whole, part_of(context.text, first)) {
-                Ok(x) => Ok(Fact::Range(x)),
-                Err(fault) => Err(fault),
-            }
+            let x = old_variable(context, whole, part_of(context.text, first))?;
+            Ok(Fact::Range(x))
         }
         None => Err(TextFault::UnknownForm(0)),
     }
 }
 
 fn of_cost(context: Context<'_>, whole: u32, parts: &[Node]) -> Result<Fact, TextFault>
-    ensures { (ss : Sexps) → StandAll context.entry.text.now parts.now ss → Gives fact_tree (cost_range_in (setting_of context.entry) whole ss) result }
+    ensures { ReadsParts context.entry parts.now (λ g. cost_range_in g whole) fact_tree result }
 {
     match first_part(parts) {
-        Some((first, _others)) => match function(context, whole, part_of(context.text, first)) {
-            Ok(f) => Ok(Fact::CostRange(f)),
-            Err(fault) => Err(fault),
-        },
+        Some((first, _others)) => {
+            let f = function(context, whole, part_of(context.text, first))?;
+            Ok(Fact::CostRange(f))
+        }
         None => Err(TextFault::UnknownForm(0)),
     }
 }
@@ -79,8 +75,7 @@ fn of_list(
     behind: usize,
     parts: &[Node],
 ) -> Result<Fact, TextFault>
-    ensures { (ss : Sexps) → StandAll context.entry.text.now parts.now ss → behind ≡ count ss
-        → Gives fact_tree (range_list (setting_of context.entry) at (range_row (setting_of context.entry) at word) ss) result }
+    ensures { ReadsRange context.entry at (λ g at. range_row g at word) behind parts.now result }
 {
     match word {
         RangeWord::Old => {
@@ -114,8 +109,7 @@ fn of_head(
     behind: usize,
     parts: &[Node],
 ) -> Result<Fact, TextFault>
-    ensures { (ss : Sexps) → StandAll context.entry.text.now parts.now ss → behind ≡ count ss
-        → Gives fact_tree (range_list (setting_of context.entry) at (look_up word.now (range_rows (setting_of context.entry) at)) ss) result }
+    ensures { ReadsRange context.entry at (row_named word.now) behind parts.now result }
 {
     match range_word(word) {
         Some(known) => of_list(context, at, known, behind, parts),
@@ -126,7 +120,7 @@ fn of_head(
 /// What a range is of, as its fact.
 #[tactic(auto, using(crate::proofs::RangeLaws::headless_fails))]
 pub fn read_range(context: Context<'_>, nodes: &[Node]) -> Result<Fact, TextFault>
-    ensures { (s : Sexp) → Stands context.entry.text.now nodes.now s → Gives fact_tree (means (setting_of context.entry) a_range s) result }
+    ensures { Reads context.entry nodes.now a_range fact_tree result }
 {
     match part_of(context.text, nodes) {
         Part::Number(at, _) => Err(TextFault::UnknownForm(at)),

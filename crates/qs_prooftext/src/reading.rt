@@ -1,11 +1,10 @@
 // The reading of a proof file.
-ghost use Rattle.std.specs.Prelude.{◌≡◌, ◌<◌, ◌^◌, ◌⊎◌, IfErr, IfOk, length};
+ghost use Rattle.std.specs.Prelude.{◌≡◌, ◌<◌, ◌^◌, IfOk, length};
 ghost use Rattle.qs_core.specs.Trees.{CoreUnitTree};
 ghost use Rattle.qs_core.specs.UnitTrees.{unit_tree};
 ghost use Rattle.qs_prooftext.specs.Reading as spec;
-ghost use Rattle.qs_prooftext.specs.Reading.{Fault, Reading};
+ghost use Rattle.qs_prooftext.specs.Reading.{Reading, Refuses};
 ghost use Rattle.qs_prooftext.specs.Writable.{IsOfUnit, IsWritable};
-ghost use Rattle.qs_prooftext.specs.declared.fault.TextFault.TheVariants as faults;
 ghost use Rattle.qs_sexpr.specs.Reading as lists;
 ghost use Rattle.qs_sexpr.specs.Results.{IsRead};
 ghost use Rattle.qs_sexpr.specs.Trees.{Sexps, sexps_nodes};
@@ -36,7 +35,7 @@ fn told(fault: SexprFault) -> TextFault
 fn lists(alloc: Global, text: &[u8]) -> Result<Vec<Node>, TextFault>
     requires { length text.now < 2 ^ 31 }
     ensures nodes { IfOk result (λ nodes. IsRead text.now nodes.items) }
-    ensures fault { (u : CoreUnitTree) → IfErr result (λ fault. (fault ≡ faults.NoMemory) ⊎ Fault u text.now fault) }
+    ensures fault { (u : CoreUnitTree) → Refuses u text.now result }
 {
     match qs_sexpr::read(alloc, text) {
         Ok(nodes) => Ok(nodes),
@@ -52,8 +51,8 @@ fn read_lists(
     nodes: &[Node],
 ) -> Result<Proofs, TextFault>
     requires { IsRead text.now nodes.now }
-    ensures reads { IfOk result (λ proofs. Reading (unit_tree unit.now) text.now (proofs_tree proofs)) }
-    ensures fault { IfErr result (λ fault. (fault ≡ faults.NoMemory) ⊎ Fault (unit_tree unit.now) text.now fault) }
+    ensures reads { IfOk result (λ p. Reading (unit_tree unit.now) text.now (proofs_tree p)) }
+    ensures fault { Refuses (unit_tree unit.now) text.now result }
 {
     let flags = listed_functions(alloc, text, unit, nodes)?;
     let is_open = open(alloc, unit, &flags)?;
@@ -65,15 +64,15 @@ fn read_lists(
     read_tops(alloc, file, nodes)
 }
 
-/// The proofs that a text is, which can be written, or its first fault. Faults of lists and atoms anywhere in the text
-/// come before those of what they mean.
-#[tactic(auto, using(crate::proofs::ReadSound::read_of_unit, crate::proofs::ReadWritable::unit_read_is_writable))]
+/// The proofs that a text is, which can be written, or its first fault. Faults of lists and atoms
+/// anywhere in the text come before those of what they mean.
+#[tactic(auto, using(crate::proofs::ReadWritable::reads_well))]
 pub fn read(alloc: Global, text: &[u8], unit: &CoreUnit) -> Result<Proofs, TextFault>
     requires limit { length text.now < 2 ^ 31 }
-    ensures reads { IfOk result (λ proofs. Reading (unit_tree unit.now) text.now (proofs_tree proofs)) }
-    ensures writable { IfOk result (λ proofs. IsWritable (unit_tree unit.now) (proofs_tree proofs)) }
-    ensures of_unit { IfOk result (λ proofs. IsOfUnit (unit_tree unit.now) (proofs_tree proofs)) }
-    ensures fault { IfErr result (λ fault. (fault ≡ faults.NoMemory) ⊎ Fault (unit_tree unit.now) text.now fault) }
+    ensures reads { IfOk result (λ p. Reading (unit_tree unit.now) text.now (proofs_tree p)) }
+    ensures writable { IfOk result (λ p. IsWritable (unit_tree unit.now) (proofs_tree p)) }
+    ensures of_unit { IfOk result (λ p. IsOfUnit (unit_tree unit.now) (proofs_tree p)) }
+    ensures fault { Refuses (unit_tree unit.now) text.now result }
 {
     let nodes = lists(alloc, text)?;
     read_lists(alloc, text, unit, &nodes)

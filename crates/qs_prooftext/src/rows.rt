@@ -211,8 +211,8 @@ fn fit(parts: Parts, count: usize) -> bool
     }
 }
 
-/// The row of a list at this place of a text, by its head and the number of its other parts, where it has as many as it
-/// may. Of a quotient the divisor is given.
+/// The row of a list at this place of a text, by its head and the number of its other parts, where
+/// it has as many as it may. Of a quotient the divisor is given.
 pub fn row_of_list(
     returned: Option<Var>,
     sort: Sort,

@@ -1,11 +1,13 @@
 // What may stand in an assertion, and the words of its lists.
 ghost use Rattle.std.specs.Prelude.{◌≡◌};
-ghost use Rattle.qs_prooftext.specs.AssertionWords.{assertion_words, condition_words, definition_words, term_words};
+ghost use Rattle.qs_prooftext.specs.AssertionWords.{assertion_words, condition_words};
+ghost use Rattle.qs_prooftext.specs.AssertionWords.{definition_words, term_words};
 ghost use Rattle.qs_prooftext.specs.Settings.{look_up};
 
 use qs_assert::Node;
 
-/// What may stand at a place of an assertion. Of some the place of their list is known, at which they have no meaning.
+/// What may stand at a place of an assertion. Of some the place of their list is known, at which
+/// they have no meaning.
 #[derive(Clone, Copy)]
 pub enum Sort {
     /// A term.

@@ -1,14 +1,14 @@
 // The nodes of derivations without the derivations in them.
 ghost use Rattle.std.specs.Prelude.{◌≡◌};
 ghost use Rattle.qs_entail.specs.View.{cert_tree};
-ghost use Rattle.qs_prooftext.specs.Answers.{Gives, StandAll};
-ghost use Rattle.qs_prooftext.specs.Contexts.{setting_of};
-ghost use Rattle.qs_prooftext.specs.DerivationHeads.{derivation_head, reason_means, reason_view, statement_means};
-ghost use Rattle.qs_prooftext.specs.Firsts.{first_means};
+ghost use Rattle.qs_prooftext.specs.Answers.{StandAll};
+ghost use Rattle.qs_prooftext.specs.DerivationHeads.{derivation_head, reason_means, reason_view};
+ghost use Rattle.qs_prooftext.specs.DerivationHeads.{head_of};
 ghost use Rattle.qs_prooftext.specs.Kinds.{a_certificate};
 ghost use Rattle.qs_prooftext.specs.Settings.{look_up};
 ghost use Rattle.qs_prooftext.specs.StatementWords as spec;
 ghost use Rattle.qs_sexpr.specs.Trees.{Sexps};
+ghost use Rattle.qs_prooftext.specs.Readers.{ReadsParts, ReadsFirst};
 
 use crate::certificates::read_certificate;
 use crate::context::Context;
@@ -106,7 +106,7 @@ fn first_certificate(
     parts: &[Node],
 ) -> Result<Certificate, TextFault>
     requires { (ss : Sexps) × StandAll context.text.now parts.now ss }
-    ensures { (ss : Sexps) → StandAll context.entry.text.now parts.now ss → Gives cert_tree (first_means (setting_of context.entry) a_certificate ss) result }
+    ensures { ReadsFirst context.entry parts.now a_certificate cert_tree result }
 {
     match first_part(parts) {
         Some((first, _others)) => read_certificate(alloc, context, first),
@@ -116,7 +116,7 @@ fn first_certificate(
 
 fn first_reason(alloc: Global, context: Context<'_>, parts: &[Node]) -> Result<Reason, TextFault>
     requires { (ss : Sexps) × StandAll context.text.now parts.now ss }
-    ensures { (ss : Sexps) → StandAll context.entry.text.now parts.now ss → Gives reason_view (reason_means (setting_of context.entry) ss) result }
+    ensures { ReadsParts context.entry parts.now reason_means reason_view result }
 {
     let assertion = first_assertion(alloc, context, parts)?;
     let certificate = first_certificate(alloc, context, after_first(parts))?;
@@ -135,7 +135,7 @@ pub fn statement_head(
     parts: &[Node],
 ) -> Result<DerivationHead, TextFault>
     requires { (ss : Sexps) × StandAll context.text.now parts.now ss }
-    ensures { (ss : Sexps) → StandAll context.entry.text.now parts.now ss → Gives derivation_head (statement_means (setting_of context.entry) statement count ss) result }
+    ensures { ReadsParts context.entry parts.now (head_of statement count) derivation_head result }
 {
     match statement {
         Statement::Leaf => Ok(DerivationHead::Leaf),

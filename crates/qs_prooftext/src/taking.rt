@@ -1,8 +1,8 @@
 // Trees taken off a stack, its front being the Vec's end.
-ghost use Rattle.std.specs.Prelude.{◌≡◌, map, reverse, IfOk};
+ghost use Rattle.std.specs.Prelude.{◌≡◌};
 ghost use Rattle.qs_assert.specs.Reading.{others};
 ghost use Rattle.qs_assert.specs.Stacks.{first_or};
-ghost use Rattle.qs_prooftext.specs.Planting.{behind, firsts};
+ghost use Rattle.qs_prooftext.specs.Planting.{stacked, Takes, GivesFirst, GivesFirsts};
 
 use qs_assert::stack;
 use qs_base::NoMemory;
@@ -23,8 +23,8 @@ pub trait Subtree: Drop {
 
 /// Takes the first part off.
 pub fn taken<T: Subtree>(stack: &mut Vec<T>) -> T
-    ensures first { T.tree result ≡ first_or T.blank (reverse (map T.tree stack.old.items)) }
-    ensures left { reverse (map T.tree stack.new.items) ≡ others (reverse (map T.tree stack.old.items)) }
+    ensures first { T.tree result ≡ first_or T.blank (stacked T.tree stack.old) }
+    ensures left { stacked T.tree stack.new ≡ others (stacked T.tree stack.old) }
 {
     stack::taken(stack, T::missing())
 }
@@ -35,8 +35,8 @@ pub fn taken_all<T: Subtree>(
     stack: &mut Vec<T>,
     count: usize,
 ) -> Result<Vec<T>, NoMemory>
-    ensures first { IfOk result (λ parts. map T.tree parts.items ≡ firsts T.blank count (reverse (map T.tree stack.old.items))) }
-    ensures left { IfOk result (λ _. reverse (map T.tree stack.new.items) ≡ behind count (reverse (map T.tree stack.old.items))) }
+    ensures first { GivesFirsts T.tree T.blank count stack.old result }
+    ensures left { Takes T.tree count stack.old stack.new result }
 {
     let mut parts = Vec::new(alloc);
     let mut left = count;
@@ -49,8 +49,8 @@ pub fn taken_all<T: Subtree>(
 
 /// Takes the first part off, boxed.
 pub fn boxed<T: Subtree>(alloc: Global, stack: &mut Vec<T>) -> Result<Box<T>, NoMemory>
-    ensures first { IfOk result (λ b. T.tree b.value ≡ first_or T.blank (reverse (map T.tree stack.old.items))) }
-    ensures left { IfOk result (λ _. reverse (map T.tree stack.new.items) ≡ others (reverse (map T.tree stack.old.items))) }
+    ensures first { GivesFirst T.tree T.blank stack.old result }
+    ensures left { Takes T.tree 1 stack.old stack.new result }
 {
     let part = taken(stack);
     Ok(Box::new(alloc, part)?)

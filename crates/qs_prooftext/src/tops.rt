@@ -1,20 +1,21 @@
 // The lists of a whole file: definitions and entries.
-ghost use Rattle.std.specs.Prelude.{◌≡◌, ℕ, IfOk, bytes_eq};
-ghost use Rattle.qs_core.specs.TreeOf.{function_tree};
+ghost use Rattle.std.specs.Prelude.{◌≡◌, IfOk, bytes_eq};
 ghost use Rattle.qs_core.specs.UnitTrees.{unit_tree};
 ghost use Rattle.qs_entail.specs.View.{cert_tree};
 ghost use Rattle.qs_triples.specs.TreeOf.{derivation_tree, proofs_tree};
 ghost use Rattle.qs_triples.specs.Entries as entries;
-ghost use Rattle.qs_prooftext.specs.Answers.{Gives, StandAll, Stands};
+ghost use Rattle.qs_prooftext.specs.Answers.{StandAll, Stands};
 ghost use Rattle.qs_prooftext.specs.Contexts.{setting_of};
-ghost use Rattle.qs_prooftext.specs.Firsts.{first_means};
-ghost use Rattle.qs_prooftext.specs.Kinds.{a_certificate, a_definition_body, a_derivation, an_assertion};
-ghost use Rattle.qs_prooftext.specs.Proofs.{file_means, headed_top_means, top_means};
+ghost use Rattle.qs_prooftext.specs.Kinds.{a_certificate, a_definition_body, a_derivation};
+ghost use Rattle.qs_prooftext.specs.Kinds.{an_assertion};
 ghost use Rattle.qs_prooftext.specs.Settings as settings;
 ghost use Rattle.qs_prooftext.specs.Tops as spec;
-ghost use Rattle.qs_prooftext.specs.Tops.{GivesPart, entry_parts_mean, first_only, first_word, named_define, new_entry_means, only_part, part_means, parts_view, proofs_so_far, sofar_of};
-ghost use Rattle.qs_prooftext.specs.Walking.{HasParts};
-ghost use Rattle.qs_sexpr.specs.Trees.{Sexp, Sexps, symbol};
+ghost use Rattle.qs_prooftext.specs.Tops.{entry_parts_mean, first_word, parts_view, proofs_so_far};
+ghost use Rattle.qs_prooftext.specs.Tops.{FindsOnly, FindsFirstOnly, ReadsOnly, define_of};
+ghost use Rattle.qs_prooftext.specs.Tops.{entry_of, entry_in, Adds, AddsHeaded, AddsTop};
+ghost use Rattle.qs_prooftext.specs.Tops.{ReadsEntry, meaning_of};
+ghost use Rattle.qs_sexpr.specs.Trees.{Sexp, Sexps};
+ghost use Rattle.qs_prooftext.specs.Readers.{GivesParts, ReadsParts, ReadsFirst};
 
 use crate::assertions::{read_assertion, read_definition};
 use crate::certificates::read_certificate;
@@ -68,15 +69,14 @@ fn in_definition<'a>(file: File<'a>) -> Context<'a>
 }
 
 /// The assertion for which a definition stands, in the first of these parts.
-#[tactic(auto, using(crate::proofs::FirstLaws::first_gives, crate::proofs::FirstLaws::first_none, crate::proofs::FirstLaws::first_tree))]
+#[tactic(auto, using(crate::proofs::FirstLaws::first_laws))]
 fn first_definition(
     alloc: Global,
     context: Context<'_>,
     parts: &[Node],
 ) -> Result<Assertion, TextFault>
     requires { (ss : Sexps) × StandAll context.text.now parts.now ss }
-    ensures { (ss : Sexps) → StandAll context.entry.text.now parts.now ss
-        → Gives (λ a. a) (first_means (setting_of context.entry) a_definition_body ss) result }
+    ensures { ReadsFirst context.entry parts.now a_definition_body (λ a. a) result }
 {
     match first_part(parts) {
         Some((first, _others)) => read_definition(alloc, context, first),
@@ -94,8 +94,7 @@ fn define(
     proofs: &mut ProofsSoFar,
 ) -> Result<(), TextFault>
     requires { (ss : Sexps) × StandAll file.text.now parts.now ss }
-    ensures { (ss : Sexps) → StandAll file.entry.text.now parts.now ss
-        → Gives (λ done. proofs_so_far proofs.new) (named_define (sofar_of file.entry proofs.old) at word.now ss) result }
+    ensures { Adds file.entry parts.now (define_of at word.now) proofs.old proofs.new result }
 {
     let names = Names {
         is_open: file.is_open,
@@ -114,7 +113,7 @@ fn define(
 
 /// The nodes of the only part of a list with this head.
 fn inner<'a>(text: &'a [u8], head: &[u8], nodes: &'a [Node]) -> Result<&'a [Node], TextFault>
-    ensures { (s : Sexp) → Stands text.now nodes.now s → GivesPart text.now (only_part head.now s) result }
+    ensures { FindsOnly text.now head.now nodes.now result }
 {
     match part_of(text, nodes) {
         Part::Number(at, _) => Err(TextFault::UnknownForm(at)),
@@ -133,7 +132,7 @@ fn inner<'a>(text: &'a [u8], head: &[u8], nodes: &'a [Node]) -> Result<&'a [Node
 }
 
 fn first_inner<'a>(text: &'a [u8], head: &[u8], parts: &'a [Node]) -> Result<&'a [Node], TextFault>
-    ensures { (ss : Sexps) → StandAll text.now parts.now ss → GivesPart text.now (first_only head.now ss) result }
+    ensures { FindsFirstOnly text.now head.now parts.now result }
 {
     match first_part(parts) {
         Some((first, _others)) => inner(text, head, first),
@@ -148,8 +147,7 @@ fn assertion_in(
     parts: &[Node],
 ) -> Result<Assertion, TextFault>
     requires { (ss : Sexps) × StandAll context.text.now parts.now ss }
-    ensures { (ss : Sexps) → StandAll context.entry.text.now parts.now ss
-        → Gives (λ a. a) (part_means (setting_of context.entry) an_assertion head.now ss) result }
+    ensures { ReadsOnly context.entry head.now parts.now an_assertion (λ a. a) result }
 {
     read_assertion(alloc, context, first_inner(context.text, head, parts)?)
 }
@@ -161,8 +159,7 @@ fn certificate_in(
     parts: &[Node],
 ) -> Result<Certificate, TextFault>
     requires { (ss : Sexps) × StandAll context.text.now parts.now ss }
-    ensures { (ss : Sexps) → StandAll context.entry.text.now parts.now ss
-        → Gives cert_tree (part_means (setting_of context.entry) a_certificate head.now ss) result }
+    ensures { ReadsOnly context.entry head.now parts.now a_certificate cert_tree result }
 {
     read_certificate(alloc, context, first_inner(context.text, head, parts)?)
 }
@@ -174,8 +171,7 @@ fn derivation_in(
     parts: &[Node],
 ) -> Result<Derivation, TextFault>
     requires { (ss : Sexps) × StandAll context.text.now parts.now ss }
-    ensures { (ss : Sexps) → StandAll context.entry.text.now parts.now ss
-        → Gives derivation_tree (part_means (setting_of context.entry) a_derivation head.now ss) result }
+    ensures { ReadsOnly context.entry head.now parts.now a_derivation derivation_tree result }
 {
     read_derivation(alloc, context, first_inner(context.text, head, parts)?)
 }
@@ -199,8 +195,7 @@ fn read_entry(
     parts: &[Node],
 ) -> Result<FunctionProof, TextFault>
     requires { (ss : Sexps) × StandAll context.text.now parts.now ss }
-    ensures parts { (ss : Sexps) → StandAll context.entry.text.now parts.now ss
-        → Gives parts_view (entry_parts_mean (setting_of context.entry) ss) result }
+    ensures parts { ReadsParts context.entry parts.now entry_parts_mean parts_view result }
     ensures function { IfOk result (λ e. e.function ≡ f) }
 {
     let pre = assertion_in(alloc, context, b"pre", parts)?;
@@ -226,8 +221,7 @@ fn new_entry(
     proofs: &ProofsSoFar,
 ) -> Result<FunctionProof, TextFault>
     requires { (ss : Sexps) × StandAll file.text.now parts.now ss }
-    ensures parts { (ss : Sexps) → StandAll file.entry.text.now parts.now ss
-        → Gives parts_view (new_entry_means (sofar_of file.entry proofs.now) (function_tree function.now) ss) result }
+    ensures parts { ReadsEntry file.entry proofs.now function.now parts.now result }
     ensures function { IfOk result (λ e. e.function ≡ f) }
 {
     let words = words_of(alloc, function)?;
@@ -254,8 +248,7 @@ fn known_entry(
     proofs: &mut ProofsSoFar,
 ) -> Result<(), TextFault>
     requires { (ss : Sexps) × StandAll file.text.now parts.now ss }
-    ensures { (ss : Sexps) → StandAll file.entry.text.now parts.now ss
-        → Gives (λ done. proofs_so_far proofs.new) (spec.known_entry (sofar_of file.entry proofs.old) at f.0 (function_tree function.now) ss) result }
+    ensures { Adds file.entry parts.now (entry_in at f function.now) proofs.old proofs.new result }
 {
     if has_entry(proofs, f) {
         return Err(TextFault::Duplicate(at));
@@ -275,8 +268,7 @@ fn entry(
     proofs: &mut ProofsSoFar,
 ) -> Result<(), TextFault>
     requires { (ss : Sexps) × StandAll file.text.now parts.now ss }
-    ensures { (ss : Sexps) → StandAll file.entry.text.now parts.now ss
-        → Gives (λ done. proofs_so_far proofs.new) (spec.named_entry (sofar_of file.entry proofs.old) at word.now ss) result }
+    ensures { Adds file.entry parts.now (entry_of at word.now) proofs.old proofs.new result }
 {
     match find_function(&file.unit.functions, word)? {
         None => Err(TextFault::NoSuchFunction(at)),
@@ -291,7 +283,7 @@ fn entry(
 
 /// The symbol that is the first of these parts, or the place of what is none.
 fn first_symbol<'a>(text: &'a [u8], parts: &'a [Node]) -> Result<&'a [u8], TextFault>
-    ensures { (ss : Sexps) → StandAll text.now parts.now ss → Gives (λ word. word.now) (first_word ss) result }
+    ensures { GivesParts text.now parts.now first_word (λ word. word.now) result }
 {
     match first_part(parts) {
         Some((first, _others)) => match part_of(text, first) {
@@ -311,8 +303,7 @@ fn definition(
     proofs: &mut ProofsSoFar,
 ) -> Result<(), TextFault>
     requires { (ss : Sexps) × StandAll file.text.now others.now ss }
-    ensures { (ss : Sexps) → StandAll file.entry.text.now others.now ss
-        → Gives (λ done. proofs_so_far proofs.new) (spec.definition (sofar_of file.entry proofs.old) at ss) result }
+    ensures { Adds file.entry others.now (λ s. spec.definition s at) proofs.old proofs.new result }
 {
     let name = first_symbol(file.text, others)?;
     define(alloc, file, at, name, after_first(others), proofs)
@@ -326,8 +317,7 @@ fn function(
     proofs: &mut ProofsSoFar,
 ) -> Result<(), TextFault>
     requires { (ss : Sexps) × StandAll file.text.now others.now ss }
-    ensures { (ss : Sexps) → StandAll file.entry.text.now others.now ss
-        → Gives (λ done. proofs_so_far proofs.new) (spec.function (sofar_of file.entry proofs.old) at ss) result }
+    ensures { Adds file.entry others.now (λ s. spec.function s at) proofs.old proofs.new result }
 {
     let name = first_symbol(file.text, others)?;
     entry(alloc, file, at, name, after_first(others), proofs)
@@ -339,7 +329,7 @@ fn is_word(head: &[u8], word: &[u8]) -> bool
     head == word
 }
 
-#[tactic(auto, using(crate::proofs::TopLaws::define_top, crate::proofs::TopLaws::define_unfit, crate::proofs::TopLaws::function_top, crate::proofs::TopLaws::function_unfit, crate::proofs::TopLaws::unknown_top))]
+#[tactic(auto, using(crate::proofs::TopLaws::headed_tops))]
 fn headed_top(
     alloc: Global,
     file: File<'_>,
@@ -350,8 +340,7 @@ fn headed_top(
     proofs: &mut ProofsSoFar,
 ) -> Result<(), TextFault>
     requires { (ss : Sexps) × StandAll file.text.now others.now ss }
-    ensures { (place : ℕ) (ss : Sexps) → StandAll file.entry.text.now others.now ss → HasParts count ss
-        → Gives (λ done. proofs_so_far proofs.new) (headed_top_means (sofar_of file.entry proofs.old) at (symbol place head.now) ss) result }
+    ensures { AddsHeaded file.entry at head.now count others.now proofs.old proofs.new result }
 {
     if is_word(head, b"define") {
         if count == 3 {
@@ -370,7 +359,7 @@ fn headed_top(
     }
 }
 
-#[tactic(auto, using(crate::proofs::TopLaws::top_headless, crate::proofs::TopLaws::top_headed, crate::proofs::AssertionLaws::has_parts))]
+#[tactic(auto, using(crate::proofs::TopLaws::top_lists))]
 fn read_top(
     alloc: Global,
     file: File<'_>,
@@ -378,8 +367,7 @@ fn read_top(
     proofs: &mut ProofsSoFar,
 ) -> Result<(), TextFault>
     requires { (s : Sexp) × Stands file.text.now nodes.now s }
-    ensures { (s : Sexp) → Stands file.entry.text.now nodes.now s
-        → Gives (λ done. proofs_so_far proofs.new) (top_means (sofar_of file.entry proofs.old) s) result }
+    ensures { AddsTop file.entry nodes.now proofs.old proofs.new result }
 {
     match part_of(file.text, nodes) {
         Part::Number(at, _) => Err(TextFault::UnknownForm(at)),
@@ -394,8 +382,7 @@ fn read_top(
 /// The proofs that the lists and atoms of a file are.
 pub fn read_tops(alloc: Global, file: File<'_>, nodes: &[Node]) -> Result<Proofs, TextFault>
     requires { (ss : Sexps) × StandAll file.text.now nodes.now ss }
-    ensures { (ss : Sexps) → StandAll file.entry.text.now nodes.now ss
-        → Gives proofs_tree (file_means (unit_tree file.entry.unit.now) (spec.open_in file.entry) ss) result }
+    ensures { GivesParts file.entry.text.now nodes.now (meaning_of file.entry) proofs_tree result }
 {
     let mut proofs = ProofsSoFar {
         definitions: Definitions::new(alloc),

@@ -1,9 +1,10 @@
 // The words of the variables of a function.
-ghost use Rattle.std.specs.Prelude.{◌≡◌, ◌++◌, ◌∷◌, [], map, decimal, IfOk, OnOk};
+ghost use Rattle.std.specs.Prelude.{◌≡◌, ◌++◌, decimal, IfOk, OnOk};
 ghost use Rattle.qs_core.specs.TermTexts.{ordinal_text, temporary_text, variable_name};
 ghost use Rattle.qs_core.specs.TreeOf.{function_tree, variable_tree};
-ghost use Rattle.qs_prooftext.specs.Contexts.{word_of_variable, word_view};
-ghost use Rattle.qs_prooftext.specs.Settings.{temporary_words, typed, variable_words, with_word, words_of};
+ghost use Rattle.qs_prooftext.specs.Contexts.{word_at, words_of_variables, words_of_temporaries};
+ghost use Rattle.qs_prooftext.specs.Contexts.{one_word, AddsWords, GivesWords};
+ghost use Rattle.qs_prooftext.specs.Settings.{typed, words_of, temporary_word};
 ghost use Rattle.qs_triples.specs.Mentions.{has_placed_parameter};
 ghost use Rattle.qs_triples.specs.Valuations.{if_number, number_if};
 
@@ -102,7 +103,7 @@ fn put_word(
     kind: VarKind,
     number: NumberType,
 ) -> Result<(), NoMemory>
-    ensures { OnOk result (map word_view words.new.items ≡ map word_view words.old.items ++ (text.items, record { kind = kind; number = number }) ∷ []) }
+    ensures { AddsWords words.old (one_word text.items kind number) words.new result }
 {
     words.push(Word {
         text,
@@ -118,7 +119,7 @@ fn put_variable(
     v: &CoreVariable,
     words: &mut Vec<Word>,
 ) -> Result<(), NoMemory>
-    ensures { OnOk result (map word_view words.new.items ≡ map word_view words.old.items ++ word_of_variable (function_tree function.now) number (variable_tree v.now)) }
+    ensures { AddsWords words.old (word_at function.now number v.now) words.new result }
 {
     if is_placed(function, number) {
         return Ok(());
@@ -140,7 +141,7 @@ fn put_temporary(
     scalar: Scalar,
     words: &mut Vec<Word>,
 ) -> Result<(), NoMemory>
-    ensures { OnOk result (map word_view words.new.items ≡ map word_view words.old.items ++ with_word (temporary_text number) (typed (VarKind.Temporary number) (if_number scalar))) }
+    ensures { AddsWords words.old (temporary_word number scalar) words.new result }
 {
     match number_of(scalar) {
         None => Ok(()),
@@ -161,7 +162,7 @@ fn put_variables(
     function: &CoreFunction,
     words: &mut Vec<Word>,
 ) -> Result<(), NoMemory>
-    ensures { OnOk result (map word_view words.new.items ≡ map word_view words.old.items ++ variable_words (function_tree function.now) 0 (function_tree function.now).variables) }
+    ensures { AddsWords words.old (words_of_variables function.now) words.new result }
 {
     let mut number: usize = 0;
     for v in function.variables.as_slice() {
@@ -176,7 +177,7 @@ fn put_temporaries(
     function: &CoreFunction,
     words: &mut Vec<Word>,
 ) -> Result<(), NoMemory>
-    ensures { OnOk result (map word_view words.new.items ≡ map word_view words.old.items ++ temporary_words 0 (function_tree function.now).temporaries) }
+    ensures { AddsWords words.old (words_of_temporaries function.now) words.new result }
 {
     let mut number: usize = 0;
     for scalar in function.temporaries.as_slice() {
@@ -188,7 +189,7 @@ fn put_temporaries(
 
 /// The words of the variables and temporaries of integer type of a function.
 pub fn words_of(alloc: Global, function: &CoreFunction) -> Result<Vec<Word>, NoMemory>
-    ensures { IfOk result (λ words. map word_view words.items ≡ words_of (function_tree function.now)) }
+    ensures { GivesWords (words_of (function_tree function.now)) result }
 {
     let mut words = Vec::new(alloc);
     put_variables(alloc, function, &mut words)?;

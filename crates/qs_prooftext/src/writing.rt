@@ -2,7 +2,7 @@
 ghost use Rattle.std.specs.Prelude.{◌≡◌, map, IfOk};
 ghost use Rattle.std.specs.List.{slice_get};
 ghost use Rattle.qs_core.specs.UnitTrees.{unit_tree};
-ghost use Rattle.qs_prooftext.specs.Contexts.{word_view};
+ghost use Rattle.qs_prooftext.specs.Contexts.{word_view, GivesWords};
 ghost use Rattle.qs_prooftext.specs.Writing as spec;
 ghost use Rattle.qs_prooftext.specs.Writing.{Words, variable_form, word_for, words_in};
 ghost use Rattle.qs_triples.specs.Mentions.{plain_variable};
@@ -16,7 +16,7 @@ use std::alloc::Global;
 
 /// The words of the variables of a function.
 pub fn words_in(alloc: Global, unit: &CoreUnit, f: FnId) -> Result<Vec<Word>, NoMemory>
-    ensures { IfOk result (λ words. map word_view words.items ≡ words_in (slice_get (unit_tree unit.now).functions f.0)) }
+    ensures { GivesWords (words_in (slice_get (unit_tree unit.now).functions f.0)) result }
 {
     match unit.functions.get(f.0 as usize) {
         Some(function) => words_of(alloc, function),

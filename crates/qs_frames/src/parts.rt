@@ -135,13 +135,3 @@ pub fn try_layout(f: &TacFunction, places: &Places) -> Option<Frame>
         }
     }
 }
-
-impl Frame {
-    /// The offset of a slot from x2, in bytes.
-    pub fn slot_at(self, slot: u32) -> u32
-        requires { 4 * slot ≤ self.slots }
-        ensures { result ≡ spec.slot_at self slot }
-    {
-        self.slots - 4 * slot
-    }
-}

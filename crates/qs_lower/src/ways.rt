@@ -76,17 +76,6 @@ impl Way {
 }
 
 impl Exits {
-    /// Which of them come next.
-    pub fn falls(self) -> Falls
-        ensures { falls_tree result ≡ statements.falls_of (exits_tree self) }
-    {
-        Falls {
-            next: self.next.is_fall(),
-            on_break: self.on_break.is_fall(),
-            on_continue: self.on_continue.is_fall(),
-        }
-    }
-
     /// The exit that is a way.
     pub fn to(self, w: Way) -> Exit
         ensures { exit_tree result ≡ statements.exit_to (way_tree w) (exits_tree self) }

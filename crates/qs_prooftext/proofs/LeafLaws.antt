@@ -3,7 +3,7 @@ use Rattle.std.proofs.Common.{◌≡◌, ℕ, ℤ, List, Err, refl, ap, ◌∙�
 use Rattle.qs_sexpr.specs.Trees.{Sexp, number, symbol, list, Sexps, no_parts, part_and}
 use Rattle.qs_sexpr.specs.declared.node.Node.{Node}
 use Rattle.qs_prooftext.specs.Answers.{IsList}
-use Rattle.qs_prooftext.specs.Kinds.{Kind, an_index, a_natural, a_name, a_divisor, a_function, a_known_name, an_old_variable}
+use Rattle.qs_prooftext.specs.Kinds.{Kind, an_index, a_natural, a_name, a_divisor, a_function, an_old_variable}
 use Rattle.qs_prooftext.specs.Meanings.{means, number_means, symbol_means}
 use Rattle.qs_prooftext.specs.Settings.{Setting}
 use Rattle.qs_prooftext.specs.declared.fault.TextFault.TheVariants.{UnknownForm}
@@ -59,15 +59,6 @@ function_list g whole at (part_and (list place inner) parts) = refl
 pub function_of_list : (g : Setting) (whole : ℕ) (text : List ℕ) (s : Sexp) (at n : ℕ) (nodes : List Node) → IsList text s at n nodes → means g (a_function whole) s ≡ Err (UnknownForm at)
 function_of_list g whole text s at n nodes h = ap (means g (a_function whole)) h.same ∙ function_list g whole at h.parts
 
-known_name_list : (g : Setting) (whole at : ℕ) (parts : Sexps) → means g (a_known_name whole) (list at parts) ≡ Err (UnknownForm at)
-known_name_list g whole at no_parts = refl
-known_name_list g whole at (part_and (number place n) parts) = refl
-known_name_list g whole at (part_and (symbol place w) parts) = refl
-known_name_list g whole at (part_and (list place inner) parts) = refl
-
-pub known_name_of_list : (g : Setting) (whole : ℕ) (text : List ℕ) (s : Sexp) (at n : ℕ) (nodes : List Node) → IsList text s at n nodes → means g (a_known_name whole) s ≡ Err (UnknownForm at)
-known_name_of_list g whole text s at n nodes h = ap (means g (a_known_name whole)) h.same ∙ known_name_list g whole at h.parts
-
 old_variable_list : (g : Setting) (whole at : ℕ) (parts : Sexps) → means g (an_old_variable whole) (list at parts) ≡ Err (UnknownForm at)
 old_variable_list g whole at no_parts = refl
 old_variable_list g whole at (part_and (number place n) parts) = refl
@@ -88,7 +79,5 @@ pub ruleset name_laws = (of_number, of_symbol, name_of_list)
 pub ruleset divisor_laws = (of_number, of_symbol, divisor_of_list)
 
 pub ruleset function_laws = (of_number, of_symbol, function_of_list)
-
-pub ruleset known_name_laws = (of_number, of_symbol, known_name_of_list)
 
 pub ruleset old_variable_laws = (of_number, of_symbol, old_variable_of_list)

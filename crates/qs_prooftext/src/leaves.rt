@@ -1,12 +1,12 @@
 // Numbers and names.
 ghost use Rattle.std.specs.Prelude.{◌≡◌};
-ghost use Rattle.qs_prooftext.specs.Kinds.{a_divisor, a_function, a_known_name, a_name, a_natural};
+ghost use Rattle.qs_prooftext.specs.Kinds.{a_divisor, a_function, a_name, a_natural};
 ghost use Rattle.qs_prooftext.specs.Kinds.{an_index, an_old_variable};
 ghost use Rattle.qs_prooftext.specs.Contexts.{old_by_word, setting_of};
 ghost use Rattle.qs_prooftext.specs.Settings.{old_variable};
 ghost use Rattle.qs_prooftext.specs.Readers.{ReadsPart, ReadsPartAnywhere};
 
-use crate::context::{Context, find_function, find_variable, is_defined};
+use crate::context::{Context, find_function, find_variable};
 use crate::fault::TextFault;
 use crate::parts::Part;
 use qs_assert::{Var, VarKind};
@@ -84,29 +84,6 @@ pub fn function(context: Context<'_>, whole: u32, part: Part<'_>) -> Result<FnId
             Some(function) => Ok(function),
             None => Err(TextFault::NoSuchFunction(whole)),
         },
-        Part::List(at, _, _) => Err(TextFault::UnknownForm(at)),
-    }
-}
-
-/// A name with a definition, in the list at this place.
-#[tactic(auto, using(crate::proofs::LeafLaws::known_name_laws))]
-pub fn known_name(
-    alloc: Global,
-    context: Context<'_>,
-    whole: u32,
-    part: Part<'_>,
-) -> Result<Name, TextFault>
-    ensures { ReadsPart context.entry part.entry (a_known_name whole) (λ n. n) result }
-{
-    match part {
-        Part::Number(at, _) => Err(TextFault::UnknownForm(at)),
-        Part::Symbol(_, word) => {
-            if is_defined(context.names, context.functions, word) {
-                Ok(Name::new(alloc, word)?)
-            } else {
-                Err(TextFault::UnknownForm(whole))
-            }
-        }
         Part::List(at, _, _) => Err(TextFault::UnknownForm(at)),
     }
 }

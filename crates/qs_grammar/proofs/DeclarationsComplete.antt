@@ -1,5 +1,5 @@
 -- What has a reading as a declarator, a variable or a declaration is read so, whatever follows that does not go on with it.
-use Rattle.std.proofs.Common.{◌≡◌, ℕ, zero, suc, ◌+◌, ◌<◌, ◌≤◌, max, List, [], ◌∷◌, ◌++◌, length, Result, Ok, refl, sym, ap, ◌∙◌, append_assoc, append-nil, add-one, length-append, Bool, true, false, true≢false, cond, arith, ◌==◌, ◌&&◌}
+use Rattle.std.proofs.Common.{◌≡◌, ℕ, zero, suc, ◌+◌, ◌<◌, ◌≤◌, max, List, [], ◌∷◌, ◌++◌, length, Result, Ok, refl, sym, ap, ◌∙◌, append_assoc, append-nil, add-one, length-append, true, false, true≢false, arith, ◌==◌, ◌&&◌}
 use Rattle.std.proofs.lemmas.Bool.{and_right, false_from_ne_true, ne_eqb}
 use Rattle.qs_syntax.specs.declared.terminal.Terminal.{Terminal}
 use Rattle.qs_syntax.specs.declared.terminal.Terminal.TheVariants.{Name, Punctuator}
@@ -95,9 +95,6 @@ items_of (initialiser_and i is) = i ∷ items_of is
 items_back : (is : Initialisers) → initialisers_of (items_of is) ≡ is
 items_back no_initialisers = refl
 items_back (initialiser_and i is) = ap (initialiser_and i) (items_back is)
-
-abbrev begins_item : List Terminal → Bool
-begins_item ts = cond (starts punctuators.OpenBrace ts) true (begins_one ts)
 
 mutual
   initialiser_positive : {h : ℕ} {ts : List Terminal} {i : InitialiserTree} → ReadsInitialiser h ts i → 0 < h

@@ -175,10 +175,6 @@ high (an_assignment operator at r s) = omega arith
 high (a_plain_assignment r) = high r
 high (a_comma at r s) = omega arith
 
-pub arguments_high : {h : ℕ} {ts : List Terminal} {es : Exprs} → ReadsArguments h ts es → 0 < h
-arguments_high (a_last_argument r) = high r
-arguments_high (an_argument {h = h} at r s) = let one : 0 < h = high r in omega arith
-
 -- ---- an operand that begins with a parenthesis is two high
 
 operator_no_parenthesis : (operator : UnaryOperator) (at : ℕ) (ts : List Terminal) → starts punctuators.OpenParenthesis (Punctuator at (punctuator_of_unary operator) ∷ ts) ≡ false

@@ -19,9 +19,9 @@ use Rattle.qs_syntax.specs.Operators.{punctuator_of_unary, punctuator_of_binary,
 use Rattle.qs_syntax.specs.ReadsTypes.{ReadsTypeName}
 use Rattle.qs_syntax.specs.Reads.{Form, Postfix, Unary, Level, Conditional, Assignment, Expression, place, at_first, ReadsTexts, no_text, a_further_text, Reads, ReadsArguments, a_name, an_empty_call, a_call, a_constant, a_text, in_parentheses, an_index, a_member, an_increment_after, a_decrement_after, a_postfix, an_increment, a_decrement, an_operator, a_size_of_type, a_size_of_value, a_cast, an_operand, stronger, an_operation, a_plain_level, a_choice, a_plain_conditional, an_assignment, a_plain_assignment, a_comma, a_last_argument, an_argument}
 use Rattle.qs_grammar.specs.Heads.{is_punctuator, starts, begins_type, operator_at}
-use Rattle.qs_grammar.specs.Stops.{strength_at, precedence_of, Stops}
+use Rattle.qs_grammar.specs.Stops.{strength_at, Stops}
 use Rattle.qs_grammar.specs.Parse as parse
-use Rattle.qs_grammar.specs.Parse.{Stop, Parse, bind, E, begins_one, begins_cast, texts_from, part, expression}
+use Rattle.qs_grammar.specs.Parse.{Stop, Parse, bind, E, begins_cast, texts_from, part, expression}
 use Rattle.qs_grammar.proofs.HeadsLaws.{punctuator_is, binary_punctuator, binary_strength, assign_punctuator, assign_strength, not_starts, binary_at_strength, assign_at_strength, access_at_strength}
 use Rattle.qs_grammar.proofs.TypesComplete.{finds_type_name, type_name_begins}
 use Rattle.qs_grammar.proofs.ExpressionsBegin.{arguments_no_parenthesis, place_more, no_cast, high, opens_high}
@@ -597,11 +597,3 @@ mutual
 
 pub finds : (n : ℕ) (form : Form) (h : ℕ) (f : List Terminal) (t : ExprTree) → Reads form h f t → h ≤ n → (rest : List Terminal) → Stops form rest → part n form (f ++ rest) ≡ Ok ((t, h), rest)
 finds n form h f t r le rest stop = part_finds form h f t (claim r) (high r) n le rest stop
-
--- tokens have one reading as a form
-pub one_expression : (form : Form) {h k : ℕ} {f : List Terminal} {t u : ExprTree} → precedence_of form < 20 → Reads form h f t → Reads form k f u → (t ≡ u) × (h ≡ k)
-one_expression form {h} {k} {f} {t} {u} lt r s =
-    let first : part (max h k) form (f ++ []) ≡ found t h [] = finds (max h k) form h f t r (omega arith) [] lt in
-    let second : part (max h k) form (f ++ []) ≡ found u k [] = finds (max h k) form k f u s (omega arith) [] lt in
-    let same : ◌≡◌ {A = E × List Terminal} ((t, h), []) ((u, k), []) = cc in
-    (ap (λ (p : E × List Terminal). p.0.0) same, ap (λ (p : E × List Terminal). p.0.1) same)

@@ -14,7 +14,7 @@ use Rattle.qs_syntax.specs.declared.operators.Access.{Access}
 use Rattle.qs_syntax.specs.declared.operators.Access.TheVariants as accesses
 use Rattle.qs_syntax.specs.Operators.{access_of, assign_of, binary_of, number_of, precedence, punctuator_of_access, punctuator_of_assign, punctuator_of_binary, punctuator_of_unary, unary_of}
 use Rattle.qs_base.proofs.KeywordLaws.{same_keyword_exact}
-use Rattle.qs_syntax.proofs.OperatorLaws.{access_of-punctuator, assign_of-punctuator, binary_of-punctuator, punctuator-access_of, punctuator-assign_of, punctuator-binary_of, punctuator-unary_of, unary_of-punctuator}
+use Rattle.qs_syntax.proofs.OperatorLaws.{assign_of-punctuator, binary_of-punctuator, punctuator-access_of, punctuator-assign_of, punctuator-binary_of, punctuator-unary_of, unary_of-punctuator}
 use Rattle.qs_syntax.proofs.PunctuatorLaws.{same_punctuator_exact}
 use Rattle.qs_grammar.specs.Heads.{is_punctuator, is_keyword, starts, starts_with, operator_at}
 use Rattle.qs_grammar.specs.Stops.{punctuator_strength, strength, strength_at}
@@ -34,12 +34,6 @@ keyword_is k (Keyword at l) e = ap (λ j. Keyword at j) ((same_keyword_exact l k
 keyword_is k (Constant at n unsigned) e = absurd cc
 keyword_is k (Text at bytes) e = absurd cc
 keyword_is k (Punctuator at m) e = absurd cc
-
-pub is_punctuator_itself : (m : punctuator.Punctuator) (at : ℕ) → is_punctuator m (Punctuator at m) ≡ true
-is_punctuator_itself m at = (same_punctuator_exact m m).1 refl
-
-pub is_keyword_itself : (k : key.Keyword) (at : ℕ) → is_keyword k (Keyword at k) ≡ true
-is_keyword_itself k at = (same_keyword_exact k k).1 refl
 
 -- the first token is this punctuator
 pub starts_is : (m : punctuator.Punctuator) (ts : List Terminal) → starts m ts ≡ true → (at : ℕ) × (us : List Terminal) × (ts ≡ Punctuator at m ∷ us)
@@ -117,9 +111,6 @@ assign_strength assigns.BitXor = refl
 assign_strength assigns.BitOr = refl
 
 -- ---- accesses
-
-pub access_punctuator : (s : Access) → access_of (punctuator_of_access s) ≡ Some s
-access_punctuator = access_of-punctuator
 
 pub access_is : (m : punctuator.Punctuator) (s : Access) → access_of m ≡ Some s → m ≡ punctuator_of_access s
 access_is m s e = sym (punctuator-access_of m s e)

@@ -1,5 +1,5 @@
 -- The steps of the parser: punctuators, names, tests and room.
-use Rattle.std.proofs.Common.{◌≡◌, ℕ, ◌≤◌, Bool, true, false, cond, List, [], ◌∷◌, ◌++◌, Result, Ok, Err, refl, sym, ap, subst, append_assoc}
+use Rattle.std.proofs.Common.{◌≡◌, ℕ, ◌≤◌, Bool, true, false, cond, List, [], ◌∷◌, ◌++◌, Result, Ok, Err, refl, ap}
 use Rattle.std.specs.Prelude.{nat_le}
 use Rattle.std.proofs.lemmas.Bool.{leb-true}
 use Rattle.qs_syntax.specs.declared.terminal.Terminal.{Terminal}
@@ -10,10 +10,6 @@ use Rattle.qs_grammar.specs.Heads.{is_punctuator}
 use Rattle.qs_grammar.specs.Parse.{Stop, Parse, bind, expect, expect_name}
 use Rattle.qs_grammar.proofs.HeadsLaws.{punctuator_is}
 use Rattle.qs_grammar.proofs.Sound.{Outcome, Sound, Sound-ok, Sound-err, at_end, Sound-after, Sound-token}
-
--- a token and then more
-pub with_token : (Q : List Terminal → Type 0) (done : List Terminal) (t : Terminal) (ts : List Terminal) → Q (done ++ t ∷ ts) → Q ((done ++ t ∷ []) ++ ts)
-with_token Q done t ts q = subst Q (sym (append_assoc done (t ∷ []) ts)) q
 
 module _ {A : Type 0} {R : A → List Terminal → Type 0} where
   pub Sound-ends : (done ts us : List Terminal) (x : A) (front : List Terminal) → ts ≡ front ++ us → R x (done ++ front) → Sound R done ts (Ok (x, us))

@@ -279,9 +279,6 @@ mutual
   claim_items no_item = for_no_item
   claim_items (an_item {h = h} {k = k} {xs = xs} {ys = ys} {s = s} {ss = ss} r q) = for_items h k xs ys s ss r q (claim_item r) (claim_items q)
 
-pub finds_statement : {h : ℕ} {ts : List Terminal} {s : StmtTree} → ReadsStatement h ts s → (n : ℕ) → h ≤ n → (rest : List Terminal) → (is_open s ≡ true → NoElse rest) → statement n (ts ++ rest) ≡ Ok ((s, h), rest)
-finds_statement {h} {ts} {s} r n le rest stop = finds_at h ts s (statement_high r) (claim r) n le rest stop
-
 -- all the items of a block, with the brace behind them
 pub finds_items : {h : ℕ} {ts : List Terminal} {ss : Stmts} → ReadsItems h ts ss → (m : ℕ) → h ≤ m → (c : ℕ) (rest : List Terminal)
     → (sts : List StmtTree) × (stmts_of sts ≡ ss) × (items m (statement m) (length (ts ++ Punctuator c punctuators.CloseBrace ∷ rest)) [] 0 (ts ++ Punctuator c punctuators.CloseBrace ∷ rest) ≡ Items sts h rest)

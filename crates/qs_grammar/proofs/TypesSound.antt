@@ -159,9 +159,6 @@ stars_read ts = by_case (starts punctuators.Star ts) refl
         first_star is.0 is.1 ts (stars_from 0 ts) is.2 (subst (λ l. StarsTaken is.1 1 (stars_from 0 l)) (sym is.2) (stars_from_taken 1 is.1))
     by_case false e = record { front = []; split = refl; is = no_star }
 
-pub sound_stars : (ts : List Terminal) → Sound AreStars [] ts (Ok (stars ts))
-sound_stars ts = let s : StarsRead ts (stars ts) = stars_read ts in Sound-ends [] ts (stars ts).1 (stars ts).0 s.front s.split s.is
-
 pub sound_type_name : (ts : List Terminal) → Sound IsTypeName [] ts (type_name ts)
 unfolding type_name
 sound_type_name ts = Sound-bind _ (sound_type ts)

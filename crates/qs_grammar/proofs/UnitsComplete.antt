@@ -1,5 +1,5 @@
 -- What has a reading as a unit is read so, and has no other reading.
-use Rattle.std.proofs.Common.{◌≡◌, ℕ, zero, suc, ◌+◌, ◌<◌, ◌≤◌, max, List, [], ◌∷◌, ◌++◌, length, Result, Ok, Err, Some, None, refl, sym, ap, ◌∙◌, append_assoc, append-nil, add-one, length-append, false, arith}
+use Rattle.std.proofs.Common.{◌≡◌, ℕ, zero, suc, ◌+◌, ◌<◌, ◌≤◌, max, List, [], ◌∷◌, ◌++◌, length, Result, Ok, Some, None, refl, sym, ap, ◌∙◌, append_assoc, append-nil, add-one, length-append, false, arith}
 use Rattle.std.proofs.lemmas.Bool.{or_parts}
 use Rattle.qs_syntax.specs.declared.terminal.Terminal.{Terminal}
 use Rattle.qs_syntax.specs.declared.terminal.Terminal.TheVariants.{Name, Keyword, Punctuator}
@@ -7,7 +7,7 @@ use Rattle.qs_base.specs.declared.keyword.Keyword.TheVariants as keywords
 use Rattle.qs_syntax.specs.declared.punctuator.Punctuator as punctuator
 use Rattle.qs_syntax.specs.declared.punctuator.Punctuator.TheVariants as punctuators
 use Rattle.qs_syntax.specs.declared.types.Base.{Base}
-use Rattle.qs_syntax.specs.Trees.{unnumbered, LengthsTree, DeclaratorTree, MembersTree, ParameterTree, VariableTree, DeclarationTree, Stmts, StmtTree, stmts_of, DeclTree, structure, forward, function}
+use Rattle.qs_syntax.specs.Trees.{unnumbered, LengthsTree, DeclaratorTree, MembersTree, ParameterTree, VariableTree, Stmts, DeclTree, structure, forward, function}
 use Rattle.qs_syntax.specs.Trees as trees
 use Rattle.qs_syntax.specs.ReadsTypes.{ReadsConsts, no_const, a_const, ReadsPrefixes, no_prefix, a_const_prefix, a_static_prefix, ReadsBase, a_void, an_int, a_char, an_unsigned, an_unsigned_int, an_unsigned_char, a_signed, a_signed_int, a_struct, ReadsOuterType, an_outer_type, ReadsStars, no_star, a_star}
 use Rattle.qs_syntax.specs.Reads.{place}
@@ -230,10 +230,6 @@ pub finds_unit : (k h : ℕ) (ts : List Terminal) (ds : List DeclTree) → Reads
 unfolding unit
 finds_unit k h ts ds r le = finds_externals r k (length ts) le (omega arith) [] 0 ∙ ap (λ (j : ℕ). Items ds j []) (from_zero h)
 
--- what has a reading of at most 128 levels is read so
-pub finds_whole : (ts : List Terminal) (ds : List DeclTree) (h : ℕ) → ReadsUnit h ts ds → h ≤ 128 → unit 126 ts ≡ Ok ((ds, h), [])
-finds_whole ts ds h r le = finds_unit 126 h ts ds r le
-
 same_answer : (x y : List DeclTree × ℕ) (r : Result ((List DeclTree × ℕ) × List Terminal) Stop) → r ≡ Ok (x, []) → r ≡ Ok (y, []) → x ≡ y
 same_answer x y r p q = let pair : ◌≡◌ {A = (List DeclTree × ℕ) × List Terminal} (x, []) (y, []) = cc in ap (λ (p : (List DeclTree × ℕ) × List Terminal). p.0) pair
 
@@ -242,7 +238,3 @@ pub one_reading : (ts : List Terminal) (ds es : List DeclTree) (h k : ℕ) → R
 one_reading ts ds es h k p q =
     let same : ◌≡◌ {A = List DeclTree × ℕ} (ds, h) (es, k) = same_answer (ds, h) (es, k) (unit (max h k) ts) (finds_unit (max h k) h ts ds p (omega arith)) (finds_unit (max h k) k ts es q (omega arith)) in
     (ap (λ (p : List DeclTree × ℕ). p.0) same, ap (λ (p : List DeclTree × ℕ). p.1) same)
-
--- what is refused has no reading of at most 128 levels
-pub refuses_whole : (ts : List Terminal) (stop : Stop) → unit 126 ts ≡ Err stop → (ds : List DeclTree) (h : ℕ) → ReadsUnit h ts ds → h ≤ 128 → ⊥
-refuses_whole ts stop e ds h r le = let found = finds_whole ts ds h r le in absurd cc

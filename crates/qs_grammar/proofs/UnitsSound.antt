@@ -1,5 +1,5 @@
 -- What is read as a unit has that reading, and all of the tokens are read.
-use Rattle.std.proofs.Common.{◌≡◌, ℕ, zero, suc, ◌+◌, ◌≤◌, max, List, [], ◌∷◌, ◌++◌, length, Result, Ok, Err, Some, None, refl, sym, ap, subst, ◌∙◌, append_assoc, append-nil, add-one, Bool, true, false, cond, arith, ◌&&◌}
+use Rattle.std.proofs.Common.{◌≡◌, ℕ, zero, suc, ◌+◌, ◌≤◌, max, List, [], ◌∷◌, ◌++◌, length, Ok, Err, Some, None, refl, sym, ap, subst, ◌∙◌, append_assoc, append-nil, add-one, Bool, true, false, cond, arith, ◌&&◌}
 use Rattle.std.proofs.lemmas.Bool.{and_parts}
 use Rattle.qs_syntax.specs.declared.terminal.Terminal.{Terminal}
 use Rattle.qs_syntax.specs.declared.terminal.Terminal.TheVariants.{Name, Keyword, Punctuator}
@@ -7,14 +7,14 @@ use Rattle.qs_base.specs.declared.keyword.Keyword.TheVariants as keywords
 use Rattle.qs_syntax.specs.declared.punctuator.Punctuator.TheVariants as punctuators
 use Rattle.qs_syntax.specs.declared.types.Base.{Base}
 use Rattle.qs_syntax.specs.Operators.{number_of}
-use Rattle.qs_syntax.specs.Trees.{unnumbered, MembersTree, ParameterTree, DeclarationTree, StmtTree, stmts_of, DeclTree, structure, forward, function}
+use Rattle.qs_syntax.specs.Trees.{unnumbered, MembersTree, ParameterTree, DeclarationTree, StmtTree, stmts_of, DeclTree, structure, function}
 use Rattle.qs_syntax.specs.Trees as trees
 use Rattle.qs_syntax.specs.ReadsTypes.{ReadsPrefixes, no_prefix, a_const_prefix, a_static_prefix, ReadsOuterType, an_outer_type, ReadsStars}
 use Rattle.qs_syntax.specs.Reads.{place}
 use Rattle.qs_syntax.specs.ReadsDeclarations.{ReadsAllMembers, an_outer_declaration}
 use Rattle.qs_syntax.specs.ReadsUnits.{ReadsExternal, a_struct_with_members, a_forward, a_header, a_definition, some_variables, ReadsUnit, a_last_external, an_external}
 use Rattle.qs_grammar.specs.Heads.{is_keyword, starts}
-use Rattle.qs_grammar.specs.Parse.{Stop, left_of, Parse, bind, skip_consts, stars}
+use Rattle.qs_grammar.specs.Parse.{Stop, left_of, skip_consts, stars}
 use Rattle.qs_grammar.specs.ParseDeclarations.{skip_prefixes, outer_type}
 use Rattle.qs_grammar.specs.ParseStatements.{statement, is_named, struct_of, forward_of, body_of, function_of, typed, external, is_empty, externals, unit}
 use Rattle.qs_grammar.proofs.HeadsLaws.{keyword_is}
@@ -159,28 +159,6 @@ sound_unit k ts = Sound-mono (unit_read k) (sound_externals k (length ts) [] 0 t
 -- a fault stands at one of the tokens or at their end
 pub stops_within : (ts : List Terminal) (stop : Stop) → unit 126 ts ≡ Err stop → left_of stop ≤ length ts
 stops_within ts stop e = rw e at (sound_unit 126 ts).is
-
--- nothing is left behind a unit
-abbrev LeavesNothing : {A : Type 0} → Result (A × List Terminal) Stop → Type 0
-LeavesNothing (Ok x) = x.1 ≡ []
-LeavesNothing (Err e) = Unit {0}
-
-leaves_bind : {A B : Type 0} (r : Result (A × List Terminal) Stop) (f : A → Parse B) → ((x : A) (us : List Terminal) → LeavesNothing (f x us)) → LeavesNothing (bind r f)
-leaves_bind (Ok x) f h = h x.0 x.1
-leaves_bind (Err e) f h = tt
-
-leaves_if_empty : {A : Type 0} (x : A) (us : List Terminal) (r : Result (A × List Terminal) Stop) → LeavesNothing r → LeavesNothing (cond (is_empty us) (Ok (x, us)) r)
-leaves_if_empty x [] r h = refl
-leaves_if_empty x (u ∷ us) r h = h
-
-externals_leave_nothing : (k n : ℕ) (done : List DeclTree) (h : ℕ) (ts : List Terminal) → LeavesNothing (externals k n done h ts)
-unfolding externals
-externals_leave_nothing k zero done h ts = tt
-externals_leave_nothing k (suc n) done h ts = leaves_bind (external k ts) _ (λ d us. leaves_if_empty _ us _ (externals_leave_nothing k n (done ++ d.0 ∷ []) (max h d.1) us))
-
-pub unit_leaves_nothing : (k : ℕ) (ts : List Terminal) (x : List DeclTree × ℕ) (rest : List Terminal) → unit k ts ≡ Ok (x, rest) → rest ≡ []
-unfolding unit
-unit_leaves_nothing k ts x rest e = rw e at (externals_leave_nothing k (length ts) [] 0 ts)
 
 -- what is read as a whole unit, with 128 levels, has that reading
 pub reads_whole : (ts : List Terminal) (ds : List DeclTree) (h : ℕ) → unit 126 ts ≡ Ok ((ds, h), []) → ReadsUnit h ts ds × (h ≤ 128)

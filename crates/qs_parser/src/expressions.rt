@@ -230,9 +230,7 @@ fn primary(context: Context, tokens: &[Terminal]) -> Result<(Expr, u32, &[Termin
                 is_unsigned,
             },
             rest @ ..,
-        ] => {
-            Ok((nodes::constant(*at, *value, *is_unsigned), 1, rest))
-        }
+        ] => Ok((nodes::constant(*at, *value, *is_unsigned), 1, rest)),
         [Terminal::Text(at, first), rest @ ..] => {
             let (text, rest) = texts_from(context.alloc, first, rest)?;
             Ok((nodes::text(*at, text), 1, rest))

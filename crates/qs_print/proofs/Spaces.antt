@@ -1,7 +1,7 @@
 -- Terminals that are written one behind the other.
-use Rattle.std.proofs.Common.{◌≡◌, ℕ, zero, suc, Bool, true, false, Result, Ok, Err, subst, arith, ◌∙◌, ◌+◌, ◌-◌, ◌<◌, ◌≤◌, List, [], ◌∷◌, ◌++◌, length, take, get_or, map, flat_map, refl, sym, ap, append_assoc, append-nil, add-one, length-append}
+use Rattle.std.proofs.Common.{◌≡◌, ℕ, zero, suc, Bool, true, false, Result, Ok, Err, subst, arith, ◌∙◌, ◌+◌, ◌-◌, ◌<◌, List, [], ◌∷◌, ◌++◌, length, take, get_or, map, flat_map, refl, sym, ap, append_assoc, append-nil, add-one, length-append}
 use Rattle.std.proofs.Math.Seq.{take-append_seam, take-suc}
-use Rattle.std.proofs.lemmas.List.{length-map, length-take, map-append, take_all}
+use Rattle.std.proofs.lemmas.List.{length-map, length-take, map-append}
 use Rattle.std.proofs.lemmas.Grind.{flat_map-append}
 use Rattle.std.specs.Prelude.{OnOk}
 use Rattle.qs_syntax.specs.declared.terminal.Terminal.{Terminal}
@@ -35,10 +35,6 @@ pub row_more : {A B : Type 0} (printed : B → List Terminal) (view : A → B) (
 row_more printed view xs i x {w} {a} {b} lt is p q =
     rw (add-one i, take-suc xs i x lt, ← is, map-append view (take i xs) (x ∷ []), flat_map-append printed (map view (take i xs)) (view x ∷ []), append-nil (printed (view x))) (in_turn p q)
 
-pub row_all : {A B : Type 0} (printed : B → List Terminal) (view : A → B) (xs : List A) (i : ℕ) {w a : List ℕ}
-    → length xs ≤ i → Writes w (flat_map printed (map view (take i xs))) a → Writes w (flat_map printed (map view xs)) a
-row_all printed view xs i {w} {a} le p = subst (λ l. Writes w (flat_map printed (map view l)) a) (take_all i xs le) p
-
 with_commas-snoc : {B : Type 0} (printed : B → List Terminal) (ys : List B) (x : B) → 0 < length ys → with_commas printed (ys ++ x ∷ []) ≡ with_commas printed ys ++ Punctuator 0 punctuators.Comma ∷ printed x
 with_commas-snoc printed [] x lt = absurd (omega arith)
 with_commas-snoc printed (y ∷ ys) x lt =
@@ -56,10 +52,6 @@ commas_more printed view xs i x false {w} {a} {b} {c} lt is zero_at later p q r 
     let k : length (map view (take i xs)) ≡ length (take i xs) = length-map (take i xs) view in
     let n : 0 < length (map view (take i xs)) = omega (arith, later refl, k, length-take i xs) in
     rw (add-one i, take-suc xs i x lt, ← is, map-append view (take i xs) (x ∷ []), with_commas-snoc printed (map view (take i xs)) (view x) n) (in_turn p (in_turn q r))
-
-pub commas_all : {A B : Type 0} (printed : B → List Terminal) (view : A → B) (xs : List A) (i : ℕ) {w a : List ℕ}
-    → length xs ≤ i → Writes w (with_commas printed (map view (take i xs))) a → Writes w (with_commas printed (map view xs)) a
-commas_all printed view xs i {w} {a} le p = subst (λ l. Writes w (with_commas printed (map view l)) a) (take_all i xs le) p
 
 -- ---- trees that are lists
 

@@ -21,9 +21,12 @@ line (part ∷ parts) = part ++ line parts
 abbrev pub line_at : List ℕ → Pos → List ℕ → List ℕ
 line_at file pos text = line (file ∷ codes ":" ∷ decimal pos.line ∷ codes ":" ∷ decimal pos.column ∷ codes ": " ∷ text ∷ [])
 
--- the same, with a text of two parts
+-- the same, with the digits of the line and of the column, and a text of two parts
+abbrev pub place_line : List ℕ → List ℕ → List ℕ → List ℕ → List ℕ → List ℕ
+place_line file number column text more = line (file ∷ codes ":" ∷ number ∷ codes ":" ∷ column ∷ codes ": " ∷ text ∷ more ∷ [])
+
 abbrev pub both_at : List ℕ → Pos → List ℕ → List ℕ → List ℕ
-both_at file pos text more = line (file ∷ codes ":" ∷ decimal pos.line ∷ codes ":" ∷ decimal pos.column ∷ codes ": " ∷ text ∷ more ∷ [])
+both_at file pos text more = place_line file (decimal pos.line) (decimal pos.column) text more
 
 -- a number between two texts
 abbrev pub between_line : List ℕ → ℕ → List ℕ → List ℕ

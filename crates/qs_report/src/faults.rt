@@ -1,7 +1,7 @@
 // The lines of faults.
 ghost use Rattle.qs_ports.specs.SinkView.{PutsOn};
 ghost use Rattle.qs_report.specs.Words.{rule_text};
-ghost use Rattle.qs_report.specs.Lines.{both_at, line_at, fault_line};
+ghost use Rattle.qs_report.specs.Lines.{both_at, fault_line, line_at, place_line};
 ghost use Rattle.qs_report.specs.Lines.{argument_line, arguments_line, image_count_line};
 ghost use Rattle.qs_report.specs.Lines.{image_line, trap_line};
 
@@ -15,6 +15,24 @@ use itoa::Buffer;
 use qs_base::Pos;
 use qs_ports::{Sink, SinkFault};
 use qs_types::Rule;
+
+// Puts a line at a line and a column of a file, whose text has two parts.
+fn put_place<K: Sink>(
+    log: &mut K,
+    file: &[u8],
+    number: &[u8],
+    column: &[u8],
+    text: &[u8],
+    more: &[u8],
+) -> Result<(), SinkFault>
+    ensures { PutsOn K.view log.old log.new
+        (place_line file.now number.now column.now text.now more.now) result }
+{
+    put_parts(
+        log,
+        &[file, b":", number, b":", column, b": ", text, more, b"\n"],
+    )
+}
 
 // Puts a line at a place of a file, whose text has two parts.
 fn put_both_at<K: Sink>(
@@ -30,10 +48,7 @@ fn put_both_at<K: Sink>(
     let mut columns = Buffer::new();
     let number = lines.format(pos.line).as_bytes();
     let column = columns.format(pos.column).as_bytes();
-    put_parts(
-        log,
-        &[file, b":", number, b":", column, b": ", text, more, b"\n"],
-    )
+    put_place(log, file, number, column, text, more)
 }
 
 // Puts a line at a place of a file.

@@ -9,7 +9,6 @@ use Rattle.qs_calls.specs.declared.callee.Callee.{Callee}
 use Rattle.qs_core.specs.Trees.{CoreStmtTree, copy}
 use Rattle.qs_core.specs.TreeOf.{core_expr}
 use Rattle.qs_core.specs.declared.expressions.CoreExpr.{CoreExpr}
-use Rattle.qs_core.specs.declared.numbers.Target.{Target}
 use Rattle.qs_tac.specs.declared.instruction.Instruction.{Instruction}
 use Rattle.qs_tac.specs.Trees.{InstructionTree}
 use Rattle.qs_lower.specs.Expressions.{ExprCode}
@@ -193,7 +192,7 @@ copy_code t size alignment to from = of_copy t size alignment (expr_code to) (ex
 abbrev pub fill_code : (t : ℕ) → Blank → (to : ExprPlan) → StmtCode
 fill_code t blank to = of_fill t (blank_tree blank) (expr_code to)
 
-abbrev pub call_code : (t : ℕ) → Option Target → Callee → List ExprPlan → StmtCode
+abbrev pub call_code : (t : ℕ) → Option ℕ → Callee → List ExprPlan → StmtCode
 call_code t x f arguments = of_call t x f (expr_codes arguments)
 
 -- ---- what is put behind code

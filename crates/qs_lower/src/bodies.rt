@@ -1,5 +1,5 @@
 // The plans of the statements of core.
-ghost use Rattle.std.specs.Prelude.{◌≡◌, IfOk, map};
+ghost use Rattle.std.specs.Prelude.{IfOk};
 ghost use Rattle.qs_core.specs.Trees as core;
 ghost use Rattle.qs_core.specs.Trees.{stmts_of};
 ghost use Rattle.qs_core.specs.TreeOf.{core_expr, core_exprs, core_stmt, core_stmts};

@@ -1,7 +1,6 @@
 // The code of plans.
-ghost use Rattle.std.specs.Prelude.{◌≡◌, ◌+◌, [], ◌∷◌, ◌++◌, true, false, OnOk, length};
+ghost use Rattle.std.specs.Prelude.{◌≡◌, ◌+◌, true, false, OnOk};
 ghost use Rattle.qs_tac.specs.TreeOf.{instruction_tree};
-ghost use Rattle.qs_lower.specs.Exits as exits;
 ghost use Rattle.qs_lower.specs.Expressions as spec;
 ghost use Rattle.qs_lower.specs.Plans.{expr_code, number_code, Emits, EmitsAt, EmitsTest, Grows};
 ghost use Rattle.qs_lower.specs.Plans.{GrowsByTest, GrowsByValue, TestsValue, binary_code};

@@ -1,8 +1,8 @@
 // Where code goes on, and the jumps and branches that take it there.
-ghost use Rattle.std.specs.Prelude.{◌≡◌, ◌+◌, [], ◌∷◌, OnOk, length};
+ghost use Rattle.std.specs.Prelude.{◌≡◌, [], ◌∷◌, OnOk};
 ghost use Rattle.qs_tac.specs.TreeOf.{instruction_tree};
 ghost use Rattle.qs_lower.specs.Exits as spec;
-ghost use Rattle.qs_lower.specs.Expressions.{known_size, known_code};
+ghost use Rattle.qs_lower.specs.Expressions.{known_size};
 ghost use Rattle.qs_lower.specs.Plans.{exit_tree, Emits, EmitsBranch, EmitsKnown, Grows};
 ghost use Rattle.qs_lower.specs.Plans.{GrowsByBranch, GrowsByKnown, does_fall};
 

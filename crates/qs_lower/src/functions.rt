@@ -1,10 +1,9 @@
 // The linear code of the functions of a unit.
-ghost use Rattle.std.specs.Prelude.{◌≡◌, IfOk, OnOk, map};
+ghost use Rattle.std.specs.Prelude.{◌≡◌, IfOk, OnOk};
 ghost use Rattle.qs_core.specs.TreeOf as core;
-ghost use Rattle.qs_tac.specs.TreeOf.{function_tree, instruction_tree};
+ghost use Rattle.qs_tac.specs.TreeOf.{function_tree};
 ghost use Rattle.qs_lower.specs.Plans.{Emits, HasCode};
 ghost use Rattle.qs_lower.specs.StmtPlans.{stmt_part};
-ghost use Rattle.qs_lower.specs.Threads.{threaded_function};
 ghost use Rattle.qs_lower.specs.Units as spec;
 
 use crate::bodies::body_plan;

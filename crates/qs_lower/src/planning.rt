@@ -1,8 +1,6 @@
 // Planning the code of expressions: each form of core becomes what the definition of its code says.
 ghost use Rattle.std.specs.Prelude.{◌≡◌, IfOk, Some, None};
-ghost use Rattle.qs_core.specs.Trees as core;
 ghost use Rattle.qs_core.specs.TreeOf.{core_expr};
-ghost use Rattle.qs_lower.specs.Operands as operands;
 ghost use Rattle.qs_lower.specs.Expressions as spec;
 ghost use Rattle.qs_lower.specs.Plans.{expr_code, index_offset, of_plain_operation, word_of};
 ghost use Rattle.qs_lower.specs.Plans.{IsPlanIn, IsPlanOf, and_of, binary_of, conditional_code};

@@ -1,5 +1,5 @@
 // How many temporaries the code of a plan takes besides those of the function.
-ghost use Rattle.std.specs.Prelude.{◌≡◌, ◌+◌, IfOk, max};
+ghost use Rattle.std.specs.Prelude.{◌≡◌, IfOk};
 ghost use Rattle.qs_lower.specs.Expressions as spec;
 ghost use Rattle.qs_lower.specs.Plans.{expr_code, element_used, started_code, tests_used};
 

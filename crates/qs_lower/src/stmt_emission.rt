@@ -1,14 +1,12 @@
 // The code of statements.
-ghost use Rattle.std.specs.Prelude.{◌≡◌, ◌+◌, ◌++◌, None, OnOk, length, map};
-ghost use Rattle.qs_memory.specs.BlankOf.{blank_tree};
+ghost use Rattle.std.specs.Prelude.{◌≡◌, ◌+◌, ◌++◌, None, OnOk};
 ghost use Rattle.qs_lower.specs.Expressions as spec;
 ghost use Rattle.qs_lower.specs.Plans.{EmitsAt, Grows, expr_codes};
-ghost use Rattle.qs_lower.specs.Statements as statements;
 ghost use Rattle.qs_lower.specs.StmtPlans.{stmt_part, branch_part, loop_part, tested_part};
 ghost use Rattle.qs_lower.specs.StmtPlans.{EmitsBefore, EmitsCopy, EmitsPart, EmitsTo, GrowsByCopy};
 ghost use Rattle.qs_lower.specs.StmtPlans.{GrowsByPart, GrowsTo, call_code, fill_code};
 ghost use Rattle.qs_lower.specs.StmtPlans.{sizes_before, stmt_parts, store_code};
-ghost use Rattle.qs_lower.specs.Ways.{exits_tree, only};
+ghost use Rattle.qs_lower.specs.Ways.{exits_tree};
 ghost use Rattle.qs_lower.specs.Expressions.{all_operands};
 
 use crate::addresses::{address_at, operand_of};

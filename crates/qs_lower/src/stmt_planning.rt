@@ -1,7 +1,6 @@
 // Planning the code of statements: each form of core becomes what the definition of its code says.
-ghost use Rattle.std.specs.Prelude.{◌≡◌, IfOk, IsSome, map};
+ghost use Rattle.std.specs.Prelude.{◌≡◌, IfOk, IsSome};
 ghost use Rattle.qs_core.specs.TreeOf.{core_exprs};
-ghost use Rattle.qs_lower.specs.Expressions as expressions;
 ghost use Rattle.qs_lower.specs.Plans.{ArePlansIn};
 ghost use Rattle.qs_lower.specs.Statements as spec;
 ghost use Rattle.qs_lower.specs.StmtPlans.{stmt_part, all_before, all_joined, IsStmtPlanOf};

@@ -1,6 +1,5 @@
 // What lowering decides on a statement, before its code is emitted.
-ghost use Rattle.std.specs.Prelude.{◌≡◌, IfOk, IfSome, IsSome, Some, map};
-ghost use Rattle.qs_lower.specs.Statements as statements;
+ghost use Rattle.std.specs.Prelude.{◌≡◌, IfOk, IfSome, IsSome, Some};
 ghost use Rattle.qs_lower.specs.StmtPlans.{stmt_part, branch_part, idle_of, some_breaks, test_in};
 ghost use Rattle.qs_lower.specs.StmtPlans.{stmt_parts, test_at_end, tested_parts};
 ghost use Rattle.qs_lower.specs.Ways.{option_way, way_tree};

@@ -1,5 +1,5 @@
 // How many temporaries the code of a statement takes besides those of the function.
-ghost use Rattle.std.specs.Prelude.{◌≡◌, IfOk, map};
+ghost use Rattle.std.specs.Prelude.{◌≡◌, IfOk};
 ghost use Rattle.qs_lower.specs.Expressions as spec;
 ghost use Rattle.qs_lower.specs.Plans.{expr_codes};
 ghost use Rattle.qs_lower.specs.StmtPlans.{stmt_part, most_used, stmt_parts};

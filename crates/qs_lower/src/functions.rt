@@ -5,6 +5,7 @@ ghost use Rattle.qs_tac.specs.TreeOf.{function_tree};
 ghost use Rattle.qs_lower.specs.Plans.{Emits, HasCode};
 ghost use Rattle.qs_lower.specs.StmtPlans.{stmt_part};
 ghost use Rattle.qs_lower.specs.Units as spec;
+ghost use Rattle.qs_lower.specs.Units.{lowered_function};
 
 use crate::bodies::body_plan;
 use crate::exits::{Exit, put};
@@ -61,7 +62,7 @@ fn body_code(alloc: Global, body: &StmtPlan) -> Result<Vec<Instruction>, NoMemor
 
 /// The linear code of a function.
 pub fn lower_function(alloc: Global, f: &CoreFunction) -> Result<TacFunction, NoMemory>
-    ensures { IfOk result (λ r. function_tree r ≡ spec.lowered_function (core.function_tree f.now)) }
+    ensures { IfOk result (λ r. function_tree r ≡ lowered_function (core.function_tree f.now)) }
 {
     let v = count(f.variables.len())?;
     let free = sum(v, count(f.temporaries.len())?)?;

@@ -79,7 +79,7 @@ fn of_member(alloc: Global, bytes: u32, a: ExprPlan) -> Result<ExprPlan, NoMemor
     }
 }
 
-#[tactic(auto, using(crate::proofs::PlanLaws::element_first, crate::proofs::PlanLaws::element_again))]
+#[tactic(auto, using(crate::proofs::PlanLaws::element_cases))]
 fn of_element(
     alloc: Global,
     s: Signedness,

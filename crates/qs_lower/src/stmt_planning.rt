@@ -139,7 +139,7 @@ fn tested_loop(
 }
 
 /// A body and a step, again and again.
-#[tactic(auto, using(crate::proofs::StmtPlanLaws::plain_is, crate::proofs::StmtPlanLaws::alone_is, crate::proofs::StmtPlanLaws::tested_is, crate::proofs::StmtPlanLaws::has_test))]
+#[tactic(auto, using(crate::proofs::StmtPlanLaws::loop_cases))]
 pub fn of_loop(
     alloc: Global,
     free: u32,

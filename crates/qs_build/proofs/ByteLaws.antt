@@ -188,3 +188,5 @@ next_block blocks i d is lt =
 -- addresses that are the same give the same bytes
 pub same_data : (address_of other : ℕ → ℕ) (m : Memory) → ((block : ℕ) → address_of block ≡ other block) → data_bytes address_of m ≡ data_bytes other m
 same_data address_of other m h = ap (λ (f : ℕ → ℕ). data_bytes f m) (fun_ext h)
+
+pub ruleset gap_cases = (no_gap, some_gap)

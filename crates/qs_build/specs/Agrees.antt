@@ -14,7 +14,7 @@ use Rattle.qs_machine.specs.Run.{machine, least_stack_pointer}
 use Rattle.qs_emit.specs.Agree.{Agree, Accounts}
 use Rattle.qs_emit.specs.Images.{AreCosts}
 use Rattle.qs_emit.specs.Emitted.{Emitted}
-use Rattle.qs_build.specs.Units.{linear}
+use Rattle.qs_build.specs.Units.{linear, MainReturns}
 
 -- whole numbers as main's arguments
 abbrev pub values_of : List ℤ → List Value
@@ -49,3 +49,6 @@ pub record AgreesWithCore (u : CoreUnitTree) (image : Image) : Type 0 where
 pub record DoesAsCore (u : CoreUnitTree) (image : Image) : Type 0 where
   pub agrees : AgreesWithCore u image
   pub emitted : Emitted (linear u) (initial_memory u) image
+
+abbrev pub AgreesWhereMainReturns : CoreUnitTree → Image → Type 0
+AgreesWhereMainReturns u image = MainReturns u → DoesAsCore u image

@@ -8,5 +8,6 @@ pub mod Code
 pub mod Faults
 pub mod Limits
 pub mod Parts
+pub mod Program
 pub mod Laws
 pub mod Small

@@ -3,6 +3,7 @@ use Rattle.std.specs.Prelude.{◌≡◌, ℕ, ◌+◌, ◌<◌, ◌≤◌, List,
 use Rattle.qs_asm.specs.Items.{item_words}
 use Rattle.qs_asm.specs.Counting.{reached_words}
 use Rattle.qs_core.specs.Trees.{CoreFunctionTree, CoreUnitTree}
+pub use Rattle.qs_image.specs.Limits.{most_functions, most_name_bytes}
 use Rattle.qs_select.specs.Limits.{first_fault}
 use Rattle.qs_select.specs.declared.fault.SelectionFault.{SelectionFault}
 use Rattle.qs_select.specs.declared.fault.SelectionFault.TheVariants as selection
@@ -11,12 +12,6 @@ use Rattle.qs_build.specs.Units.{linear, own_slots}
 use Rattle.qs_build.specs.declared.fault.BuildFault.{BuildFault}
 use Rattle.qs_build.specs.declared.fault.BuildFault.TheVariants.{NoMemory, TooManyFunctions, NamesTooLong, TooManyParameters, FrameTooLarge, DataTooLarge, CodeTooLong}
 
-abbrev pub most_functions : ℕ
-most_functions = 512
-
-abbrev pub most_name_bytes : ℕ
-most_name_bytes = 1048576
-
 -- the bytes of names together
 abbrev pub bytes_of_names : List CoreFunctionTree → ℕ
 bytes_of_names [] = 0
@@ -24,6 +19,12 @@ bytes_of_names (f ∷ functions) = length f.name + bytes_of_names functions
 
 abbrev pub name_bytes : CoreUnitTree → ℕ
 name_bytes u = bytes_of_names u.functions
+
+abbrev pub HasFewFunctions : CoreUnitTree → Type 0
+HasFewFunctions u = length u.functions ≤ most_functions
+
+abbrev pub HasShortNames : CoreUnitTree → Type 0
+HasShortNames u = name_bytes u ≤ most_name_bytes
 
 abbrev pub code_words : CoreUnitTree → ℕ
 code_words u = sum_by item_words (items_of (linear u) (own_slots (linear u)))

@@ -9,17 +9,22 @@ use Rattle.qs_tac.specs.Places.{PlacesTree}
 use Rattle.qs_select.specs.Limits.{first_fault}
 use Rattle.qs_emit.specs.Relation.{data_address}
 use Rattle.qs_emit.specs.Images.{items_of, data_bytes}
+use Rattle.qs_build.specs.Units.{linear, own_slots}
 use Rattle.qs_build.specs.Records.{HaveRecords}
-use Rattle.qs_build.specs.Limits.{most_functions, most_name_bytes, name_bytes}
+use Rattle.qs_build.specs.Limits.{HasFewFunctions, HasShortNames}
 
 -- a unit's records, code and data, by its linear code and the places of its values; it passes no size
 pub record AreParts (u : CoreUnitTree) (t : TacUnitTree) (ps : List PlacesTree) (functions : List FunctionRecord)
     (code bytes : List ℕ) : Type 0 where
-  pub few : length u.functions ≤ most_functions
-  pub short : name_bytes u ≤ most_name_bytes
+  pub few : HasFewFunctions u
+  pub short : HasShortNames u
   pub free : first_fault t ps ≡ None
   pub records : HaveRecords u.functions t.functions ps (items_of t ps) functions
   pub assembly : IsAssembly (items_of t ps) code
   pub reached : length code ≤ 2 ^ 18
   pub words : All (λ word. word < 2 ^ 32) code
   pub octets : bytes ≡ data_bytes (data_address t.data_blocks) (initial_memory u)
+
+-- with each value in a slot of its own
+abbrev pub ArePartsOf : CoreUnitTree → (functions : List FunctionRecord) → (code bytes : List ℕ) → Type 0
+ArePartsOf u functions code bytes = AreParts u (linear u) (own_slots (linear u)) functions code bytes

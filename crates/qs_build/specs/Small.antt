@@ -9,7 +9,7 @@ use Rattle.qs_lower.specs.WordLaws.{IsInReach}
 use Rattle.qs_frames.specs.Layout.{total}
 use Rattle.qs_select.specs.Limits.{largest_data}
 use Rattle.qs_build.specs.Units.{most_parameters}
-use Rattle.qs_build.specs.Limits.{most_functions, most_name_bytes, name_bytes, Passes}
+use Rattle.qs_build.specs.Limits.{HasFewFunctions, HasShortNames, Passes}
 use Rattle.qs_build.specs.declared.fault.BuildFault.{BuildFault}
 use Rattle.qs_build.specs.declared.fault.BuildFault.TheVariants.{NoMemory}
 
@@ -21,8 +21,8 @@ abbrev pub most_values : ℕ
 most_values = 2 ^ 24
 
 pub record IsSmall (u : CoreUnitTree) : Type 0 where
-  pub functions : length u.functions ≤ most_functions
-  pub names : name_bytes u ≤ most_name_bytes
+  pub functions : HasFewFunctions u
+  pub names : HasShortNames u
   pub parameters : All (λ f. length f.parameters ≤ most_parameters) u.functions
   pub blocks : All (λ f. total f.blocks ≤ most_block_bytes) u.functions
   pub values : All (λ f. values f ≤ most_values) u.functions

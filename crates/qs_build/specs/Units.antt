@@ -15,6 +15,7 @@ use Rattle.qs_core.specs.Interfaces.{parameter_types, interface_of}
 use Rattle.qs_tac.specs.Trees.{TacUnitTree}
 use Rattle.qs_tac.specs.Places.{PlacesTree, all_slots}
 use Rattle.qs_lower.specs.Units.{lower_unit}
+pub use Rattle.qs_image.specs.Limits.{most_parameters}
 use Rattle.qs_machine.specs.State.{stack_limit}
 use Rattle.qs_emit.specs.Relation.{cost_at}
 
@@ -42,11 +43,7 @@ set_of (s ∷ types) = (if same_scalar s scalars.Unsigned then 1 else 0) + 2 * s
 
 -- ---- what has an image
 
--- eight arguments have registers
-abbrev pub most_parameters : ℕ
-most_parameters = 8
-
--- no function has more parameters, nor a frame of more than 2 ^ 28 bytes
+-- no function has more parameters than main may have, nor a frame of more bytes than the largest stack
 pub record IsWithinSizes (u : CoreUnitTree) : Type 0 where
   pub parameters : All (λ f. length f.parameters ≤ most_parameters) u.functions
   pub frames : (f : ℕ) → f < length u.functions → cost_at (linear u) (own_slots (linear u)) f ≤ stack_limit

@@ -1,22 +1,22 @@
 // The image of a unit of core.
-ghost use Rattle.std.specs.Prelude.{◌≡◌, ◌<◌, ◌≤◌, ◌^◌, All, IfOk, IfErr, map, length, nat_le};
-ghost use Rattle.std.specs.Prelude.{true};
+ghost use Rattle.std.specs.Prelude.{◌≡◌, ◌<◌, ◌≤◌, ◌^◌, All, IfOk, IfErr, length, nat_le, true};
 ghost use Rattle.qs_core.specs.UnitTrees as core;
-ghost use Rattle.qs_core.specs.TreeOf.{function_tree};
-ghost use Rattle.qs_core.specs.Units.{initial_memory};
+ghost use Rattle.qs_core.specs.TreeOf.{function_trees};
 ghost use Rattle.qs_tac.specs.UnitTrees as tac;
-ghost use Rattle.qs_tac.specs.Places.{places_tree};
+ghost use Rattle.qs_tac.specs.Places.{places_trees};
 ghost use Rattle.qs_asm.specs.Assembly.{IsAssembly};
+ghost use Rattle.qs_image.specs.Limits.{most_name_bytes};
 ghost use Rattle.qs_select.specs.Limits.{data_fit};
-ghost use Rattle.qs_emit.specs.Images.{data_bytes, IsWithinLimits};
-ghost use Rattle.qs_emit.specs.Relation.{data_address};
-ghost use Rattle.qs_build.specs.Units.{linear, own_slots, main_types, IsWithinSizes, MainReturns};
-ghost use Rattle.qs_build.specs.Parts.{AreParts};
-ghost use Rattle.qs_build.specs.Records.{HaveRecords, FramesFit};
+ghost use Rattle.qs_emit.specs.Images.{IsWithinLimits};
+ghost use Rattle.qs_build.specs.Units.{main_types, IsWithinSizes};
+ghost use Rattle.qs_build.specs.Parts.{ArePartsOf};
+ghost use Rattle.qs_build.specs.Records.{FramesFit};
+ghost use Rattle.qs_build.specs.Program as program;
+ghost use Rattle.qs_build.specs.Program.{HasRecords};
 ghost use Rattle.qs_build.specs.Limits as spec;
 ghost use Rattle.qs_build.specs.Code.{AreCounted, IsCodeFault};
 ghost use Rattle.qs_build.specs.Built.{IsBuiltFrom};
-ghost use Rattle.qs_build.specs.Agrees.{DoesAsCore};
+ghost use Rattle.qs_build.specs.Agrees.{AgreesWhereMainReturns};
 
 use crate::data::data_bytes;
 use crate::fault::BuildFault;
@@ -28,16 +28,12 @@ use qs_asm::{AssemblyFault, Item, assemble, label_offsets};
 use qs_base::NoMemory;
 use qs_core::{CoreFunction, CoreUnit};
 use qs_frames::laid_from;
-use qs_image::{FunctionRecord, Image};
+use qs_image::{FunctionRecord, Image, MOST_FUNCTIONS, MOST_NAME_BYTES};
 use qs_lower::lower;
 use qs_memory::Scalar;
 use qs_select::{data_sizes, first_labels, select};
 use qs_tac::{Places, TacUnit};
 use std::alloc::Global;
-
-const MOST_FUNCTIONS: usize = 512;
-
-const MOST_NAME_BYTES: usize = 1_048_576;
 
 const REACHED_WORDS: usize = 1 << 18;
 
@@ -48,12 +44,12 @@ const DATA_START: u32 = 0x1000_0000;
 
 // Whether the names have room in an image.
 fn names_fit(functions: &[CoreFunction]) -> bool
-    ensures { result ≡ nat_le (spec.bytes_of_names (map function_tree functions.now)) spec.most_name_bytes }
+    ensures { result ≡ nat_le (spec.bytes_of_names (function_trees functions.now)) most_name_bytes }
 {
     let mut bytes = 0;
     for f in functions {
         let more = f.name.bytes().len();
-        if more > MOST_NAME_BYTES - bytes {
+        if more > MOST_NAME_BYTES as usize - bytes {
             return false;
         }
         bytes += more;
@@ -62,11 +58,11 @@ fn names_fit(functions: &[CoreFunction]) -> bool
 }
 
 fn check_names(unit: &CoreUnit) -> Result<(), BuildFault>
-    ensures functions { IfOk result (λ _. length (core.unit_tree unit.now).functions ≤ spec.most_functions) }
-    ensures names { IfOk result (λ _. spec.name_bytes (core.unit_tree unit.now) ≤ spec.most_name_bytes) }
+    ensures functions { IfOk result (λ _. spec.HasFewFunctions (core.unit_tree unit.now)) }
+    ensures names { IfOk result (λ _. spec.HasShortNames (core.unit_tree unit.now)) }
     ensures fault { IfErr result (λ fault. spec.Passes (core.unit_tree unit.now) fault) }
 {
-    if unit.functions.len() > MOST_FUNCTIONS {
+    if unit.functions.len() > MOST_FUNCTIONS as usize {
         Err(BuildFault::TooManyFunctions)
     } else if !names_fit(&unit.functions) {
         Err(BuildFault::NamesTooLong)
@@ -106,10 +102,10 @@ fn records_of(
     places: &[Places],
     items: &[Item],
 ) -> Result<Vec<FunctionRecord>, NoMemory>
-    requires same { length (tac.unit_tree linear.now).functions ≡ length (core.unit_tree unit.now).functions }
+    requires same { program.HaveSameCount unit.now linear.now }
     requires placed { length places.now ≡ length (tac.unit_tree linear.now).functions }
-    requires fit { FramesFit (tac.unit_tree linear.now).functions (map places_tree places.now) }
-    ensures { IfOk result (λ all. HaveRecords (core.unit_tree unit.now).functions (tac.unit_tree linear.now).functions (map places_tree places.now) items.now all.items) }
+    requires fit { FramesFit (tac.unit_tree linear.now).functions (places_trees places.now) }
+    ensures { IfOk result (λ all. HasRecords unit.now linear.now places.now items.now all.items) }
 {
     let labels = label_offsets(alloc, items)?;
     let starts = first_labels(alloc, &linear.functions)?;
@@ -122,7 +118,7 @@ fn records_of(
 // The bytes of the unit's data.
 fn bytes_of(alloc: Global, unit: &CoreUnit, linear: &TacUnit) -> Result<Vec<u8>, NoMemory>
     requires { data_fit (tac.unit_tree linear.now) ≡ true }
-    ensures { IfOk result (λ bytes. bytes.items ≡ data_bytes (data_address (tac.unit_tree linear.now).data_blocks) (initial_memory (core.unit_tree unit.now))) }
+    ensures { IfOk result (λ bytes. bytes.items ≡ program.bytes_of_unit unit.now linear.now) }
 {
     let sizes = data_sizes(alloc, &linear.data_blocks)?;
     let starts = laid_from(alloc, DATA_START, &sizes)?;
@@ -150,11 +146,11 @@ fn image_of(
     code: Vec<u32>,
     bytes: Vec<u8>,
 ) -> Result<Image, NoMemory>
-    requires { let u = core.unit_tree unit.now in AreParts u (linear u) (own_slots (linear u)) functions.items code.items bytes.items }
+    requires { ArePartsOf (core.unit_tree unit.now) functions.items code.items bytes.items }
     ensures built { IfOk result (λ image. IsBuiltFrom (core.unit_tree unit.now) image) }
     ensures limits { IfOk result (λ image. IsWithinLimits image) }
     ensures sizes { IfOk result (λ _. IsWithinSizes (core.unit_tree unit.now)) }
-    ensures agrees { IfOk result (λ image. MainReturns (core.unit_tree unit.now) → DoesAsCore (core.unit_tree unit.now) image) }
+    ensures agrees { IfOk result (AgreesWhereMainReturns (core.unit_tree unit.now)) }
 {
     let types = main_types(alloc, unit)?;
     Ok(Image {
@@ -174,7 +170,7 @@ pub fn build_image(alloc: Global, unit: &CoreUnit) -> Result<Image, BuildFault>
     ensures built { IfOk result (λ image. IsBuiltFrom (core.unit_tree unit.now) image) }
     ensures limits { IfOk result (λ image. IsWithinLimits image) }
     ensures sizes { IfOk result (λ _. IsWithinSizes (core.unit_tree unit.now)) }
-    ensures agrees { IfOk result (λ image. MainReturns (core.unit_tree unit.now) → DoesAsCore (core.unit_tree unit.now) image) }
+    ensures agrees { IfOk result (AgreesWhereMainReturns (core.unit_tree unit.now)) }
     ensures fault { IfErr result (λ fault. spec.Passes (core.unit_tree unit.now) fault) }
 {
     check_names(unit)?;

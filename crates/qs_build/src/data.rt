@@ -1,13 +1,9 @@
 // The bytes of a unit's data.
-ghost use Rattle.std.specs.Prelude.{◌≡◌, ◌++◌, ◌+◌, ◌-◌, ◌^◌, ◌%◌, ◌≤◌, [], OnOk, IfOk, map};
-ghost use Rattle.std.specs.Prelude.{replicate, length};
+ghost use Rattle.std.specs.Prelude.{◌≡◌, ◌-◌, OnOk, IfOk, replicate};
 ghost use Rattle.qs_image.specs.Image.{word_bytes};
-ghost use Rattle.qs_core.specs.TreeOf.{piece_tree, data_block_tree};
-ghost use Rattle.qs_core.specs.Units.{cells_of_pieces, data_block};
-ghost use Rattle.qs_frames.specs.Starts.{start_of};
 ghost use Rattle.qs_frames.specs.Layout.{rounded};
-ghost use Rattle.qs_emit.specs.Images.{data_bytes};
-ghost use Rattle.qs_build.specs.Bytes as spec;
+ghost use Rattle.qs_build.specs.Program as program;
+ghost use Rattle.qs_build.specs.Program.{Puts, bytes_of_pieces};
 
 use qs_base::{NoMemory, add32};
 use qs_core::{DataBlock, Piece};
@@ -16,7 +12,7 @@ use qs_lower::blank_size;
 use std::alloc::Global;
 
 // The bytes from a size to the next multiple of 4.
-#[tactic(auto, using(crate::proofs::ByteLaws::no_gap, crate::proofs::ByteLaws::some_gap))]
+#[tactic(auto, using(crate::proofs::ByteLaws::gap_cases))]
 fn gap(size: usize) -> u32
     ensures { result ≡ rounded size - size }
 {
@@ -25,7 +21,7 @@ fn gap(size: usize) -> u32
 }
 
 fn put_zeros(bytes: &mut Vec<u8>, count: u32) -> Result<(), NoMemory>
-    ensures { OnOk result (bytes.new.items ≡ bytes.old.items ++ replicate count 0) }
+    ensures { OnOk result (Puts bytes.old bytes.new (replicate count 0)) }
 {
     for _k in 0..count {
         bytes.push(0)?;
@@ -34,14 +30,14 @@ fn put_zeros(bytes: &mut Vec<u8>, count: u32) -> Result<(), NoMemory>
 }
 
 fn put_word(bytes: &mut Vec<u8>, word: u32) -> Result<(), NoMemory>
-    ensures { OnOk result (bytes.new.items ≡ bytes.old.items ++ word_bytes word) }
+    ensures { OnOk result (Puts bytes.old bytes.new (word_bytes word)) }
 {
     bytes.extend_from_slice(&word.to_le_bytes())?;
     Ok(())
 }
 
 fn put_piece(bytes: &mut Vec<u8>, starts: &Starts, p: &Piece) -> Result<(), NoMemory>
-    ensures { OnOk result (bytes.new.items ≡ bytes.old.items ++ spec.piece_bytes (start_of starts.now) (piece_tree p.now)) }
+    ensures { OnOk result (Puts bytes.old bytes.new (program.bytes_of_piece starts.now p.now)) }
 {
     match p {
         Piece::Blank(b) => put_zeros(bytes, blank_size(b)?),
@@ -54,8 +50,7 @@ fn put_piece(bytes: &mut Vec<u8>, starts: &Starts, p: &Piece) -> Result<(), NoMe
 }
 
 fn put_pieces(bytes: &mut Vec<u8>, starts: &Starts, pieces: &[Piece]) -> Result<(), NoMemory>
-    ensures { OnOk result (bytes.new.items
-        ≡ bytes.old.items ++ spec.pieces_bytes (start_of starts.now) (map piece_tree pieces.now)) }
+    ensures { OnOk result (Puts bytes.old bytes.new (bytes_of_pieces starts.now pieces.now)) }
 {
     for p in pieces {
         put_piece(bytes, starts, p)?;
@@ -66,7 +61,7 @@ fn put_pieces(bytes: &mut Vec<u8>, starts: &Starts, pieces: &[Piece]) -> Result<
 /// The bytes of the data whose blocks begin there: one block behind the other, each at the next
 /// multiple of 4, and nothing behind the last.
 pub fn data_bytes(alloc: Global, starts: &Starts, blocks: &[DataBlock]) -> Result<Vec<u8>, NoMemory>
-    ensures { IfOk result (λ bytes. bytes.items ≡ data_bytes (start_of starts.now) (map data_block (map data_block_tree blocks.now))) }
+    ensures { IfOk result (λ bytes. bytes.items ≡ program.bytes_of_blocks starts.now blocks.now) }
 {
     let mut bytes = Vec::new(alloc);
     for block in blocks {

@@ -1,6 +1,6 @@
 // The places of values: each has a slot of its own.
-ghost use Rattle.std.specs.Prelude.{◌≡◌, IfOk, map};
-ghost use Rattle.qs_tac.specs.Places.{places_tree, all_slots};
+ghost use Rattle.std.specs.Prelude.{◌≡◌, IfOk};
+ghost use Rattle.qs_tac.specs.Places.{places_tree, all_slots, HaveOwnSlots};
 ghost use Rattle.qs_tac.specs.TreeOf.{function_tree};
 
 use qs_base::NoMemory;
@@ -20,7 +20,7 @@ fn all_slots(alloc: Global, f: &TacFunction) -> Result<Places, NoMemory>
 
 /// The slots of each function's values.
 pub fn own_slots(alloc: Global, functions: &[TacFunction]) -> Result<Vec<Places>, NoMemory>
-    ensures { IfOk result (λ places. map places_tree places.items ≡ map all_slots (map function_tree functions.now)) }
+    ensures { IfOk result (λ places. HaveOwnSlots functions.now places.items) }
 {
     let mut all = Vec::new(alloc);
     for f in functions {

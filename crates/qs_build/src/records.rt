@@ -1,12 +1,11 @@
 // The records of functions.
-ghost use Rattle.std.specs.Prelude.{◌≡◌, ◌+◌, ◌≤◌, IfOk, map, length, nat_eq};
-ghost use Rattle.std.specs.HashMap.{get};
-ghost use Rattle.qs_core.specs.TreeOf as core;
-ghost use Rattle.qs_tac.specs.TreeOf.{function_tree};
-ghost use Rattle.qs_tac.specs.Places.{places_tree};
-ghost use Rattle.qs_frames.specs.Starts.{start_of};
+ghost use Rattle.std.specs.Prelude.{◌≡◌, IfOk, length};
+ghost use Rattle.qs_tac.specs.TreeOf.{function_trees};
+ghost use Rattle.qs_asm.specs.Assembly.{places as label_places};
 ghost use Rattle.qs_select.specs.Units.{AreFirstLabels};
-ghost use Rattle.qs_build.specs.Records as spec;
+ghost use Rattle.qs_build.specs.Records.{place_of};
+ghost use Rattle.qs_build.specs.Program as program;
+ghost use Rattle.qs_build.specs.Program.{HaveRecordsWith};
 
 use crate::numbers::{count, sum};
 use qs_asm::Labels;
@@ -22,7 +21,7 @@ pub const CODE_START: u32 = 0x0001_0000;
 
 // Where a label stands.
 fn address(labels: &Labels, label: u32) -> Result<u32, NoMemory>
-    ensures { IfOk result (λ address. address ≡ spec.place_of (get nat_eq labels.now) label) }
+    ensures { IfOk result (λ address. address ≡ place_of (label_places labels.now) label) }
 {
     match labels.get(&label) {
         None => Ok(CODE_START),
@@ -37,8 +36,8 @@ pub fn addresses(
     starts: &Starts,
     functions: &[TacFunction],
 ) -> Result<Vec<u32>, NoMemory>
-    requires { AreFirstLabels (map function_tree functions.now) starts.now }
-    ensures { IfOk result (λ all. spec.AreAddresses (get nat_eq labels.now) (map function_tree functions.now) all.items) }
+    requires { AreFirstLabels (function_trees functions.now) starts.now }
+    ensures { IfOk result (λ all. program.HaveAddresses labels.now functions.now all.items) }
 {
     let mut all = Vec::new(alloc);
     for f in 0..count(functions.len())? {
@@ -53,9 +52,9 @@ pub fn costs(
     functions: &[TacFunction],
     places: &[Places],
 ) -> Result<Vec<u32>, NoMemory>
-    requires fit { spec.FramesFit (map function_tree functions.now) (map places_tree places.now) }
+    requires fit { program.HaveFramesThatFit functions.now places.now }
     requires placed { length places.now ≡ length functions.now }
-    ensures { IfOk result (λ all. spec.AreFrameCosts (map function_tree functions.now) (map places_tree places.now) all.items) }
+    ensures { IfOk result (λ all. program.HaveCosts functions.now places.now all.items) }
 {
     let mut all = Vec::new(alloc);
     for (f, function) in functions.iter().enumerate() {
@@ -73,7 +72,7 @@ pub fn records(
 ) -> Result<Vec<FunctionRecord>, NoMemory>
     requires addresses { length addresses.now ≡ length functions.now }
     requires costs { length costs.now ≡ length functions.now }
-    ensures { IfOk result (λ all. spec.AreRecords (map core.function_tree functions.now) addresses.now costs.now all.items) }
+    ensures { IfOk result (λ all. HaveRecordsWith functions.now addresses.now costs.now all.items) }
 {
     let mut all = Vec::new(alloc);
     for (f, function) in functions.iter().enumerate() {

@@ -86,10 +86,16 @@ function_tree f = record {
   body = stmts_of (core_stmts f.body.items);
 }
 
+abbrev pub function_trees : List CoreFunction → List CoreFunctionTree
+function_trees functions = map function_tree functions
+
 abbrev pub piece_tree : Piece → PieceTree
 piece_tree (pieces.Blank b) = blank (blank_tree b)
 piece_tree (pieces.Bytes bs) = bytes bs.items
 piece_tree (pieces.Address block offset) = pointer block offset
+
+abbrev pub piece_trees : List Piece → List PieceTree
+piece_trees pieces = map piece_tree pieces
 
 abbrev pub data_block_tree : DataBlock → DataBlockTree
 data_block_tree d = record { is_writable = d.is_writable; pieces = map piece_tree d.pieces.items }

@@ -22,10 +22,7 @@ fn compared(op: TermComparison, left: CoreTerm, right: CoreTerm) -> CoreConditio
 fn nonzero(whole: Option<CoreTerm>) -> Option<CoreCondition>
     ensures { option_map core_condition result ≡ spec.nonzero (option_map core_term whole) }
 {
-    match whole {
-        None => None,
-        Some(t) => Some(compared(TermComparison::NotEqual, t, CoreTerm::Number(0))),
-    }
+    Some(compared(TermComparison::NotEqual, whole?, CoreTerm::Number(0)))
 }
 
 fn comparison(op: Comparison, t: CoreTerm, u: CoreTerm) -> CoreCondition

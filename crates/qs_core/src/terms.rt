@@ -62,20 +62,16 @@ fn literal_of(e: &CoreExpr) -> Option<u32>
 fn divisor(bits: Option<u32>) -> Option<u32>
     ensures { result ≡ spec.divisor bits }
 {
-    match bits {
-        None => None,
-        Some(k) => { if 1 <= k { Some(k) } else { None } }
-    }
+    let k = bits?;
+    if 1 <= k { Some(k) } else { None }
 }
 
 // The power of 2 by which a shift multiplies or divides.
 fn power(bits: Option<u32>) -> Option<u32>
     ensures { result ≡ spec.power bits }
 {
-    match bits {
-        None => None,
-        Some(k) => { if k < 32 { Some(1 << k) } else { None } }
-    }
+    let k = bits?;
+    if k < 32 { Some(1 << k) } else { None }
 }
 
 // ---- operations

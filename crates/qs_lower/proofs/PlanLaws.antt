@@ -69,3 +69,5 @@ module _ (p : ExprCode) (bytes : ℕ) (offset : Option ℕ) (some : index_offset
 
 pub element_first : (s : Signedness) (element : ℕ) (p b : ExprCode) → index_offset p ≡ None → by_address (indexed_by s element (started false p) b) ≡ of_element s element p b
 element_first s element p b none = ap (λ o. by_address (indexed_by s element (unindexed o p) b)) (sym (no_index p 0 none))
+
+pub ruleset element_cases = (element_first, element_again)

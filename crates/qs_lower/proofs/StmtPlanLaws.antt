@@ -50,3 +50,5 @@ pub stmts_joined : (v t : ℕ) (ss : List CoreStmtTree) → stmts_code v t (stmt
 stmts_joined v t [] = refl
 stmts_joined v t (s ∷ []) = refl
 stmts_joined v t (s ∷ r ∷ ss) = ap (of_both (stmt_code v t s)) (stmts_joined v t (r ∷ ss))
+
+pub ruleset loop_cases = (plain_is, alone_is, tested_is, has_test)

@@ -288,9 +288,13 @@ abbrev pub stepped_or : Option ℕ → ExprCode → ExprCode → ExprCode
 stepped_or (Some bytes) a e = by_address (behind a bytes)
 stepped_or None a e = e
 
+-- behind a pointer by a constant count, and else the operation
+abbrev pub stepped_operation : BinaryOperation → ExprCode → ExprCode → ExprCode
+stepped_operation op a b = stepped_or (constant_step op b.simple) a (of_operation op a b)
+
 abbrev pub of_binary : BinaryOperation → ExprCode → ExprCode → ExprCode
 of_binary op a b =
-    simple_or (folded op a.simple b.simple) (stepped_or (constant_step op b.simple) a (of_operation op a b))
+    simple_or (folded op a.simple b.simple) (stepped_operation op a b)
 
 -- ---- `&&`, `||`, `?:`
 

@@ -1,8 +1,15 @@
 -- What the plans of the program stand for.
-use Rattle.std.specs.Prelude.{◌≡◌, ℕ, ◌+◌, Bool, true, false, List, [], ◌∷◌, ◌++◌, map, Option, Some, None}
+use Rattle.std.specs.Prelude.{◌≡◌, ℕ, ◌+◌, max, Bool, true, false, List, [], ◌∷◌, ◌++◌, length, map, Option, Some, None}
+use Rattle.std.specs.declared.alloc.Global.{Global}
+use Rattle.std.specs.declared.vec.Vec.{Vec}
 use Rattle.qs_memory.specs.Partial.{only_if}
 use Rattle.qs_memory.specs.declared.operation.BinaryOperation.{BinaryOperation}
 use Rattle.qs_memory.specs.declared.operation.BinaryOperation.TheVariants as binaries
+use Rattle.qs_memory.specs.declared.operation.Signedness.{Signedness}
+use Rattle.qs_memory.specs.declared.operation.UnaryOperation.{UnaryOperation}
+use Rattle.qs_core.specs.Trees.{CoreExprTree, binary, logical_and, logical_or}
+use Rattle.qs_core.specs.TreeOf.{core_expr}
+use Rattle.qs_core.specs.declared.expressions.Operands.{Operands}
 use Rattle.qs_tac.specs.Fits.{is_word}
 use Rattle.qs_tac.specs.Trees.{InstructionTree, move, jump}
 use Rattle.qs_tac.specs.TreeOf.{instruction_tree}
@@ -14,12 +21,12 @@ use Rattle.qs_tac.specs.declared.operands.Condition.{Condition}
 use Rattle.qs_tac.specs.declared.operands.Condition.TheVariants.{NotZero, Compare, ComparePointers}
 use Rattle.qs_lower.specs.Exits as exits
 use Rattle.qs_lower.specs.Exits.{falls, goes, branch_size, branch_code}
-use Rattle.qs_lower.specs.Expressions.{IndexCode, ExprCode, code_of, based, by_operand, further, by_address, indexed_by, of_load, of_compound, of_convert, pair_size, pair_code, pair_used, operand_of, own, with_test, of_binary_value, of_both_tests, of_either_test, of_choice}
+use Rattle.qs_lower.specs.Expressions.{IndexCode, ExprCode, code_of, based, by_operand, further, by_address, indexed_by, of_load, of_compound, of_convert, pair_size, pair_code, pair_used, operand_of, own, with_test, of_binary_value, of_both_tests, of_either_test, of_choice, lowered, of_conditional, both_size, either_size, number_of, size_of, known_size, used_by, index_at, known_code}
 use Rattle.qs_lower.specs.declared.exits.Exit.{Exit}
 use Rattle.qs_lower.specs.declared.exits.Exit.TheVariants.{Falls, Goes}
 use Rattle.qs_lower.specs.declared.plans.ExprPlan.{ExprPlan, ExprPlan-F, fold-ExprPlan}
-use Rattle.qs_lower.specs.declared.plans.PlanPair.{PlanPair-F}
-use Rattle.qs_lower.specs.declared.plans.PlanChoice.{PlanChoice-F}
+use Rattle.qs_lower.specs.declared.plans.PlanPair.{PlanPair, PlanPair-F}
+use Rattle.qs_lower.specs.declared.plans.PlanChoice.{PlanChoice, PlanChoice-F}
 
 -- the sum of an offset and so many bytes, where it is a word
 abbrev pub word_of : Option ℕ → (bytes : ℕ) → Option ℕ
@@ -137,3 +144,153 @@ element_code p b t at = p.base_code t at ++ code_of b (t + p.base_own) (at + p.b
 
 abbrev pub value_test_code : ExprCode → (met unmet : exits.Exit) → (t at : ℕ) → List InstructionTree
 value_test_code e met unmet t at = e.into t t at ++ branch_code (NotZero (Temporary t)) met unmet
+
+-- ---- what plans are of
+
+abbrev pub IsPlanOf : ExprCode → ExprPlan → Type 0
+IsPlanOf code plan = expr_code plan ≡ code
+
+-- the trees of operations on two expressions
+abbrev pub binary_of : BinaryOperation → Operands → CoreExprTree
+binary_of op p = binary op (core_expr p.left) (core_expr p.right)
+
+abbrev pub and_of : Operands → CoreExprTree
+and_of p = logical_and (core_expr p.left) (core_expr p.right)
+
+abbrev pub or_of : Operands → CoreExprTree
+or_of p = logical_or (core_expr p.left) (core_expr p.right)
+
+-- of an expression in a function with so many variables
+abbrev pub IsPlanIn : (variables : ℕ) → CoreExprTree → ExprPlan → Type 0
+IsPlanIn v e plan = IsPlanOf (lowered v e) plan
+
+abbrev pub expr_codes : List ExprPlan → List ExprCode
+expr_codes plans = map expr_code plans
+
+abbrev pub ArePlansIn : (variables : ℕ) → List CoreExprTree → Vec ExprPlan Global → Type 0
+ArePlansIn v es plans = expr_codes plans.items ≡ map (lowered v) es
+
+abbrev pub started_code : (is_computed : Bool) → ExprPlan → ExprCode
+started_code is_computed p = started is_computed (expr_code p)
+
+abbrev pub start_parts : (is_computed : Bool) → ExprPlan → (t at : ℕ) → List InstructionTree
+start_parts is_computed p = (started_code is_computed p).base_code
+
+abbrev pub start_size : (is_computed : Bool) → ExprPlan → ℕ
+start_size is_computed p = (started_code is_computed p).base_size
+
+abbrev pub unary_code : UnaryOperation → ExprPlan → ExprCode
+unary_code op a = of_compound op false false (expr_code a)
+
+abbrev pub conditional_code : Option Bool → (condition met unmet : ExprPlan) → ExprCode
+conditional_code known c a b = of_conditional known (expr_code c) (expr_code a) (expr_code b)
+
+-- ---- what pairs of plans are of
+
+abbrev pub binary_code : BinaryOperation → PlanPair → ExprCode
+binary_code op p = of_binary_value op (expr_code p.left) (expr_code p.right)
+
+abbrev pub operation_code : BinaryOperation → PlanPair → ExprCode
+operation_code op p = of_plain_operation op (expr_code p.left) (expr_code p.right)
+
+abbrev pub both_code : PlanPair → ExprCode
+both_code p = of_both_tests (expr_code p.left) (expr_code p.right)
+
+abbrev pub either_code : PlanPair → ExprCode
+either_code p = of_either_test (expr_code p.left) (expr_code p.right)
+
+abbrev pub choice_code : PlanChoice → ExprCode
+choice_code p = of_choice (expr_code p.condition) (expr_code p.met) (expr_code p.unmet)
+
+abbrev pub operands_code : PlanPair → (t at : ℕ) → List InstructionTree
+operands_code p = pair_code (expr_code p.left) (expr_code p.right)
+
+abbrev pub operands_size : PlanPair → ℕ
+operands_size p = pair_size (expr_code p.left) (expr_code p.right)
+
+abbrev pub both_sizes : PlanPair → (met unmet : Bool) → ℕ
+both_sizes p = both_size (expr_code p.left) (expr_code p.right)
+
+abbrev pub either_sizes : PlanPair → (met unmet : Bool) → ℕ
+either_sizes p = either_size (expr_code p.left) (expr_code p.right)
+
+abbrev pub both_number : PlanPair → (x t at : ℕ) → List InstructionTree
+both_number p = number_of (both_sizes p) (both_code p).test
+
+abbrev pub either_number : PlanPair → (x t at : ℕ) → List InstructionTree
+either_number p = number_of (either_sizes p) (either_code p).test
+
+abbrev pub tests_used : PlanPair → ℕ
+tests_used p = max (expr_code p.left).test_used (expr_code p.right).test_used
+
+-- an element: a pointer, whose value is computed or whose parts are, and an index
+abbrev pub element_parts : (is_computed : Bool) → PlanPair → (t at : ℕ) → List InstructionTree
+element_parts is_computed p = element_code (started_code is_computed p.left) (expr_code p.right)
+
+abbrev pub element_size : (is_computed : Bool) → PlanPair → ℕ
+element_size is_computed p = (started_code is_computed p.left).base_size + size_of (expr_code p.right)
+
+abbrev pub element_used : (is_computed : Bool) → PlanPair → ℕ
+element_used is_computed p =
+    let start = started_code is_computed p.left in
+    max start.base_used (start.base_own + used_by (expr_code p.right))
+
+abbrev pub element_index : (is_computed : Bool) → Signedness → (element : ℕ) → PlanPair → (t : ℕ) → Option Index
+element_index is_computed s element p t =
+    index_at (indexed_by s element (started_code is_computed p.left) (expr_code p.right)).index t
+
+-- ---- tests with these exits
+
+abbrev pub does_fall : Exit → Bool
+does_fall exit = exits.is_fall (exit_tree exit)
+
+abbrev pub both_test_size : PlanPair → (met unmet : Exit) → ℕ
+both_test_size p met unmet = both_sizes p (does_fall met) (does_fall unmet)
+
+abbrev pub either_test_size : PlanPair → (met unmet : Exit) → ℕ
+either_test_size p met unmet = either_sizes p (does_fall met) (does_fall unmet)
+
+-- ---- what is put behind code
+
+abbrev pub HasCode : List InstructionTree → Vec Instruction Global → Type 0
+HasCode code instructions = map instruction_tree instructions.items ≡ code
+
+abbrev pub Emits : (before after : Vec Instruction Global) → List InstructionTree → Type 0
+Emits before after code = Emitted before.items after.items code
+
+-- code that depends on where it lies
+abbrev pub EmitsAt : (before after : Vec Instruction Global) → (ℕ → List InstructionTree) → Type 0
+EmitsAt before after code = Emits before after (code (length before.items))
+
+abbrev pub EmitsTest : (before after : Vec Instruction Global) → ExprCode → (met unmet : Exit) → (t : ℕ) → Type 0
+EmitsTest before after e met unmet t = EmitsAt before after (e.test (exit_tree met) (exit_tree unmet) t)
+
+abbrev pub TestsValue : (before after : Vec Instruction Global) → ExprCode → (met unmet : Exit) → (t : ℕ) → Type 0
+TestsValue before after e met unmet t =
+    EmitsAt before after (value_test_code e (exit_tree met) (exit_tree unmet) t)
+
+abbrev pub EmitsBranch : (before after : Vec Instruction Global) → Condition → (met unmet : Exit) → Type 0
+EmitsBranch before after c met unmet = Emits before after (branch_code c (exit_tree met) (exit_tree unmet))
+
+-- an operand is tested, of which it may be known whether it is 0
+abbrev pub EmitsKnown : (before after : Vec Instruction Global) → Option Bool → Operand → (met unmet : Exit) → Type 0
+EmitsKnown before after known o met unmet =
+    Emits before after (known_code known [] (NotZero o) (exit_tree met) (exit_tree unmet))
+
+-- by so many instructions
+abbrev pub Grows : (before after : Vec Instruction Global) → (count : ℕ) → Type 0
+Grows before after count = length after.items ≡ length before.items + count
+
+abbrev pub GrowsByTest : (before after : Vec Instruction Global) → ExprCode → (met unmet : Exit) → Type 0
+GrowsByTest before after e met unmet = Grows before after (e.test_size (does_fall met) (does_fall unmet))
+
+abbrev pub GrowsByValue : (before after : Vec Instruction Global) → ExprCode → (met unmet : Exit) → Type 0
+GrowsByValue before after e met unmet =
+    Grows before after (e.size + branch_size (does_fall met) (does_fall unmet))
+
+abbrev pub GrowsByBranch : (before after : Vec Instruction Global) → (met unmet : Exit) → Type 0
+GrowsByBranch before after met unmet = Grows before after (branch_size (does_fall met) (does_fall unmet))
+
+abbrev pub GrowsByKnown : (before after : Vec Instruction Global) → Option Bool → (met unmet : Exit) → Type 0
+GrowsByKnown before after known met unmet =
+    Grows before after (known_size known 0 (does_fall met) (does_fall unmet))

@@ -1,12 +1,24 @@
 -- What the plans of statements stand for.
-use Rattle.std.specs.Prelude.{ℕ, ◌+◌, ◌||◌, not, max, Bool, false, if◌then◌else◌, List, [], ◌∷◌, ◌++◌, map, Option, Some, None}
+use Rattle.std.specs.Prelude.{◌≡◌, ℕ, ◌+◌, ◌||◌, not, max, Bool, false, if◌then◌else◌, List, [], ◌∷◌, ◌++◌, map, Option, Some, None}
+use Rattle.std.specs.declared.alloc.Global.{Global}
+use Rattle.std.specs.declared.vec.Vec.{Vec}
 use Rattle.qs_memory.specs.BlankOf.{blank_tree}
+use Rattle.qs_memory.specs.declared.blank.Blank.{Blank}
+use Rattle.qs_memory.specs.declared.scalar.Scalar.{Scalar}
+use Rattle.qs_calls.specs.declared.callee.Callee.{Callee}
+use Rattle.qs_core.specs.Trees.{CoreStmtTree, copy}
+use Rattle.qs_core.specs.TreeOf.{core_expr}
+use Rattle.qs_core.specs.declared.expressions.CoreExpr.{CoreExpr}
+use Rattle.qs_tac.specs.declared.instruction.Instruction.{Instruction}
 use Rattle.qs_tac.specs.Trees.{InstructionTree}
 use Rattle.qs_lower.specs.Expressions.{ExprCode}
 use Rattle.qs_lower.specs.Statements as spec
-use Rattle.qs_lower.specs.Statements.{Way, StmtCode, to_next, leaves, is_break, redirected, by_way, of_assign, of_store, of_copy, of_fill, of_call, of_return, of_plain_return, of_joined, of_both, of_test, Exits, before, next_falls, test_last, body_first, body_alone}
-use Rattle.qs_lower.specs.Plans.{expr_code}
-use Rattle.qs_lower.specs.Ways.{way_tree}
+use Rattle.qs_lower.specs.Statements.{Way, StmtCode, to_next, leaves, is_break, redirected, by_way, of_assign, of_store, of_copy, of_fill, of_call, of_return, of_plain_return, of_joined, of_both, of_test, Exits, before, next_falls, test_last, body_first, body_alone, falls_of, of_branch}
+use Rattle.qs_lower.specs.Plans.{expr_code, expr_codes, exit_tree, EmitsAt, Grows}
+use Rattle.qs_lower.specs.Ways.{way_tree, only}
+use Rattle.qs_lower.specs.declared.exits.Exit.{Exit}
+use Rattle.qs_lower.specs.declared.plans.ExprPlan.{ExprPlan}
+use Rattle.qs_lower.specs.declared.stmt_plans.TestedParts.{TestedParts}
 use Rattle.qs_lower.specs.declared.stmt_plans.StmtPlan.{StmtPlan, StmtPlan-F, fold-StmtPlan}
 use Rattle.qs_lower.specs.declared.stmt_plans.BranchPlan.{BranchPlan, BranchPlan-F, fold-BranchPlan}
 use Rattle.qs_lower.specs.declared.stmt_plans.LoopPlan.{LoopPlan, LoopPlan-F, fold-LoopPlan}
@@ -143,3 +155,72 @@ all_before [] last = last
 all_before (s ∷ ss) last =
     let rest = all_before ss last in
     put_before s rest.way rest
+
+-- ---- what plans are of
+
+abbrev pub stmt_parts : List StmtPlan → List StmtCode
+stmt_parts plans = map stmt_part plans
+
+abbrev pub IsStmtPlanOf : StmtCode → StmtPlan → Type 0
+IsStmtPlanOf code plan = stmt_part plan ≡ code
+
+-- of a statement in a function with so many variables, where the temporaries from a number on are free
+abbrev pub IsStmtPlanIn : (variables free : ℕ) → CoreStmtTree → StmtPlan → Type 0
+IsStmtPlanIn v free s plan = IsStmtPlanOf (spec.stmt_code v free s) plan
+
+abbrev pub copy_stmt : (size alignment : ℕ) → (to from : CoreExpr) → CoreStmtTree
+copy_stmt size alignment to from = copy size alignment (core_expr to) (core_expr from)
+
+abbrev pub AreStmtPlansIn : (variables free : ℕ) → List CoreStmtTree → Vec StmtPlan Global → Type 0
+AreStmtPlansIn v free ss plans = stmt_parts plans.items ≡ map (spec.stmt_code v free) ss
+
+abbrev pub joined_plans : List StmtPlan → (last : StmtPlan) → StmtCode
+joined_plans all last = joined_before (stmt_parts all) (stmt_part last)
+
+abbrev pub branch_plans : Option Bool → (free : ℕ) → ExprPlan → (met unmet : StmtPlan) → StmtCode
+branch_plans known free test met unmet = of_branch known free (expr_code test) (stmt_part met) (stmt_part unmet)
+
+abbrev pub tested_parts : TestedParts → spec.Tested
+tested_parts p = tested_of (stmt_part p.front) (expr_code p.test) (stmt_part p.rest)
+
+abbrev pub store_code : (t : ℕ) → Scalar → (to e : ExprPlan) → StmtCode
+store_code t s to e = of_store t s (expr_code to) (expr_code e)
+
+abbrev pub copy_code : (t size alignment : ℕ) → (to from : ExprPlan) → StmtCode
+copy_code t size alignment to from = of_copy t size alignment (expr_code to) (expr_code from)
+
+abbrev pub fill_code : (t : ℕ) → Blank → (to : ExprPlan) → StmtCode
+fill_code t blank to = of_fill t (blank_tree blank) (expr_code to)
+
+abbrev pub call_code : (t : ℕ) → Option ℕ → Callee → List ExprPlan → StmtCode
+call_code t x f arguments = of_call t x f (expr_codes arguments)
+
+-- ---- what is put behind code
+
+-- the code of a statement, with these exits
+abbrev pub EmitsPart : (before after : Vec Instruction Global) → StmtCode → Exits → Type 0
+EmitsPart before after s x = EmitsAt before after (s.part.code x)
+
+abbrev pub GrowsByPart : (before after : Vec Instruction Global) → StmtCode → Exits → Type 0
+GrowsByPart before after s x = Grows before after (s.part.size (falls_of x))
+
+-- with this one alone
+abbrev pub EmitsTo : (before after : Vec Instruction Global) → StmtCode → (next : Exit) → Type 0
+EmitsTo before after s next = EmitsPart before after s (only (exit_tree next))
+
+abbrev pub GrowsTo : (before after : Vec Instruction Global) → StmtCode → (next : Exit) → Type 0
+GrowsTo before after s next = GrowsByPart before after s (only (exit_tree next))
+
+abbrev pub EmitsCopy :
+    (before after : Vec Instruction Global) → (t size alignment : ℕ) → (to from : ExprPlan) → (next : Exit) → Type 0
+EmitsCopy before after t size alignment to from next =
+    EmitsTo before after (copy_code t size alignment to from) next
+
+abbrev pub GrowsByCopy :
+    (before after : Vec Instruction Global) → (t size alignment : ℕ) → (to from : ExprPlan) → (next : Exit) → Type 0
+GrowsByCopy before after t size alignment to from next =
+    GrowsTo before after (copy_code t size alignment to from) next
+
+-- behind which the last stands
+abbrev pub EmitsBefore : (before after : Vec Instruction Global) → List StmtPlan → (last : StmtPlan) → Exits → Type 0
+EmitsBefore before after all last x = EmitsAt before after (code_before (stmt_parts all) (stmt_part last) x)

@@ -10,11 +10,8 @@ use Rattle.qs_tac.specs.Trees.{InstructionTree, move, unary, binary, convert, ad
 use Rattle.qs_tac.specs.Trees.{copy, fill, call, jump, branch, return, TacFunctionTree}
 use Rattle.qs_tac.specs.Sizes as tac
 use Rattle.qs_tac.specs.Sizes.{near_values}
-use Rattle.qs_lower.specs.Threads.{threaded_function}
-use Rattle.qs_lower.specs.Units.{straight_function, lower_unit}
-
-abbrev pub lowered_function : CoreFunctionTree → TacFunctionTree
-lowered_function f = threaded_function (straight_function f)
+pub use Rattle.qs_lower.specs.Units.{lowered_function}
+use Rattle.qs_lower.specs.Units.{lower_unit}
 
 -- all that a function holds of parts of expressions lies in the reach of an immediate
 abbrev pub IsInReach : CoreFunctionTree → Type 0

@@ -1,7 +1,7 @@
 // The operands and addresses that the code of a plan comes to.
 ghost use Rattle.std.specs.Prelude.{◌≡◌, IfOk, Some};
 ghost use Rattle.qs_lower.specs.Expressions as spec;
-ghost use Rattle.qs_lower.specs.Plans.{expr_code, started, with_offset_at};
+ghost use Rattle.qs_lower.specs.Plans.{expr_code, with_offset_at, element_index, started_code};
 
 use crate::numbers::sum;
 use crate::plans::{ExprPlan, PlanPair};
@@ -42,7 +42,7 @@ pub fn base(e: &ExprPlan, t: u32) -> Operand
 
 #[cycle(base)]
 fn started_base(p: &ExprPlan, is_computed: bool, t: u32) -> Operand
-    ensures { result ≡ (started is_computed (expr_code p.now)).base t }
+    ensures { result ≡ (started_code is_computed p.now).base t }
 {
     if is_computed {
         operand_of(p, t)
@@ -59,8 +59,7 @@ fn element(
     size: u32,
     t: u32,
 ) -> Result<Index, NoMemory>
-    ensures { IfOk result (λ index. Some index ≡ spec.index_at
-        (spec.indexed_by signedness size (started is_computed (expr_code p.now.left)) (expr_code p.now.right)).index t) }
+    ensures { IfOk result (λ i. Some i ≡ element_index is_computed signedness size p.now t) }
 {
     let count = operand_of(&p.right, sum(t, started_own(&p.left, is_computed)?)?);
     Ok(Index {

@@ -1,10 +1,10 @@
 // The plans of the statements of core.
-ghost use Rattle.std.specs.Prelude.{◌≡◌, IfOk, map};
+ghost use Rattle.std.specs.Prelude.{IfOk};
 ghost use Rattle.qs_core.specs.Trees as core;
 ghost use Rattle.qs_core.specs.Trees.{stmts_of};
 ghost use Rattle.qs_core.specs.TreeOf.{core_expr, core_exprs, core_stmt, core_stmts};
 ghost use Rattle.qs_lower.specs.Statements as spec;
-ghost use Rattle.qs_lower.specs.StmtPlans.{stmt_part};
+ghost use Rattle.qs_lower.specs.StmtPlans.{AreStmtPlansIn, IsStmtPlanIn, IsStmtPlanOf, copy_stmt};
 
 use crate::planning::lowered;
 use crate::stmt_planning::{all_lowered, joined, of_branch, of_loop, taken_by, target_of};
@@ -24,7 +24,7 @@ fn store_plan(
     a: &CoreExpr,
     b: &CoreExpr,
 ) -> Result<StmtPlan, NoMemory>
-    ensures { IfOk result (λ r. stmt_part r ≡ spec.stmt_code v free (core.store s (core_expr a.now) (core_expr b.now))) }
+    ensures { IfOk result (IsStmtPlanIn v free (core.store s (core_expr a.now) (core_expr b.now))) }
 {
     let a = lowered(alloc, v, a)?;
     let b = lowered(alloc, v, b)?;
@@ -40,8 +40,7 @@ fn copy_plan(
     a: &CoreExpr,
     b: &CoreExpr,
 ) -> Result<StmtPlan, NoMemory>
-    ensures { IfOk result (λ r. stmt_part r
-        ≡ spec.stmt_code v free (core.copy size alignment (core_expr a.now) (core_expr b.now))) }
+    ensures { IfOk result (IsStmtPlanIn v free (copy_stmt size alignment a.now b.now)) }
 {
     let a = lowered(alloc, v, a)?;
     let b = lowered(alloc, v, b)?;
@@ -62,7 +61,7 @@ fn call_plan(
     f: Callee,
     es: &[CoreExpr],
 ) -> Result<StmtPlan, NoMemory>
-    ensures { IfOk result (λ r. stmt_part r ≡ spec.stmt_code v free (core.call x f (core_exprs es.now))) }
+    ensures { IfOk result (IsStmtPlanIn v free (core.call x f (core_exprs es.now))) }
 {
     let es = all_lowered(alloc, v, es)?;
     Ok(StmtPlan::Call(free, taken_by(v, x)?, f, es))
@@ -70,7 +69,7 @@ fn call_plan(
 
 #[cycle(stmt_plans)]
 fn stmt_plans(alloc: Global, v: u32, free: u32, ss: &[CoreStmt]) -> Result<Vec<StmtPlan>, NoMemory>
-    ensures { IfOk result (λ r. map stmt_part r.items ≡ map (spec.stmt_code v free) (core_stmts ss.now)) }
+    ensures { IfOk result (AreStmtPlansIn v free (core_stmts ss.now)) }
 {
     let mut all = Vec::new(alloc);
     for s in ss {
@@ -83,7 +82,7 @@ fn stmt_plans(alloc: Global, v: u32, free: u32, ss: &[CoreStmt]) -> Result<Vec<S
 #[cycle(stmt_plans)]
 #[tactic(auto, using(crate::proofs::StmtPlanLaws::stmts_joined))]
 fn stmt_plan(alloc: Global, v: u32, free: u32, s: &CoreStmt) -> Result<StmtPlan, NoMemory>
-    ensures { IfOk result (λ r. stmt_part r ≡ spec.stmt_code v free (core_stmt s.now)) }
+    ensures { IfOk result (IsStmtPlanIn v free (core_stmt s.now)) }
 {
     match s {
         CoreStmt::Skip => Ok(StmtPlan::Go(Way::Next)),
@@ -128,7 +127,7 @@ fn stmt_plan(alloc: Global, v: u32, free: u32, s: &CoreStmt) -> Result<StmtPlan,
 /// The plan of the statements of a function's body.
 #[tactic(auto, using(crate::proofs::StmtPlanLaws::stmts_joined))]
 pub fn body_plan(alloc: Global, v: u32, free: u32, ss: &[CoreStmt]) -> Result<StmtPlan, NoMemory>
-    ensures { IfOk result (λ r. stmt_part r ≡ spec.stmts_code v free (stmts_of (core_stmts ss.now))) }
+    ensures { IfOk result (IsStmtPlanOf (spec.stmts_code v free (stmts_of (core_stmts ss.now)))) }
 {
     let all = stmt_plans(alloc, v, free, ss)?;
     joined(alloc, all)

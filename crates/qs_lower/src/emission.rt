@@ -1,10 +1,14 @@
 // The code of plans.
-ghost use Rattle.std.specs.Prelude.{◌≡◌, ◌+◌, [], ◌∷◌, ◌++◌, true, false, OnOk, length};
+ghost use Rattle.std.specs.Prelude.{◌≡◌, ◌+◌, true, false, OnOk};
 ghost use Rattle.qs_tac.specs.TreeOf.{instruction_tree};
-ghost use Rattle.qs_lower.specs.Exits as exits;
 ghost use Rattle.qs_lower.specs.Expressions as spec;
-ghost use Rattle.qs_lower.specs.Plans.{expr_code, exit_tree, started, Emitted, number_code};
-ghost use Rattle.qs_lower.specs.Plans.{of_plain_operation, element_code, value_test_code};
+ghost use Rattle.qs_lower.specs.Plans.{expr_code, number_code, Emits, EmitsAt, EmitsTest, Grows};
+ghost use Rattle.qs_lower.specs.Plans.{GrowsByTest, GrowsByValue, TestsValue, binary_code};
+ghost use Rattle.qs_lower.specs.Plans.{both_code, both_number, both_sizes, both_test_size};
+ghost use Rattle.qs_lower.specs.Plans.{choice_code, either_code, either_number, either_sizes};
+ghost use Rattle.qs_lower.specs.Plans.{either_test_size, element_parts, element_size};
+ghost use Rattle.qs_lower.specs.Plans.{operands_code, operands_size, operation_code, start_parts};
+ghost use Rattle.qs_lower.specs.Plans.{start_size, unary_code};
 
 use crate::addresses::{address_at, operand_of};
 use crate::exits::{Exit, emit_branch, emit_known, put};
@@ -42,8 +46,8 @@ fn converting_instruction(s: Scalar, x: u32, o: Operand) -> Instruction
 // Behind a test that goes on here where it holds, and just before the last of these instructions
 // where it doesn't: the number 1 or 0.
 fn put_number(code: &mut Vec<Instruction>, x: u32, end: u32) -> Result<(), NoMemory>
-    ensures code { OnOk result (Emitted code.old.items code.new.items (number_code x end)) }
-    ensures size { OnOk result (length code.new.items ≡ length code.old.items + 3) }
+    ensures code { OnOk result (Emits code.old code.new (number_code x end)) }
+    ensures size { OnOk result (Grows code.old code.new 3) }
 {
     put(code, Instruction::Move(x, Operand::Constant(1)))?;
     put(code, Instruction::Jump(end))?;
@@ -53,9 +57,8 @@ fn put_number(code: &mut Vec<Instruction>, x: u32, end: u32) -> Result<(), NoMem
 /// Emits the value into a temporary; others from t on are free.
 #[cycle(emission)]
 pub fn emit_into(code: &mut Vec<Instruction>, e: &ExprPlan, x: u32, t: u32) -> Result<(), NoMemory>
-    ensures code { OnOk result (Emitted code.old.items code.new.items
-        ((expr_code e.now).into x t (length code.old.items))) }
-    ensures size { OnOk result (length code.new.items ≡ length code.old.items + (expr_code e.now).size) }
+    ensures code { OnOk result (EmitsAt code.old code.new ((expr_code e.now).into x t)) }
+    ensures size { OnOk result (Grows code.old code.new (expr_code e.now).size) }
 {
     match e {
         ExprPlan::Simple(o) => put(code, Instruction::Move(x, *o)),
@@ -95,10 +98,8 @@ fn emit_unary(
     x: u32,
     t: u32,
 ) -> Result<(), NoMemory>
-    ensures code { OnOk result (Emitted code.old.items code.new.items
-        ((spec.of_compound op false false (expr_code a.now)).into x t (length code.old.items))) }
-    ensures size { OnOk result (length code.new.items ≡ length code.old.items
-        + (spec.of_compound op false false (expr_code a.now)).size) }
+    ensures code { OnOk result (EmitsAt code.old code.new ((unary_code op a.now).into x t)) }
+    ensures size { OnOk result (Grows code.old code.new (unary_code op a.now).size) }
 {
     emit_operand(code, a, t)?;
     put(code, Instruction::Unary(op, x, operand_of(a, t)))
@@ -112,10 +113,8 @@ fn emit_binary(
     x: u32,
     t: u32,
 ) -> Result<(), NoMemory>
-    ensures code { OnOk result (Emitted code.old.items code.new.items
-        ((spec.of_binary_value op (expr_code p.now.left) (expr_code p.now.right)).into x t (length code.old.items))) }
-    ensures size { OnOk result (length code.new.items ≡ length code.old.items
-        + (spec.of_binary_value op (expr_code p.now.left) (expr_code p.now.right)).size) }
+    ensures code { OnOk result (EmitsAt code.old code.new ((binary_code op p.now).into x t)) }
+    ensures size { OnOk result (Grows code.old code.new (binary_code op p.now).size) }
 {
     let next = sum(t, own(&p.left))?;
     emit_pair(code, p, t)?;
@@ -128,9 +127,8 @@ fn emit_binary(
 /// Emits the value into the temporary t, where the expression isn't an operand as it stands.
 #[cycle(emission)]
 pub fn emit_operand(code: &mut Vec<Instruction>, e: &ExprPlan, t: u32) -> Result<(), NoMemory>
-    ensures code { OnOk result (Emitted code.old.items code.new.items
-        (spec.code_of (expr_code e.now) t (length code.old.items))) }
-    ensures size { OnOk result (length code.new.items ≡ length code.old.items + spec.size_of (expr_code e.now)) }
+    ensures code { OnOk result (EmitsAt code.old code.new (spec.code_of (expr_code e.now) t)) }
+    ensures size { OnOk result (Grows code.old code.new (spec.size_of (expr_code e.now))) }
 {
     match e.simple() {
         None => emit_into(code, e, t, t),
@@ -141,9 +139,8 @@ pub fn emit_operand(code: &mut Vec<Instruction>, e: &ExprPlan, t: u32) -> Result
 /// Emits the parts of the address.
 #[cycle(emission)]
 pub fn emit_base(code: &mut Vec<Instruction>, e: &ExprPlan, t: u32) -> Result<(), NoMemory>
-    ensures code { OnOk result (Emitted code.old.items code.new.items
-        ((expr_code e.now).base_code t (length code.old.items))) }
-    ensures size { OnOk result (length code.new.items ≡ length code.old.items + (expr_code e.now).base_size) }
+    ensures code { OnOk result (EmitsAt code.old code.new ((expr_code e.now).base_code t)) }
+    ensures size { OnOk result (Grows code.old code.new (expr_code e.now).base_size) }
 {
     match e {
         ExprPlan::Offset(is_computed, _, p) => emit_started(code, p, *is_computed, t),
@@ -167,10 +164,8 @@ fn emit_started(
     is_computed: bool,
     t: u32,
 ) -> Result<(), NoMemory>
-    ensures code { OnOk result (Emitted code.old.items code.new.items
-        ((started is_computed (expr_code p.now)).base_code t (length code.old.items))) }
-    ensures size { OnOk result (length code.new.items
-        ≡ length code.old.items + (started is_computed (expr_code p.now)).base_size) }
+    ensures code { OnOk result (EmitsAt code.old code.new (start_parts is_computed p.now t)) }
+    ensures size { OnOk result (Grows code.old code.new (start_size is_computed p.now)) }
 {
     if is_computed {
         emit_operand(code, p, t)
@@ -186,10 +181,8 @@ fn emit_element(
     is_computed: bool,
     t: u32,
 ) -> Result<(), NoMemory>
-    ensures code { OnOk result (Emitted code.old.items code.new.items
-        (element_code (started is_computed (expr_code p.now.left)) (expr_code p.now.right) t (length code.old.items))) }
-    ensures size { OnOk result (length code.new.items ≡ length code.old.items
-        + ((started is_computed (expr_code p.now.left)).base_size + spec.size_of (expr_code p.now.right))) }
+    ensures code { OnOk result (EmitsAt code.old code.new (element_parts is_computed p.now t)) }
+    ensures size { OnOk result (Grows code.old code.new (element_size is_computed p.now)) }
 {
     let next = sum(t, started_own(&p.left, is_computed)?)?;
     emit_started(code, &p.left, is_computed, t)?;
@@ -198,10 +191,8 @@ fn emit_element(
 
 #[cycle(emission)]
 fn emit_pair(code: &mut Vec<Instruction>, p: &PlanPair, t: u32) -> Result<(), NoMemory>
-    ensures code { OnOk result (Emitted code.old.items code.new.items
-        (spec.pair_code (expr_code p.now.left) (expr_code p.now.right) t (length code.old.items))) }
-    ensures size { OnOk result (length code.new.items
-        ≡ length code.old.items + spec.pair_size (expr_code p.now.left) (expr_code p.now.right)) }
+    ensures code { OnOk result (EmitsAt code.old code.new (operands_code p.now t)) }
+    ensures size { OnOk result (Grows code.old code.new (operands_size p.now)) }
 {
     let next = sum(t, own(&p.left))?;
     emit_operand(code, &p.left, t)?;
@@ -216,11 +207,8 @@ fn emit_both_number(
     x: u32,
     t: u32,
 ) -> Result<(), NoMemory>
-    ensures code { OnOk result (Emitted code.old.items code.new.items
-        (spec.number_of (spec.both_size (expr_code p.now.left) (expr_code p.now.right))
-        (spec.of_both_tests (expr_code p.now.left) (expr_code p.now.right)).test x t (length code.old.items))) }
-    ensures size { OnOk result (length code.new.items ≡ length code.old.items
-        + (spec.both_size (expr_code p.now.left) (expr_code p.now.right) true false + 3)) }
+    ensures code { OnOk result (EmitsAt code.old code.new (both_number p.now x t)) }
+    ensures size { OnOk result (Grows code.old code.new (both_sizes p.now true false + 3)) }
 {
     let met = sum(place(code)?, both_size(p, true, false)?)?;
     let unmet = sum(met, 2)?;
@@ -238,11 +226,8 @@ fn emit_either_number(
     x: u32,
     t: u32,
 ) -> Result<(), NoMemory>
-    ensures code { OnOk result (Emitted code.old.items code.new.items
-        (spec.number_of (spec.either_size (expr_code p.now.left) (expr_code p.now.right))
-        (spec.of_either_test (expr_code p.now.left) (expr_code p.now.right)).test x t (length code.old.items))) }
-    ensures size { OnOk result (length code.new.items ≡ length code.old.items
-        + (spec.either_size (expr_code p.now.left) (expr_code p.now.right) true false + 3)) }
+    ensures code { OnOk result (EmitsAt code.old code.new (either_number p.now x t)) }
+    ensures size { OnOk result (Grows code.old code.new (either_sizes p.now true false + 3)) }
 {
     let met = sum(place(code)?, either_size(p, true, false)?)?;
     let unmet = sum(met, 2)?;
@@ -254,10 +239,8 @@ fn emit_either_number(
 
 #[cycle(emission)]
 fn emit_choice(code: &mut Vec<Instruction>, p: &PlanChoice, x: u32, t: u32) -> Result<(), NoMemory>
-    ensures code { OnOk result (Emitted code.old.items code.new.items
-        ((spec.of_choice (expr_code p.now.condition) (expr_code p.now.met) (expr_code p.now.unmet)).into x t (length code.old.items))) }
-    ensures size { OnOk result (length code.new.items ≡ length code.old.items
-        + (spec.of_choice (expr_code p.now.condition) (expr_code p.now.met) (expr_code p.now.unmet)).size) }
+    ensures code { OnOk result (EmitsAt code.old code.new ((choice_code p.now).into x t)) }
+    ensures size { OnOk result (Grows code.old code.new (choice_code p.now).size) }
 {
     let first = sum(place(code)?, test_size(&p.condition, true, false)?)?;
     let second = sum(sum(first, size(&p.met)?)?, 1)?;
@@ -282,10 +265,8 @@ fn emit_value_test(
     unmet: Exit,
     t: u32,
 ) -> Result<(), NoMemory>
-    ensures code { OnOk result (Emitted code.old.items code.new.items
-        (value_test_code (expr_code e.now) (exit_tree met) (exit_tree unmet) t (length code.old.items))) }
-    ensures size { OnOk result (length code.new.items ≡ length code.old.items
-        + ((expr_code e.now).size + exits.branch_size (exits.is_fall (exit_tree met)) (exits.is_fall (exit_tree unmet)))) }
+    ensures code { OnOk result (TestsValue code.old code.new (expr_code e.now) met unmet t) }
+    ensures size { OnOk result (GrowsByValue code.old code.new (expr_code e.now) met unmet) }
 {
     emit_into(code, e, t, t)?;
     emit_branch(code, Condition::NotZero(Operand::Temporary(t)), met, unmet)
@@ -300,10 +281,8 @@ fn emit_unary_test(
     unmet: Exit,
     t: u32,
 ) -> Result<(), NoMemory>
-    ensures code { OnOk result (Emitted code.old.items code.new.items
-        ((spec.of_compound op false false (expr_code a.now)).test (exit_tree met) (exit_tree unmet) t (length code.old.items))) }
-    ensures size { OnOk result (length code.new.items ≡ length code.old.items
-        + (spec.of_compound op false false (expr_code a.now)).test_size (exits.is_fall (exit_tree met)) (exits.is_fall (exit_tree unmet))) }
+    ensures code { OnOk result (EmitsTest code.old code.new (unary_code op a.now) met unmet t) }
+    ensures size { OnOk result (GrowsByTest code.old code.new (unary_code op a.now) met unmet) }
 {
     match op {
         UnaryOperation::Not => emit_test(code, a, unmet, met, t),
@@ -323,10 +302,8 @@ fn emit_unary_value_test(
     unmet: Exit,
     t: u32,
 ) -> Result<(), NoMemory>
-    ensures code { OnOk result (Emitted code.old.items code.new.items
-        (value_test_code (spec.of_compound op false false (expr_code a.now)) (exit_tree met) (exit_tree unmet) t (length code.old.items))) }
-    ensures size { OnOk result (length code.new.items ≡ length code.old.items
-        + ((spec.of_compound op false false (expr_code a.now)).size + exits.branch_size (exits.is_fall (exit_tree met)) (exits.is_fall (exit_tree unmet)))) }
+    ensures code { OnOk result (TestsValue code.old code.new (unary_code op a.now) met unmet t) }
+    ensures size { OnOk result (GrowsByValue code.old code.new (unary_code op a.now) met unmet) }
 {
     emit_unary(code, op, a, t, t)?;
     emit_branch(code, Condition::NotZero(Operand::Temporary(t)), met, unmet)
@@ -341,10 +318,8 @@ fn emit_binary_value_test(
     unmet: Exit,
     t: u32,
 ) -> Result<(), NoMemory>
-    ensures code { OnOk result (Emitted code.old.items code.new.items
-        (value_test_code (spec.of_binary_value op (expr_code p.now.left) (expr_code p.now.right)) (exit_tree met) (exit_tree unmet) t (length code.old.items))) }
-    ensures size { OnOk result (length code.new.items ≡ length code.old.items
-        + ((spec.of_binary_value op (expr_code p.now.left) (expr_code p.now.right)).size + exits.branch_size (exits.is_fall (exit_tree met)) (exits.is_fall (exit_tree unmet)))) }
+    ensures code { OnOk result (TestsValue code.old code.new (binary_code op p.now) met unmet t) }
+    ensures size { OnOk result (GrowsByValue code.old code.new (binary_code op p.now) met unmet) }
 {
     emit_binary(code, op, p, t, t)?;
     emit_branch(code, Condition::NotZero(Operand::Temporary(t)), met, unmet)
@@ -360,10 +335,8 @@ fn emit_binary_test(
     unmet: Exit,
     t: u32,
 ) -> Result<(), NoMemory>
-    ensures code { OnOk result (Emitted code.old.items code.new.items
-        ((of_plain_operation op (expr_code p.now.left) (expr_code p.now.right)).test (exit_tree met) (exit_tree unmet) t (length code.old.items))) }
-    ensures size { OnOk result (length code.new.items ≡ length code.old.items
-        + (of_plain_operation op (expr_code p.now.left) (expr_code p.now.right)).test_size (exits.is_fall (exit_tree met)) (exits.is_fall (exit_tree unmet))) }
+    ensures code { OnOk result (EmitsTest code.old code.new (operation_code op p.now) met unmet t) }
+    ensures size { OnOk result (GrowsByTest code.old code.new (operation_code op p.now) met unmet) }
 {
     let left = operand_of(&p.left, t);
     let right = operand_of(&p.right, sum(t, own(&p.left))?);
@@ -391,10 +364,8 @@ pub fn emit_test(
     unmet: Exit,
     t: u32,
 ) -> Result<(), NoMemory>
-    ensures code { OnOk result (Emitted code.old.items code.new.items
-        ((expr_code e.now).test (exit_tree met) (exit_tree unmet) t (length code.old.items))) }
-    ensures size { OnOk result (length code.new.items ≡ length code.old.items
-        + (expr_code e.now).test_size (exits.is_fall (exit_tree met)) (exits.is_fall (exit_tree unmet))) }
+    ensures code { OnOk result (EmitsTest code.old code.new (expr_code e.now) met unmet t) }
+    ensures size { OnOk result (GrowsByTest code.old code.new (expr_code e.now) met unmet) }
 {
     match e {
         ExprPlan::Simple(o) => emit_known(code, truth_of(*o), *o, met, unmet),
@@ -420,11 +391,8 @@ fn emit_both(
     unmet: Exit,
     t: u32,
 ) -> Result<(), NoMemory>
-    ensures code { OnOk result (Emitted code.old.items code.new.items
-        ((spec.of_both_tests (expr_code p.now.left) (expr_code p.now.right)).test (exit_tree met) (exit_tree unmet) t (length code.old.items))) }
-    ensures size { OnOk result (length code.new.items ≡ length code.old.items
-        + spec.both_size (expr_code p.now.left) (expr_code p.now.right)
-        (exits.is_fall (exit_tree met)) (exits.is_fall (exit_tree unmet))) }
+    ensures code { OnOk result (EmitsTest code.old code.new (both_code p.now) met unmet t) }
+    ensures size { OnOk result (Grows code.old code.new (both_test_size p.now met unmet)) }
 {
     let second = sum(place(code)?, test_size(&p.left, true, false)?)?;
     emit_test(code, &p.left, Exit::Falls(second), unmet.settled(), t)?;
@@ -440,11 +408,8 @@ fn emit_either(
     unmet: Exit,
     t: u32,
 ) -> Result<(), NoMemory>
-    ensures code { OnOk result (Emitted code.old.items code.new.items
-        ((spec.of_either_test (expr_code p.now.left) (expr_code p.now.right)).test (exit_tree met) (exit_tree unmet) t (length code.old.items))) }
-    ensures size { OnOk result (length code.new.items ≡ length code.old.items
-        + spec.either_size (expr_code p.now.left) (expr_code p.now.right)
-        (exits.is_fall (exit_tree met)) (exits.is_fall (exit_tree unmet))) }
+    ensures code { OnOk result (EmitsTest code.old code.new (either_code p.now) met unmet t) }
+    ensures size { OnOk result (Grows code.old code.new (either_test_size p.now met unmet)) }
 {
     let second = sum(place(code)?, test_size(&p.left, false, true)?)?;
     emit_test(code, &p.left, met.settled(), Exit::Falls(second), t)?;

@@ -1,9 +1,10 @@
 // Where code goes on, and the jumps and branches that take it there.
-ghost use Rattle.std.specs.Prelude.{◌≡◌, ◌+◌, [], ◌∷◌, OnOk, length};
+ghost use Rattle.std.specs.Prelude.{◌≡◌, [], ◌∷◌, OnOk};
 ghost use Rattle.qs_tac.specs.TreeOf.{instruction_tree};
 ghost use Rattle.qs_lower.specs.Exits as spec;
-ghost use Rattle.qs_lower.specs.Expressions.{known_size, known_code};
-ghost use Rattle.qs_lower.specs.Plans.{exit_tree, Emitted};
+ghost use Rattle.qs_lower.specs.Expressions.{known_size};
+ghost use Rattle.qs_lower.specs.Plans.{exit_tree, Emits, EmitsBranch, EmitsKnown, Grows};
+ghost use Rattle.qs_lower.specs.Plans.{GrowsByBranch, GrowsByKnown, does_fall};
 
 use qs_base::NoMemory;
 use qs_memory::Comparison;
@@ -49,8 +50,8 @@ impl Exit {
 
 /// Puts an instruction behind the code.
 pub fn put(code: &mut Vec<Instruction>, instruction: Instruction) -> Result<(), NoMemory>
-    ensures code { OnOk result (Emitted code.old.items code.new.items (instruction_tree instruction ∷ [])) }
-    ensures size { OnOk result (length code.new.items ≡ length code.old.items + 1) }
+    ensures code { OnOk result (Emits code.old code.new (instruction_tree instruction ∷ [])) }
+    ensures size { OnOk result (Grows code.old code.new 1) }
 {
     code.push(instruction)?;
     Ok(())
@@ -67,9 +68,8 @@ pub fn exit_size(is_fall: bool) -> u32
 
 /// The jump to the exit, where one is needed.
 pub fn emit_exit(code: &mut Vec<Instruction>, exit: Exit) -> Result<(), NoMemory>
-    ensures code { OnOk result (Emitted code.old.items code.new.items (spec.exit_code (exit_tree exit))) }
-    ensures size { OnOk result (length code.new.items
-        ≡ length code.old.items + spec.exit_size (spec.is_fall (exit_tree exit))) }
+    ensures code { OnOk result (Emits code.old code.new (spec.exit_code (exit_tree exit))) }
+    ensures size { OnOk result (Grows code.old code.new (spec.exit_size (does_fall exit))) }
 {
     match exit {
         Exit::Falls(_) => Ok(()),
@@ -127,10 +127,8 @@ pub fn emit_branch(
     met: Exit,
     unmet: Exit,
 ) -> Result<(), NoMemory>
-    ensures code { OnOk result (Emitted code.old.items code.new.items
-        (spec.branch_code c (exit_tree met) (exit_tree unmet))) }
-    ensures size { OnOk result (length code.new.items ≡ length code.old.items
-        + spec.branch_size (spec.is_fall (exit_tree met)) (spec.is_fall (exit_tree unmet))) }
+    ensures code { OnOk result (EmitsBranch code.old code.new c met unmet) }
+    ensures size { OnOk result (GrowsByBranch code.old code.new met unmet) }
 {
     match met {
         Exit::Falls(y) => match unmet {
@@ -166,10 +164,8 @@ pub fn emit_known(
     met: Exit,
     unmet: Exit,
 ) -> Result<(), NoMemory>
-    ensures code { OnOk result (Emitted code.old.items code.new.items
-        (known_code known [] (Condition.NotZero o) (exit_tree met) (exit_tree unmet))) }
-    ensures size { OnOk result (length code.new.items ≡ length code.old.items
-        + known_size known 0 (spec.is_fall (exit_tree met)) (spec.is_fall (exit_tree unmet))) }
+    ensures code { OnOk result (EmitsKnown code.old code.new known o met unmet) }
+    ensures size { OnOk result (GrowsByKnown code.old code.new known met unmet) }
 {
     match known {
         None => emit_branch(code, Condition::NotZero(o), met, unmet),

@@ -1,11 +1,11 @@
 // The linear code of the functions of a unit.
-ghost use Rattle.std.specs.Prelude.{◌≡◌, IfOk, OnOk, map};
+ghost use Rattle.std.specs.Prelude.{◌≡◌, IfOk, OnOk};
 ghost use Rattle.qs_core.specs.TreeOf as core;
-ghost use Rattle.qs_tac.specs.TreeOf.{function_tree, instruction_tree};
-ghost use Rattle.qs_lower.specs.Plans.{Emitted};
+ghost use Rattle.qs_tac.specs.TreeOf.{function_tree};
+ghost use Rattle.qs_lower.specs.Plans.{Emits, HasCode};
 ghost use Rattle.qs_lower.specs.StmtPlans.{stmt_part};
-ghost use Rattle.qs_lower.specs.Threads.{threaded_function};
 ghost use Rattle.qs_lower.specs.Units as spec;
+ghost use Rattle.qs_lower.specs.Units.{lowered_function};
 
 use crate::bodies::body_plan;
 use crate::exits::{Exit, put};
@@ -23,7 +23,7 @@ use qs_tac::{Instruction, TacFunction};
 use std::alloc::Global;
 
 fn places(alloc: Global, parameters: &[CoreParameter]) -> Result<Vec<Parameter>, NoMemory>
-    ensures { IfOk result (λ r. r.items ≡ map (λ p. p.place) (map core.parameter_tree parameters.now)) }
+    ensures { IfOk result (λ r. r.items ≡ spec.places_of parameters.now) }
 {
     let mut all = Vec::new(alloc);
     for p in parameters {
@@ -34,7 +34,7 @@ fn places(alloc: Global, parameters: &[CoreParameter]) -> Result<Vec<Parameter>,
 
 // A body that ends returns no value (C11 6.9.1p12).
 fn emit_end(code: &mut Vec<Instruction>, ends: bool) -> Result<(), NoMemory>
-    ensures { OnOk result (Emitted code.old.items code.new.items (spec.end_code ends)) }
+    ensures { OnOk result (Emits code.old code.new (spec.end_code ends)) }
 {
     if ends {
         Ok(())
@@ -45,7 +45,7 @@ fn emit_end(code: &mut Vec<Instruction>, ends: bool) -> Result<(), NoMemory>
 
 // No break and no continue stands outside every loop.
 fn body_code(alloc: Global, body: &StmtPlan) -> Result<Vec<Instruction>, NoMemory>
-    ensures { IfOk result (λ r. map instruction_tree r.items ≡ spec.code_of_body (stmt_part body.now)) }
+    ensures { IfOk result (HasCode (spec.code_of_body (stmt_part body.now))) }
 {
     let mut code = Vec::new(alloc);
     let end = stmt_size(body, next_falls())?;
@@ -62,8 +62,7 @@ fn body_code(alloc: Global, body: &StmtPlan) -> Result<Vec<Instruction>, NoMemor
 
 /// The linear code of a function.
 pub fn lower_function(alloc: Global, f: &CoreFunction) -> Result<TacFunction, NoMemory>
-    ensures { IfOk result (λ r. function_tree r
-        ≡ threaded_function (spec.straight_function (core.function_tree f.now))) }
+    ensures { IfOk result (λ r. function_tree r ≡ lowered_function (core.function_tree f.now)) }
 {
     let v = count(f.variables.len())?;
     let free = sum(v, count(f.temporaries.len())?)?;
@@ -81,8 +80,7 @@ pub fn lower_function(alloc: Global, f: &CoreFunction) -> Result<TacFunction, No
 
 /// The functions of a unit, in order.
 pub fn lower_functions(alloc: Global, fs: &[CoreFunction]) -> Result<Vec<TacFunction>, NoMemory>
-    ensures { IfOk result (λ r. map function_tree r.items
-        ≡ map threaded_function (map spec.straight_function (map core.function_tree fs.now))) }
+    ensures { IfOk result (spec.AreLowered fs.now) }
 {
     let mut all = Vec::new(alloc);
     for f in fs {

@@ -1,10 +1,10 @@
 // Planning the code of expressions: each form of core becomes what the definition of its code says.
 ghost use Rattle.std.specs.Prelude.{◌≡◌, IfOk, Some, None};
-ghost use Rattle.qs_core.specs.Trees as core;
 ghost use Rattle.qs_core.specs.TreeOf.{core_expr};
-ghost use Rattle.qs_lower.specs.Operands as operands;
 ghost use Rattle.qs_lower.specs.Expressions as spec;
 ghost use Rattle.qs_lower.specs.Plans.{expr_code, index_offset, of_plain_operation, word_of};
+ghost use Rattle.qs_lower.specs.Plans.{IsPlanIn, IsPlanOf, and_of, binary_of, conditional_code};
+ghost use Rattle.qs_lower.specs.Plans.{or_of};
 
 use crate::numbers::sum;
 use crate::operands::{
@@ -28,7 +28,7 @@ fn pair_of(alloc: Global, left: ExprPlan, right: ExprPlan) -> Result<Box<PlanPai
 // ---- loads and addresses
 
 fn of_load(alloc: Global, s: Scalar, p: ExprPlan) -> Result<ExprPlan, NoMemory>
-    ensures { IfOk result (λ r. expr_code r ≡ spec.of_load s (expr_code p)) }
+    ensures { IfOk result (IsPlanOf (spec.of_load s (expr_code p))) }
 {
     Ok(ExprPlan::Load(s, Box::new(alloc, p)?))
 }
@@ -46,7 +46,7 @@ fn further(offset: Option<u32>, bytes: u32) -> Option<u32>
 #[tactic(auto, using(crate::proofs::PlanLaws::offset_near, crate::proofs::PlanLaws::offset_far))]
 fn behind_pointer(alloc: Global, bytes: u32, a: ExprPlan) -> Result<ExprPlan, NoMemory>
     requires { index_offset (expr_code a) ≡ None }
-    ensures { IfOk result (λ r. expr_code r ≡ spec.of_member bytes (expr_code a)) }
+    ensures { IfOk result (IsPlanOf (spec.of_member bytes (expr_code a))) }
 {
     match further(a.offset(), bytes) {
         None => Ok(ExprPlan::Offset(true, bytes, Box::new(alloc, a)?)),
@@ -62,7 +62,7 @@ fn behind_element(
     a: ExprPlan,
 ) -> Result<ExprPlan, NoMemory>
     requires { index_offset (expr_code a) ≡ Some offset }
-    ensures { IfOk result (λ r. expr_code r ≡ spec.of_member bytes (expr_code a)) }
+    ensures { IfOk result (IsPlanOf (spec.of_member bytes (expr_code a))) }
 {
     match further(offset, bytes) {
         None => Ok(ExprPlan::Offset(true, bytes, Box::new(alloc, a)?)),
@@ -71,7 +71,7 @@ fn behind_element(
 }
 
 fn of_member(alloc: Global, bytes: u32, a: ExprPlan) -> Result<ExprPlan, NoMemory>
-    ensures { IfOk result (λ r. expr_code r ≡ spec.of_member bytes (expr_code a)) }
+    ensures { IfOk result (IsPlanOf (spec.of_member bytes (expr_code a))) }
 {
     match a.index_offset() {
         None => behind_pointer(alloc, bytes, a),
@@ -79,7 +79,7 @@ fn of_member(alloc: Global, bytes: u32, a: ExprPlan) -> Result<ExprPlan, NoMemor
     }
 }
 
-#[tactic(auto, using(crate::proofs::PlanLaws::element_first, crate::proofs::PlanLaws::element_again))]
+#[tactic(auto, using(crate::proofs::PlanLaws::element_cases))]
 fn of_element(
     alloc: Global,
     s: Signedness,
@@ -87,7 +87,7 @@ fn of_element(
     a: ExprPlan,
     b: ExprPlan,
 ) -> Result<ExprPlan, NoMemory>
-    ensures { IfOk result (λ r. expr_code r ≡ spec.of_element s element (expr_code a) (expr_code b)) }
+    ensures { IfOk result (IsPlanOf (spec.of_element s element (expr_code a) (expr_code b))) }
 {
     match a.index_offset() {
         None => Ok(ExprPlan::Element(false, s, element, pair_of(alloc, a, b)?)),
@@ -98,7 +98,7 @@ fn of_element(
 // ---- operations on one value
 
 fn of_truth(alloc: Global, gives_truth: bool, a: ExprPlan) -> Result<ExprPlan, NoMemory>
-    ensures { IfOk result (λ r. expr_code r ≡ spec.of_truth gives_truth (expr_code a)) }
+    ensures { IfOk result (IsPlanOf (spec.of_truth gives_truth (expr_code a))) }
 {
     if gives_truth {
         Ok(a)
@@ -113,7 +113,7 @@ fn of_plus(
     s: Signedness,
     a: ExprPlan,
 ) -> Result<ExprPlan, NoMemory>
-    ensures { IfOk result (λ r. expr_code r ≡ spec.of_plus gives_integer s (expr_code a)) }
+    ensures { IfOk result (IsPlanOf (spec.of_plus gives_integer s (expr_code a))) }
 {
     if gives_integer {
         Ok(a)
@@ -129,7 +129,7 @@ fn of_compound(
     gives_truth: bool,
     a: ExprPlan,
 ) -> Result<ExprPlan, NoMemory>
-    ensures { IfOk result (λ r. expr_code r ≡ spec.of_compound op gives_integer gives_truth (expr_code a)) }
+    ensures { IfOk result (IsPlanOf (spec.of_compound op gives_integer gives_truth (expr_code a))) }
 {
     match op {
         UnaryOperation::Plus(s) => of_plus(alloc, gives_integer, s, a),
@@ -147,7 +147,7 @@ fn of_unary(
     gives_truth: bool,
     a: ExprPlan,
 ) -> Result<ExprPlan, NoMemory>
-    ensures { IfOk result (λ r. expr_code r ≡ spec.of_unary op gives_integer gives_truth (expr_code a)) }
+    ensures { IfOk result (IsPlanOf (spec.of_unary op gives_integer gives_truth (expr_code a))) }
 {
     match unary_of_option(op, a.simple()) {
         None => of_compound(alloc, op, gives_integer, gives_truth, a),
@@ -156,7 +156,7 @@ fn of_unary(
 }
 
 fn of_conversion(alloc: Global, s: Scalar, is_idle: bool, a: ExprPlan) -> Result<ExprPlan, NoMemory>
-    ensures { IfOk result (λ r. expr_code r ≡ spec.of_conversion s is_idle (expr_code a)) }
+    ensures { IfOk result (IsPlanOf (spec.of_conversion s is_idle (expr_code a))) }
 {
     match converted_option(s, a.simple()) {
         None => {
@@ -178,7 +178,7 @@ fn plain_operation(
     a: ExprPlan,
     b: ExprPlan,
 ) -> Result<ExprPlan, NoMemory>
-    ensures { IfOk result (λ r. expr_code r ≡ of_plain_operation op (expr_code a) (expr_code b)) }
+    ensures { IfOk result (IsPlanOf (of_plain_operation op (expr_code a) (expr_code b))) }
 {
     Ok(ExprPlan::Binary(op, pair_of(alloc, a, b)?))
 }
@@ -189,7 +189,7 @@ fn of_operation(
     a: ExprPlan,
     b: ExprPlan,
 ) -> Result<ExprPlan, NoMemory>
-    ensures { IfOk result (λ r. expr_code r ≡ spec.of_operation op (expr_code a) (expr_code b)) }
+    ensures { IfOk result (IsPlanOf (spec.of_operation op (expr_code a) (expr_code b))) }
 {
     match op {
         BinaryOperation::Arithmetic(_, _) => plain_operation(alloc, op, a, b),
@@ -207,9 +207,7 @@ fn stepped_or(
     a: ExprPlan,
     b: ExprPlan,
 ) -> Result<ExprPlan, NoMemory>
-    ensures { IfOk result (λ r. expr_code r ≡ spec.stepped_or
-        (operands.constant_step op (expr_code b).simple) (expr_code a)
-        (spec.of_operation op (expr_code a) (expr_code b))) }
+    ensures { IfOk result (IsPlanOf (spec.stepped_operation op (expr_code a) (expr_code b))) }
 {
     match constant_step(op, b.simple()) {
         None => of_operation(alloc, op, a, b),
@@ -223,7 +221,7 @@ fn of_binary(
     a: ExprPlan,
     b: ExprPlan,
 ) -> Result<ExprPlan, NoMemory>
-    ensures { IfOk result (λ r. expr_code r ≡ spec.of_binary op (expr_code a) (expr_code b)) }
+    ensures { IfOk result (IsPlanOf (spec.of_binary op (expr_code a) (expr_code b))) }
 {
     match folded(op, a.simple(), b.simple()) {
         None => stepped_or(alloc, op, a, b),
@@ -240,7 +238,7 @@ fn of_and(
     a: ExprPlan,
     b: ExprPlan,
 ) -> Result<ExprPlan, NoMemory>
-    ensures { IfOk result (λ r. expr_code r ≡ spec.of_and known gives_truth (expr_code a) (expr_code b)) }
+    ensures { IfOk result (IsPlanOf (spec.of_and known gives_truth (expr_code a) (expr_code b))) }
 {
     match known {
         None => Ok(ExprPlan::Both(pair_of(alloc, a, b)?)),
@@ -256,7 +254,7 @@ fn of_or(
     a: ExprPlan,
     b: ExprPlan,
 ) -> Result<ExprPlan, NoMemory>
-    ensures { IfOk result (λ r. expr_code r ≡ spec.of_or known gives_truth (expr_code a) (expr_code b)) }
+    ensures { IfOk result (IsPlanOf (spec.of_or known gives_truth (expr_code a) (expr_code b))) }
 {
     match known {
         None => Ok(ExprPlan::Either(pair_of(alloc, a, b)?)),
@@ -272,7 +270,7 @@ fn of_conditional(
     a: ExprPlan,
     b: ExprPlan,
 ) -> Result<ExprPlan, NoMemory>
-    ensures { IfOk result (λ r. expr_code r ≡ spec.of_conditional known (expr_code c) (expr_code a) (expr_code b)) }
+    ensures { IfOk result (IsPlanOf (conditional_code known c a b)) }
 {
     match known {
         None => {
@@ -294,7 +292,7 @@ fn of_conditional(
 /// the function's temporaries follow. Like the expression it is as high as the source's.
 #[cycle(lowered)]
 pub fn lowered(alloc: Global, v: u32, e: &CoreExpr) -> Result<ExprPlan, NoMemory>
-    ensures { IfOk result (λ r. expr_code r ≡ spec.lowered v (core_expr e.now)) }
+    ensures { IfOk result (IsPlanIn v (core_expr e.now)) }
 {
     match e {
         CoreExpr::Literal(_, n) => Ok(ExprPlan::Simple(Operand::Constant(*n))),
@@ -337,8 +335,7 @@ fn lowered_binary(
     op: BinaryOperation,
     p: &Operands,
 ) -> Result<ExprPlan, NoMemory>
-    ensures { IfOk result (λ r. expr_code r
-        ≡ spec.lowered v (core.binary op (core_expr p.now.left) (core_expr p.now.right))) }
+    ensures { IfOk result (IsPlanIn v (binary_of op p.now)) }
 {
     let a = lowered(alloc, v, &p.left)?;
     let b = lowered(alloc, v, &p.right)?;
@@ -347,8 +344,7 @@ fn lowered_binary(
 
 #[cycle(lowered)]
 fn lowered_and(alloc: Global, v: u32, p: &Operands) -> Result<ExprPlan, NoMemory>
-    ensures { IfOk result (λ r. expr_code r
-        ≡ spec.lowered v (core.logical_and (core_expr p.now.left) (core_expr p.now.right))) }
+    ensures { IfOk result (IsPlanIn v (and_of p.now)) }
 {
     let a = lowered(alloc, v, &p.left)?;
     let b = lowered(alloc, v, &p.right)?;
@@ -357,8 +353,7 @@ fn lowered_and(alloc: Global, v: u32, p: &Operands) -> Result<ExprPlan, NoMemory
 
 #[cycle(lowered)]
 fn lowered_or(alloc: Global, v: u32, p: &Operands) -> Result<ExprPlan, NoMemory>
-    ensures { IfOk result (λ r. expr_code r
-        ≡ spec.lowered v (core.logical_or (core_expr p.now.left) (core_expr p.now.right))) }
+    ensures { IfOk result (IsPlanIn v (or_of p.now)) }
 {
     let a = lowered(alloc, v, &p.left)?;
     let b = lowered(alloc, v, &p.right)?;

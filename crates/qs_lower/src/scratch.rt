@@ -1,7 +1,7 @@
 // How many temporaries the code of a plan takes besides those of the function.
-ghost use Rattle.std.specs.Prelude.{◌≡◌, ◌+◌, IfOk, max};
+ghost use Rattle.std.specs.Prelude.{◌≡◌, IfOk};
 ghost use Rattle.qs_lower.specs.Expressions as spec;
-ghost use Rattle.qs_lower.specs.Plans.{expr_code, started, of_plain_operation};
+ghost use Rattle.qs_lower.specs.Plans.{expr_code, element_used, started_code, tests_used};
 
 use crate::numbers::sum;
 use crate::plans::{ExprPlan, PlanPair};
@@ -46,7 +46,7 @@ pub fn base_own(e: &ExprPlan) -> Result<u32, NoMemory>
 /// Those of the address where an element or a member begins.
 #[cycle(base_own)]
 pub fn started_own(p: &ExprPlan, is_computed: bool) -> Result<u32, NoMemory>
-    ensures { IfOk result (λ n. n ≡ (started is_computed (expr_code p.now)).base_own) }
+    ensures { IfOk result (λ n. n ≡ (started_code is_computed p.now).base_own) }
 {
     if is_computed { Ok(own(p)) } else { base_own(p) }
 }
@@ -109,7 +109,7 @@ pub fn base_used(e: &ExprPlan) -> Result<u32, NoMemory>
 
 #[cycle(used)]
 fn started_used(p: &ExprPlan, is_computed: bool) -> Result<u32, NoMemory>
-    ensures { IfOk result (λ n. n ≡ (started is_computed (expr_code p.now)).base_used) }
+    ensures { IfOk result (λ n. n ≡ (started_code is_computed p.now).base_used) }
 {
     if is_computed {
         used_by(p)
@@ -120,8 +120,7 @@ fn started_used(p: &ExprPlan, is_computed: bool) -> Result<u32, NoMemory>
 
 #[cycle(used)]
 fn element_used(p: &PlanPair, is_computed: bool) -> Result<u32, NoMemory>
-    ensures { IfOk result (λ n. n ≡ max (started is_computed (expr_code p.now.left)).base_used
-        ((started is_computed (expr_code p.now.left)).base_own + spec.used_by (expr_code p.now.right))) }
+    ensures { IfOk result (λ n. n ≡ element_used is_computed p.now) }
 {
     let first = started_used(&p.left, is_computed)?;
     let second = sum(started_own(&p.left, is_computed)?, used_by(&p.right)?)?;
@@ -139,7 +138,7 @@ fn pair_used(p: &PlanPair) -> Result<u32, NoMemory>
 
 #[cycle(used)]
 fn tests_used(p: &PlanPair) -> Result<u32, NoMemory>
-    ensures { IfOk result (λ n. n ≡ max (expr_code p.now.left).test_used (expr_code p.now.right).test_used) }
+    ensures { IfOk result (λ n. n ≡ tests_used p.now) }
 {
     Ok(test_used(&p.left)?.max(test_used(&p.right)?))
 }

@@ -2,7 +2,8 @@
 ghost use Rattle.std.specs.Prelude.{◌≡◌, ◌+◌, IfOk};
 ghost use Rattle.qs_lower.specs.Exits as exits;
 ghost use Rattle.qs_lower.specs.Expressions as spec;
-ghost use Rattle.qs_lower.specs.Plans.{expr_code, started};
+ghost use Rattle.qs_lower.specs.Plans.{expr_code, both_sizes, either_sizes, element_size};
+ghost use Rattle.qs_lower.specs.Plans.{operands_size, started_code};
 
 use crate::exits::{branch_size, known_size};
 use crate::numbers::sum;
@@ -67,7 +68,7 @@ pub fn base_size(e: &ExprPlan) -> Result<u32, NoMemory>
 
 #[cycle(sizes)]
 fn started_size(p: &ExprPlan, is_computed: bool) -> Result<u32, NoMemory>
-    ensures { IfOk result (λ n. n ≡ (started is_computed (expr_code p.now)).base_size) }
+    ensures { IfOk result (λ n. n ≡ (started_code is_computed p.now).base_size) }
 {
     if is_computed {
         size_of(p)
@@ -78,7 +79,7 @@ fn started_size(p: &ExprPlan, is_computed: bool) -> Result<u32, NoMemory>
 
 #[cycle(sizes)]
 fn element_size(p: &PlanPair, is_computed: bool) -> Result<u32, NoMemory>
-    ensures { IfOk result (λ n. n ≡ (started is_computed (expr_code p.now.left)).base_size + spec.size_of (expr_code p.now.right)) }
+    ensures { IfOk result (λ n. n ≡ element_size is_computed p.now) }
 {
     sum(started_size(&p.left, is_computed)?, size_of(&p.right)?)
 }
@@ -86,7 +87,7 @@ fn element_size(p: &PlanPair, is_computed: bool) -> Result<u32, NoMemory>
 /// For two operands.
 #[cycle(sizes)]
 fn pair_size(p: &PlanPair) -> Result<u32, NoMemory>
-    ensures { IfOk result (λ n. n ≡ spec.pair_size (expr_code p.now.left) (expr_code p.now.right)) }
+    ensures { IfOk result (λ n. n ≡ operands_size p.now) }
 {
     sum(size_of(&p.left)?, size_of(&p.right)?)
 }
@@ -135,7 +136,7 @@ pub fn test_size(e: &ExprPlan, met: bool, unmet: bool) -> Result<u32, NoMemory>
 /// The test of `&&`.
 #[cycle(sizes)]
 pub fn both_size(p: &PlanPair, met: bool, unmet: bool) -> Result<u32, NoMemory>
-    ensures { IfOk result (λ n. n ≡ spec.both_size (expr_code p.now.left) (expr_code p.now.right) met unmet) }
+    ensures { IfOk result (λ n. n ≡ both_sizes p.now met unmet) }
 {
     sum(
         test_size(&p.left, true, false)?,
@@ -146,7 +147,7 @@ pub fn both_size(p: &PlanPair, met: bool, unmet: bool) -> Result<u32, NoMemory>
 /// The test of `||`.
 #[cycle(sizes)]
 pub fn either_size(p: &PlanPair, met: bool, unmet: bool) -> Result<u32, NoMemory>
-    ensures { IfOk result (λ n. n ≡ spec.either_size (expr_code p.now.left) (expr_code p.now.right) met unmet) }
+    ensures { IfOk result (λ n. n ≡ either_sizes p.now met unmet) }
 {
     sum(
         test_size(&p.left, false, true)?,

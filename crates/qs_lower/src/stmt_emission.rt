@@ -1,12 +1,13 @@
 // The code of statements.
-ghost use Rattle.std.specs.Prelude.{◌≡◌, ◌+◌, ◌++◌, None, OnOk, length, map};
-ghost use Rattle.qs_memory.specs.BlankOf.{blank_tree};
+ghost use Rattle.std.specs.Prelude.{◌≡◌, ◌+◌, ◌++◌, None, OnOk};
 ghost use Rattle.qs_lower.specs.Expressions as spec;
-ghost use Rattle.qs_lower.specs.Plans.{expr_code, exit_tree, Emitted};
-ghost use Rattle.qs_lower.specs.Statements as statements;
+ghost use Rattle.qs_lower.specs.Plans.{EmitsAt, Grows, expr_codes};
 ghost use Rattle.qs_lower.specs.StmtPlans.{stmt_part, branch_part, loop_part, tested_part};
-ghost use Rattle.qs_lower.specs.StmtPlans.{sizes_before, code_before};
-ghost use Rattle.qs_lower.specs.Ways.{exits_tree, only};
+ghost use Rattle.qs_lower.specs.StmtPlans.{EmitsBefore, EmitsCopy, EmitsPart, EmitsTo, GrowsByCopy};
+ghost use Rattle.qs_lower.specs.StmtPlans.{GrowsByPart, GrowsTo, call_code, fill_code};
+ghost use Rattle.qs_lower.specs.StmtPlans.{sizes_before, stmt_parts, store_code};
+ghost use Rattle.qs_lower.specs.Ways.{exits_tree};
+ghost use Rattle.qs_lower.specs.Expressions.{all_operands};
 
 use crate::addresses::{address_at, operand_of};
 use crate::emission::{emit_base, emit_into, emit_operand, emit_test};
@@ -36,10 +37,8 @@ fn emit_store(
     e: &ExprPlan,
     next: Exit,
 ) -> Result<(), NoMemory>
-    ensures code { OnOk result (Emitted code.old.items code.new.items
-        ((statements.of_store t s (expr_code p.now) (expr_code e.now)).part.code (only (exit_tree next)) (length code.old.items))) }
-    ensures size { OnOk result (length code.new.items ≡ length code.old.items
-        + (statements.of_store t s (expr_code p.now) (expr_code e.now)).part.size (statements.falls_of (only (exit_tree next)))) }
+    ensures code { OnOk result (EmitsTo code.old code.new (store_code t s p.now e.now) next) }
+    ensures size { OnOk result (GrowsTo code.old code.new (store_code t s p.now e.now) next) }
 {
     let value = sum(t, base_own(p)?)?;
     let to = address_at(p, t)?;
@@ -58,10 +57,8 @@ fn emit_copy(
     q: &ExprPlan,
     next: Exit,
 ) -> Result<(), NoMemory>
-    ensures code { OnOk result (Emitted code.old.items code.new.items
-        ((statements.of_copy t size alignment (expr_code p.now) (expr_code q.now)).part.code (only (exit_tree next)) (length code.old.items))) }
-    ensures size { OnOk result (length code.new.items ≡ length code.old.items
-        + (statements.of_copy t size alignment (expr_code p.now) (expr_code q.now)).part.size (statements.falls_of (only (exit_tree next)))) }
+    ensures code { OnOk result (EmitsCopy code.old code.new t size alignment p.now q.now next) }
+    ensures size { OnOk result (GrowsByCopy code.old code.new t size alignment p.now q.now next) }
 {
     let second = sum(t, base_own(p)?)?;
     let to = address_at(p, t)?;
@@ -88,10 +85,8 @@ fn emit_fill(
     p: &ExprPlan,
     next: Exit,
 ) -> Result<(), NoMemory>
-    ensures code { OnOk result (Emitted code.old.items code.new.items
-        ((statements.of_fill t (blank_tree blank.now) (expr_code p.now)).part.code (only (exit_tree next)) (length code.old.items))) }
-    ensures size { OnOk result (length code.new.items ≡ length code.old.items
-        + (statements.of_fill t (blank_tree blank.now) (expr_code p.now)).part.size (statements.falls_of (only (exit_tree next)))) }
+    ensures code { OnOk result (EmitsTo code.old code.new (fill_code t blank.now p.now) next) }
+    ensures size { OnOk result (GrowsTo code.old code.new (fill_code t blank.now p.now) next) }
 {
     let to = address_at(p, t)?;
     let blank = blank.copy(alloc)?;
@@ -102,9 +97,8 @@ fn emit_fill(
 
 // All of them, one behind the other.
 fn emit_all(code: &mut Vec<Instruction>, es: &[ExprPlan], t: u32) -> Result<(), NoMemory>
-    ensures code { OnOk result (Emitted code.old.items code.new.items
-        (spec.all_code (map expr_code es.now) t (length code.old.items))) }
-    ensures size { OnOk result (length code.new.items ≡ length code.old.items + spec.all_size (map expr_code es.now)) }
+    ensures code { OnOk result (EmitsAt code.old code.new (spec.all_code (expr_codes es.now) t)) }
+    ensures size { OnOk result (Grows code.old code.new (spec.all_size (expr_codes es.now))) }
 {
     match es {
         [] => Ok(()),
@@ -117,7 +111,7 @@ fn emit_all(code: &mut Vec<Instruction>, es: &[ExprPlan], t: u32) -> Result<(), 
 }
 
 fn put_operands(es: &[ExprPlan], t: u32, all: &mut Vec<Operand>) -> Result<(), NoMemory>
-    ensures { OnOk result (all.new.items ≡ all.old.items ++ spec.all_operands (map expr_code es.now) t) }
+    ensures { OnOk result (all.new.items ≡ all.old.items ++ all_operands (expr_codes es.now) t) }
 {
     match es {
         [] => Ok(()),
@@ -137,10 +131,8 @@ fn emit_call(
     es: &[ExprPlan],
     next: Exit,
 ) -> Result<(), NoMemory>
-    ensures code { OnOk result (Emitted code.old.items code.new.items
-        ((statements.of_call t x f (map expr_code es.now)).part.code (only (exit_tree next)) (length code.old.items))) }
-    ensures size { OnOk result (length code.new.items ≡ length code.old.items
-        + (statements.of_call t x f (map expr_code es.now)).part.size (statements.falls_of (only (exit_tree next)))) }
+    ensures code { OnOk result (EmitsTo code.old code.new (call_code t x f es.now) next) }
+    ensures size { OnOk result (GrowsTo code.old code.new (call_code t x f es.now) next) }
 {
     let mut arguments = Vec::new(alloc);
     put_operands(es, t, &mut arguments)?;
@@ -157,10 +149,8 @@ pub fn emit_stmt(
     s: &StmtPlan,
     x: Exits,
 ) -> Result<(), NoMemory>
-    ensures code { OnOk result (Emitted code.old.items code.new.items
-        ((stmt_part s.now).part.code (exits_tree x) (length code.old.items))) }
-    ensures size { OnOk result (length code.new.items ≡ length code.old.items
-        + (stmt_part s.now).part.size (statements.falls_of (exits_tree x))) }
+    ensures code { OnOk result (EmitsPart code.old code.new (stmt_part s.now) (exits_tree x)) }
+    ensures size { OnOk result (GrowsByPart code.old code.new (stmt_part s.now) (exits_tree x)) }
 {
     match s {
         StmtPlan::Go(w) => emit_exit(code, x.to(*w)),
@@ -203,9 +193,8 @@ fn emit_before(
     last: &StmtPlan,
     x: Exits,
 ) -> Result<(), NoMemory>
-    ensures code { OnOk result (Emitted code.old.items code.new.items
-        (code_before (map stmt_part all.now) (stmt_part last.now) (exits_tree x) (length code.old.items))) }
-    ensures size { OnOk result (length code.new.items ≡ length code.old.items + sizes_before (map stmt_part all.now)) }
+    ensures code { OnOk result (EmitsBefore code.old code.new all.now last.now (exits_tree x)) }
+    ensures size { OnOk result (Grows code.old code.new (sizes_before (stmt_parts all.now))) }
 {
     for (i, s) in all.iter().enumerate() {
         let second = sum(place(code)?, stmt_size(s, next_falls())?)?;
@@ -222,10 +211,8 @@ fn emit_branch(
     p: &BranchPlan,
     x: Exits,
 ) -> Result<(), NoMemory>
-    ensures code { OnOk result (Emitted code.old.items code.new.items
-        ((branch_part p.now).part.code (exits_tree x) (length code.old.items))) }
-    ensures size { OnOk result (length code.new.items ≡ length code.old.items
-        + (branch_part p.now).part.size (statements.falls_of (exits_tree x))) }
+    ensures code { OnOk result (EmitsPart code.old code.new (branch_part p.now) (exits_tree x)) }
+    ensures size { OnOk result (GrowsByPart code.old code.new (branch_part p.now) (exits_tree x)) }
 {
     match p.met.way() {
         Some(v) => match p.unmet.way() {
@@ -250,10 +237,8 @@ fn emit_met(
     x: Exits,
 ) -> Result<(), NoMemory>
     requires { (stmt_part p.now.met).way ≡ None }
-    ensures code { OnOk result (Emitted code.old.items code.new.items
-        ((branch_part p.now).part.code (exits_tree x) (length code.old.items))) }
-    ensures size { OnOk result (length code.new.items ≡ length code.old.items
-        + (branch_part p.now).part.size (statements.falls_of (exits_tree x))) }
+    ensures code { OnOk result (EmitsPart code.old code.new (branch_part p.now) (exits_tree x)) }
+    ensures size { OnOk result (GrowsByPart code.old code.new (branch_part p.now) (exits_tree x)) }
 {
     let first = sum(place(code)?, test_size(&p.test, true, false)?)?;
     let met = Exit::Falls(entry(&p.met, first)?);
@@ -279,10 +264,8 @@ fn emit_loop(
     p: &LoopPlan,
     x: Exits,
 ) -> Result<(), NoMemory>
-    ensures code { OnOk result (Emitted code.old.items code.new.items
-        ((loop_part p.now).part.code (exits_tree x) (length code.old.items))) }
-    ensures size { OnOk result (length code.new.items ≡ length code.old.items
-        + (loop_part p.now).part.size (statements.falls_of (exits_tree x))) }
+    ensures code { OnOk result (EmitsPart code.old code.new (loop_part p.now) (exits_tree x)) }
+    ensures size { OnOk result (GrowsByPart code.old code.new (loop_part p.now) (exits_tree x)) }
 {
     let at = place(code)?;
     let back = last_exits(entry(&p.body, at)?, x.next);
@@ -307,10 +290,8 @@ fn emit_tested(
     p: &TestedPlan,
     x: Exits,
 ) -> Result<(), NoMemory>
-    ensures code { OnOk result (Emitted code.old.items code.new.items
-        ((tested_part p.now).part.code (exits_tree x) (length code.old.items))) }
-    ensures size { OnOk result (length code.new.items ≡ length code.old.items
-        + (tested_part p.now).part.size (statements.falls_of (exits_tree x))) }
+    ensures code { OnOk result (EmitsPart code.old code.new (tested_part p.now) (exits_tree x)) }
+    ensures size { OnOk result (GrowsByPart code.old code.new (tested_part p.now) (exits_tree x)) }
 {
     let first = sum(place(code)?, 1)?;
     let second = sum(first, stmt_size(&p.rest, body_falls())?)?;

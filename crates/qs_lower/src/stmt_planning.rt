@@ -1,11 +1,11 @@
 // Planning the code of statements: each form of core becomes what the definition of its code says.
-ghost use Rattle.std.specs.Prelude.{◌≡◌, IfOk, IsSome, map};
+ghost use Rattle.std.specs.Prelude.{◌≡◌, IfOk, IsSome};
 ghost use Rattle.qs_core.specs.TreeOf.{core_exprs};
-ghost use Rattle.qs_lower.specs.Expressions as expressions;
-ghost use Rattle.qs_lower.specs.Plans.{expr_code};
+ghost use Rattle.qs_lower.specs.Plans.{ArePlansIn};
 ghost use Rattle.qs_lower.specs.Statements as spec;
-ghost use Rattle.qs_lower.specs.StmtPlans.{stmt_part, joined_before, all_before, all_joined};
-ghost use Rattle.qs_lower.specs.StmtPlans.{test_at_end, loop_of, loop_at_end};
+ghost use Rattle.qs_lower.specs.StmtPlans.{stmt_part, all_before, all_joined, IsStmtPlanOf};
+ghost use Rattle.qs_lower.specs.StmtPlans.{branch_plans, joined_plans, loop_at_end, loop_of};
+ghost use Rattle.qs_lower.specs.StmtPlans.{stmt_parts, test_at_end};
 
 use crate::numbers::sum;
 use crate::planning::lowered;
@@ -21,7 +21,7 @@ use std::alloc::Global;
 
 // The last behind all of them, which are none where it only goes on.
 fn with_last(alloc: Global, all: Vec<StmtPlan>, last: StmtPlan) -> Result<StmtPlan, NoMemory>
-    ensures { IfOk result (λ r. stmt_part r ≡ joined_before (map stmt_part all.items) (stmt_part last)) }
+    ensures { IfOk result (IsStmtPlanOf (joined_plans all.items last)) }
 {
     if all.is_empty() {
         Ok(last)
@@ -32,7 +32,7 @@ fn with_last(alloc: Global, all: Vec<StmtPlan>, last: StmtPlan) -> Result<StmtPl
 
 // What follows behind all of them, each of which does something and doesn't end.
 fn all_before(alloc: Global, all: Vec<StmtPlan>, last: StmtPlan) -> Result<StmtPlan, NoMemory>
-    ensures { IfOk result (λ r. stmt_part r ≡ all_before (map stmt_part all.items) (stmt_part last)) }
+    ensures { IfOk result (IsStmtPlanOf (all_before (stmt_parts all.items) (stmt_part last))) }
 {
     match last.way() {
         None => with_last(alloc, all, last),
@@ -49,7 +49,7 @@ fn all_before(alloc: Global, all: Vec<StmtPlan>, last: StmtPlan) -> Result<StmtP
 /// All of them, one after the other. What does nothing is left out, and so is what stands behind
 /// one that ends, which is never reached.
 pub fn joined(alloc: Global, all: Vec<StmtPlan>) -> Result<StmtPlan, NoMemory>
-    ensures { IfOk result (λ r. stmt_part r ≡ all_joined (map stmt_part all.items)) }
+    ensures { IfOk result (IsStmtPlanOf (all_joined (stmt_parts all.items))) }
 {
     let mut all = all;
     let Some(last) = all.pop() else {
@@ -79,8 +79,7 @@ pub fn of_branch(
     met: StmtPlan,
     unmet: StmtPlan,
 ) -> Result<StmtPlan, NoMemory>
-    ensures { IfOk result (λ r. stmt_part r
-        ≡ spec.of_branch known free (expr_code test) (stmt_part met) (stmt_part unmet)) }
+    ensures { IfOk result (IsStmtPlanOf (branch_plans known free test met unmet)) }
 {
     match known {
         None => {
@@ -105,7 +104,7 @@ fn loop_of(
     body: StmtPlan,
     step: StmtPlan,
 ) -> Result<StmtPlan, NoMemory>
-    ensures { IfOk result (λ r. stmt_part r ≡ loop_of is_alone (stmt_part body) (stmt_part step)) }
+    ensures { IfOk result (IsStmtPlanOf (loop_of is_alone (stmt_part body) (stmt_part step))) }
 {
     let plan = LoopPlan {
         is_alone,
@@ -122,7 +121,7 @@ fn tested_loop(
     step: StmtPlan,
 ) -> Result<StmtPlan, NoMemory>
     requires { IsSome (test_at_end (stmt_part body)) }
-    ensures { IfOk result (λ r. stmt_part r ≡ loop_at_end free (stmt_part body) (stmt_part step)) }
+    ensures { IfOk result (IsStmtPlanOf (loop_at_end free (stmt_part body) (stmt_part step))) }
 {
     let used = stmt_used(&body)?.max(stmt_used(&step)?);
     let ends = !(body.breaks() || step.breaks());
@@ -140,14 +139,14 @@ fn tested_loop(
 }
 
 /// A body and a step, again and again.
-#[tactic(auto, using(crate::proofs::StmtPlanLaws::plain_is, crate::proofs::StmtPlanLaws::alone_is, crate::proofs::StmtPlanLaws::tested_is, crate::proofs::StmtPlanLaws::has_test))]
+#[tactic(auto, using(crate::proofs::StmtPlanLaws::loop_cases))]
 pub fn of_loop(
     alloc: Global,
     free: u32,
     body: StmtPlan,
     step: StmtPlan,
 ) -> Result<StmtPlan, NoMemory>
-    ensures { IfOk result (λ r. stmt_part r ≡ spec.of_loop free (stmt_part body) (stmt_part step)) }
+    ensures { IfOk result (IsStmtPlanOf (spec.of_loop free (stmt_part body) (stmt_part step))) }
 {
     let is_alone = is_next(step.way());
     match body.idle() {
@@ -186,7 +185,7 @@ pub fn taken_by(v: u32, x: Option<u32>) -> Result<Option<u32>, NoMemory>
 
 /// The plans of expressions, in order.
 pub fn all_lowered(alloc: Global, v: u32, es: &[CoreExpr]) -> Result<Vec<ExprPlan>, NoMemory>
-    ensures { IfOk result (λ r. map expr_code r.items ≡ map (expressions.lowered v) (core_exprs es.now)) }
+    ensures { IfOk result (ArePlansIn v (core_exprs es.now)) }
 {
     let mut all = Vec::new(alloc);
     for e in es {

@@ -1,10 +1,9 @@
 // What lowering decides on a statement, before its code is emitted.
-ghost use Rattle.std.specs.Prelude.{◌≡◌, IfOk, IfSome, IsSome, Some, map};
-ghost use Rattle.qs_lower.specs.Plans.{expr_code};
-ghost use Rattle.qs_lower.specs.Statements as statements;
+ghost use Rattle.std.specs.Prelude.{◌≡◌, IfOk, IfSome, IsSome, Some};
 ghost use Rattle.qs_lower.specs.StmtPlans.{stmt_part, branch_part, idle_of, some_breaks, test_in};
-ghost use Rattle.qs_lower.specs.StmtPlans.{test_at_end, tested_of};
+ghost use Rattle.qs_lower.specs.StmtPlans.{stmt_parts, test_at_end, tested_parts};
 ghost use Rattle.qs_lower.specs.Ways.{option_way, way_tree};
+ghost use Rattle.qs_lower.specs.Statements.{is_break, leaves};
 
 use crate::plans::ExprPlan;
 use crate::ways::{Way, is_next};
@@ -165,8 +164,8 @@ impl StmtPlan {
     /// Where it goes, if it does nothing else.
     pub fn way(&self) -> Option<Way>
         ensures way { option_way result ≡ (stmt_part self.now).way }
-        ensures ends { IfSome result (λ w. (stmt_part self.now).ends ≡ statements.leaves (way_tree w)) }
-        ensures breaks { IfSome result (λ w. (stmt_part self.now).breaks ≡ statements.is_break (way_tree w)) }
+        ensures ends { IfSome result (λ w. (stmt_part self.now).ends ≡ leaves (way_tree w)) }
+        ensures breaks { IfSome result (λ w. (stmt_part self.now).breaks ≡ is_break (way_tree w)) }
     {
         match self {
             StmtPlan::Go(w) => Some(*w),
@@ -256,7 +255,7 @@ impl StmtPlan {
 // Of any of them.
 #[cycle(breaks)]
 fn some_breaks(ss: &[StmtPlan]) -> bool
-    ensures { result ≡ some_breaks (map stmt_part ss.now) }
+    ensures { result ≡ some_breaks (stmt_parts ss.now) }
 {
     for s in ss {
         if s.breaks() {
@@ -294,8 +293,7 @@ impl BranchPlan {
     // Where its other side is a break.
     fn into_tested(self) -> TestedParts
         requires { IsSome (test_in (branch_part self).tested) }
-        ensures { test_in (branch_part self).tested
-            ≡ Some (tested_of (stmt_part result.front) (expr_code result.test) (stmt_part result.rest)) }
+        ensures { test_in (branch_part self).tested ≡ Some (tested_parts result) }
     {
         match self.unmet.way() {
             Some(Way::Break) => {
@@ -322,8 +320,7 @@ impl StmtPlan {
     /// Takes it apart, where it ends in a test whose other side is a break.
     pub fn into_tested(self, alloc: Global) -> Result<TestedParts, NoMemory>
         requires { IsSome (test_at_end (stmt_part self)) }
-        ensures { IfOk result (λ r. test_at_end (stmt_part self)
-            ≡ Some (tested_of (stmt_part r.front) (expr_code r.test) (stmt_part r.rest))) }
+        ensures { IfOk result (λ r. test_at_end (stmt_part self) ≡ Some (tested_parts r)) }
     {
         match self {
             StmtPlan::Joined(all, last) => {

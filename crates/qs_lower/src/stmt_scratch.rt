@@ -1,8 +1,8 @@
 // How many temporaries the code of a statement takes besides those of the function.
-ghost use Rattle.std.specs.Prelude.{◌≡◌, IfOk, map};
+ghost use Rattle.std.specs.Prelude.{◌≡◌, IfOk};
 ghost use Rattle.qs_lower.specs.Expressions as spec;
-ghost use Rattle.qs_lower.specs.Plans.{expr_code};
-ghost use Rattle.qs_lower.specs.StmtPlans.{stmt_part, most_used};
+ghost use Rattle.qs_lower.specs.Plans.{expr_codes};
+ghost use Rattle.qs_lower.specs.StmtPlans.{stmt_part, most_used, stmt_parts};
 
 use crate::numbers::sum;
 use crate::plans::ExprPlan;
@@ -12,7 +12,7 @@ use qs_base::NoMemory;
 
 // For all of them, one behind the other.
 fn all_used(es: &[ExprPlan]) -> Result<u32, NoMemory>
-    ensures { IfOk result (λ n. n ≡ spec.all_used (map expr_code es.now)) }
+    ensures { IfOk result (λ n. n ≡ spec.all_used (expr_codes es.now)) }
 {
     match es {
         [] => Ok(0),
@@ -57,7 +57,7 @@ pub fn stmt_used(s: &StmtPlan) -> Result<u32, NoMemory>
 // The most that one of them uses.
 #[cycle(stmt_used)]
 fn most_used(ss: &[StmtPlan]) -> Result<u32, NoMemory>
-    ensures { IfOk result (λ n. n ≡ most_used (map stmt_part ss.now)) }
+    ensures { IfOk result (λ n. n ≡ most_used (stmt_parts ss.now)) }
 {
     let mut most = 0;
     for s in ss {

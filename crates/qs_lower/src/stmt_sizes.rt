@@ -1,10 +1,11 @@
 // How many instructions the code of a statement has, and where jumps to it go.
-ghost use Rattle.std.specs.Prelude.{◌≡◌, ◌+◌, IfOk, map};
+ghost use Rattle.std.specs.Prelude.{◌≡◌, ◌+◌, IfOk};
 ghost use Rattle.qs_lower.specs.Expressions as spec;
-ghost use Rattle.qs_lower.specs.Plans.{expr_code};
+ghost use Rattle.qs_lower.specs.Plans.{expr_code, expr_codes};
 ghost use Rattle.qs_lower.specs.StmtPlans.{stmt_part, branch_part, loop_part, tested_part};
-ghost use Rattle.qs_lower.specs.StmtPlans.{joined_before, sizes_before};
+ghost use Rattle.qs_lower.specs.StmtPlans.{joined_plans, sizes_before, stmt_parts};
 ghost use Rattle.qs_lower.specs.Ways.{falls_tree};
+ghost use Rattle.qs_lower.specs.Expressions.{size_of};
 
 use crate::exits::exit_size;
 use crate::numbers::sum;
@@ -16,7 +17,7 @@ use qs_base::NoMemory;
 
 // Of all of them, one behind the other.
 fn all_size(es: &[ExprPlan]) -> Result<u32, NoMemory>
-    ensures { IfOk result (λ n. n ≡ spec.all_size (map expr_code es.now)) }
+    ensures { IfOk result (λ n. n ≡ spec.all_size (expr_codes es.now)) }
 {
     match es {
         [] => Ok(0),
@@ -25,7 +26,7 @@ fn all_size(es: &[ExprPlan]) -> Result<u32, NoMemory>
 }
 
 fn store_size(p: &ExprPlan, e: &ExprPlan) -> Result<u32, NoMemory>
-    ensures { IfOk result (λ n. n ≡ (expr_code p.now).base_size + spec.size_of (expr_code e.now) + 1) }
+    ensures { IfOk result (λ n. n ≡ (expr_code p.now).base_size + size_of (expr_code e.now) + 1) }
 {
     sum(sum(base_size(p)?, size_of(e)?)?, 1)
 }
@@ -67,7 +68,7 @@ pub fn stmt_size(s: &StmtPlan, y: Falls) -> Result<u32, NoMemory>
 // Of all of them, behind each of which something else stands.
 #[cycle(stmt_sizes)]
 fn sizes_before(ss: &[StmtPlan]) -> Result<u32, NoMemory>
-    ensures { IfOk result (λ n. n ≡ sizes_before (map stmt_part ss.now)) }
+    ensures { IfOk result (λ n. n ≡ sizes_before (stmt_parts ss.now)) }
 {
     let mut size = 0;
     for s in ss {
@@ -151,7 +152,7 @@ pub fn entry(s: &StmtPlan, at: u32) -> Result<u32, NoMemory>
 
 /// That of these, one after the other, and then the last.
 pub fn entry_before(ss: &[StmtPlan], last: &StmtPlan, at: u32) -> Result<u32, NoMemory>
-    ensures { IfOk result (λ n. n ≡ (joined_before (map stmt_part ss.now) (stmt_part last.now)).part.entry at) }
+    ensures { IfOk result (λ n. n ≡ (joined_plans ss.now last.now).part.entry at) }
 {
     match ss {
         [] => entry(last, at),

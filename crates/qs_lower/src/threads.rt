@@ -2,7 +2,8 @@
 ghost use Rattle.std.specs.Prelude.{◌≡◌, IfOk, OnOk, Some, length, map};
 ghost use Rattle.std.specs.List.{slice_get};
 ghost use Rattle.qs_tac.specs.TreeOf.{instruction_tree};
-ghost use Rattle.qs_lower.specs.Leads.{leads_of, lead_in, follow_leads};
+ghost use Rattle.qs_lower.specs.Leads.{leads_of, lead_in, follow_leads, Threads, followed};
+ghost use Rattle.qs_lower.specs.Leads.{instruction_trees};
 ghost use Rattle.qs_lower.specs.Threads as spec;
 
 use qs_base::NoMemory;
@@ -72,8 +73,7 @@ fn follow(leads: &[Option<u32>], index: u32) -> u32
 }
 
 fn retarget(leads: &[Option<u32>], i: &mut Instruction)
-    ensures { instruction_tree i.new
-        ≡ spec.retargeted (follow_leads leads.now (length leads.now)) (instruction_tree i.old) }
+    ensures { instruction_tree i.new ≡ followed leads.now (instruction_tree i.old) }
 {
     match i {
         Instruction::Jump(to) => *to = follow(leads, *to),
@@ -93,8 +93,7 @@ fn retarget(leads: &[Option<u32>], i: &mut Instruction)
 }
 
 fn retarget_all(leads: &[Option<u32>], code: &mut [Instruction])
-    ensures { map instruction_tree code.new
-        ≡ map (spec.retargeted (follow_leads leads.now (length leads.now))) (map instruction_tree code.old) }
+    ensures { instruction_trees code.new ≡ map (followed leads.now) (instruction_trees code.old) }
 {
     for i in code.iter_mut() {
         retarget(leads, i);
@@ -103,8 +102,7 @@ fn retarget_all(leads: &[Option<u32>], code: &mut [Instruction])
 
 /// Lets each jump and branch of a function's code go where the jumps that stand there lead.
 pub fn thread(alloc: Global, code: &mut Vec<Instruction>) -> Result<(), NoMemory>
-    ensures { OnOk result (map instruction_tree code.new.items
-        ≡ spec.threaded (map instruction_tree code.old.items)) }
+    ensures { OnOk result (Threads code.old code.new) }
 {
     let leads = leads_of(alloc, code)?;
     retarget_all(&leads, code);

@@ -1,5 +1,6 @@
 -- What the code answers for an attempt.
-use Rattle.std.specs.Prelude.{◌≡◌, MatchOption, Option, Result, Ok, Err}
+use Rattle.std.specs.Prelude.{◌≡◌, MatchOption, List, Vec, Option, Result, Ok, Err}
+use Rattle.std.specs.declared.alloc.Global.{Global}
 use Rattle.qs_poly.specs.declared.fault.PolyFault.{PolyFault}
 use Rattle.qs_poly.specs.declared.fault.PolyFault.TheVariants as faults
 use Rattle.qs_poly.specs.declared.fault.PolyFault.TheVariants.{Wide, ManyTerms, HighDegree}
@@ -30,6 +31,10 @@ FollowsAs view (Err (Passes limit)) attempt = attempt ≡ Err (passes (fault_of 
 
 abbrev pub Follows : {A : Type 0} → Result A Stop → Result A Failure → Type 0
 Follows result attempt = FollowsAs (λ a. a) result attempt
+
+-- the items of a vector
+abbrev pub ListFollows : {A : Type 0} → Result (Vec A Global) Stop → Result (List A) Failure → Type 0
+ListFollows result attempt = FollowsAs (λ v. v.items) result attempt
 
 -- what is found is seen as what the attempt gives, and nothing is found where it breaks
 abbrev pub FindsAs : {A B : Type 0} → (A → B) → Option A → Result B Failure → Type 0

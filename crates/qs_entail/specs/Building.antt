@@ -1,5 +1,5 @@
 -- The polynomials of terms and assertions, built from their parts from left to right under the limits.
-use Rattle.std.specs.Prelude.{ℤ, pos, negsuc, Bool, true, false, ◌&&◌, List, [], ◌∷◌, slice_index_or, Result, Ok, Err}
+use Rattle.std.specs.Prelude.{ℕ, ℤ, pos, negsuc, Bool, true, false, ◌&&◌, List, [], ◌∷◌, slice_index_or, Result, Ok, Err}
 use Rattle.std.specs.Result.{result_map_both}
 use Rattle.qs_base.specs.Results.{bind}
 use Rattle.qs_assert.specs.Trees.{TermTree, number, variable, add, sub, mul, div, wrapu, wraps, bits, TermTrees, no_terms, term_and, AssertionTree, natural, infinity, cost, num, total, greatest, product, guard, choose, named, AssertionTrees, no_assertions, assertion_and}
@@ -102,9 +102,13 @@ abbrev pub at : List Polynomial → ℤ → Polynomial
 at l (pos i) = slice_index_or l i nothing
 at l (negsuc i) = nothing
 
+-- k times a product
+abbrev pub product_times : ℕ → Polynomial → Polynomial → Result Polynomial Failure
+product_times k p q = bind (limited (operation.product p q)) (λ r. limited (multiple (pos k) r))
+
 abbrev pub item_polynomial : Item → List Polynomial → Result Polynomial Failure
 item_polynomial (once k i) l = limited (multiple (pos k) (at l i))
-item_polynomial (twice k i j) l = bind (limited (operation.product (at l i) (at l j))) (λ r. limited (multiple (pos k) r))
+item_polynomial (twice k i j) l = product_times k (at l i) (at l j)
 
 abbrev pub item_polynomials : List Item → List Polynomial → Result (List Polynomial) Failure
 item_polynomials [] l = Ok []

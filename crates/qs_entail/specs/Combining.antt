@@ -5,11 +5,17 @@ use Rattle.qs_entail.specs.declared.item.Item as code
 use Rattle.qs_entail.specs.declared.item.Item.TheVariants.{Once, Twice}
 use Rattle.qs_entail.specs.declared.combination.Two as pair
 use Rattle.qs_base.specs.Results.{bind}
-use Rattle.qs_entail.specs.Building.{Failure, Two}
+use Rattle.qs_entail.specs.declared.stop.Stop.{Stop}
+use Rattle.qs_entail.specs.Answers.{FollowsAs}
+use Rattle.qs_entail.specs.Building.{Failure, Two, two_combinations}
 use Rattle.qs_entail.specs.Verdicts.{is_counted}
+use Rattle.qs_entail.specs.View.{items_view}
 
 abbrev pub two_view : pair.Two → Two
 two_view two = record { first = two.first; second = two.second }
+
+abbrev pub CombinesBoth : (v w : List code.Item) → List Polynomial → Result pair.Two Stop → Type 0
+CombinesBoth v w l result = FollowsAs two_view result (two_combinations (items_view v) (items_view w) l)
 
 abbrev pub item_counted : code.Item → ℕ → Bool
 item_counted (Once k i) n = is_counted i n

@@ -7,7 +7,7 @@ use Rattle.qs_poly.specs.Polynomials as poly
 use Rattle.qs_poly.specs.Polynomials.{Polynomial}
 use Rattle.qs_poly.specs.Operations.{sum, multiple, number, lessened, single}
 use Rattle.qs_poly.specs.Terms.{polynomial_eq}
-use Rattle.qs_entail.specs.Certificates.{FactTree, range, cost_range, apart, num_is, num_bounds, wrapu_is, wraps_is, wrapu_bounds, wraps_bounds, quotient_bounds, bits_bound, bits_half, bits_rise}
+use Rattle.qs_entail.specs.Certificates.{Item, FactTree, range, cost_range, apart, num_is, num_bounds, wrapu_is, wraps_is, wrapu_bounds, wraps_bounds, quotient_bounds, bits_bound, bits_half, bits_rise}
 use Rattle.qs_base.specs.Results.{bind, require}
 use Rattle.qs_entail.specs.Building.{Failure, breaks, limited, difference, term_polynomial, combination, two_combinations}
 use Rattle.qs_entail.specs.Pushing.{Known}
@@ -55,6 +55,21 @@ abbrev pub condition : List CondTree → ℤ → Result CondTree Failure
 condition cs (pos i) = condition_at cs i
 condition cs (negsuc i) = Err breaks
 
+-- one less than the combination, where that is what t and u differ by
+abbrev pub apart_by : TermTree → TermTree → List Item → List Polynomial → Result (List Polynomial) Failure
+apart_by left right w l =
+    bind (term_polynomial left) (λ t.
+    bind (term_polynomial right) (λ u.
+    bind (combination w l) (λ z.
+    bind (difference t u) (λ more.
+    bind (difference u t) (λ less.
+    bind (limited (sum z (number (negsuc 0)))) (λ r.
+    require (polynomial_eq z more || polynomial_eq z less) breaks (Ok (r ∷ []))))))))
+
+-- p less q, and q less p
+abbrev pub both_differences : Polynomial → Polynomial → Result (List Polynomial) Failure
+both_differences p q = bind (difference p q) (λ a. bind (difference q p) (λ b. Ok (a ∷ b ∷ [])))
+
 abbrev pub added : FactTree → Known → Result (List Polynomial) Failure
 added (range x) k =
     bind (difference (single (poly.variable x)) (number (least x.number))) (λ a.
@@ -64,13 +79,7 @@ added (cost_range f) k = Ok (single (poly.cost f) ∷ [])
 added (apart i w) k =
     bind (condition k.conditions i) (λ c.
     bind (different_sides c) (λ sides.
-    bind (term_polynomial sides.left) (λ t.
-    bind (term_polynomial sides.right) (λ u.
-    bind (combination w k.polynomials) (λ z.
-    bind (difference t u) (λ more.
-    bind (difference u t) (λ less.
-    bind (limited (sum z (number (negsuc 0)))) (λ r.
-    require (polynomial_eq z more || polynomial_eq z less) breaks (Ok (r ∷ []))))))))))
+    apart_by sides.left sides.right w k.polynomials))
 added (num_is t w) k =
     bind (term_polynomial t) (λ p.
     bind (combination w k.polynomials) (λ z.

@@ -95,6 +95,16 @@ abbrev pub count : AssertionTrees → ℕ
 count no_assertions = 0
 count (assertion_and a others) = suc (count others)
 
+-- member i of a greatest, how many members it has, and how many summands a sum has
+abbrev pub member_of : AssertionTree → ℤ → Result AssertionTree Failure
+member_of a i = bind (members_of a) (λ members. member_at members i)
+
+abbrev pub member_count : AssertionTree → Result ℕ Failure
+member_count a = bind (members_of a) (λ members. Ok (count members))
+
+abbrev pub summand_count : AssertionTree → Result ℕ Failure
+summand_count a = bind (summands_of a) (λ summands. Ok (count summands))
+
 abbrev pub count_certs : CertTrees → ℕ
 count_certs no_certs = 0
 count_certs (cert_and c others) = suc (count_certs others)

@@ -1,5 +1,5 @@
 -- A condition or its negation, as the list of the conditions that are pushed for it.
-use Rattle.std.specs.Prelude.{ℕ, ◌+◌, Bool, true, false, if◌then◌else◌, List, [], ◌∷◌, ◌++◌, Result, Ok}
+use Rattle.std.specs.Prelude.{◌≡◌, ℕ, ◌+◌, Bool, true, false, if◌then◌else◌, List, [], ◌∷◌, ◌++◌, replicate, reverse, Result, Ok, OnOk}
 use Rattle.std.specs.Prelude.{not as flip}
 use Rattle.qs_assert.specs.declared.node.CondNode.{CondNode}
 use Rattle.qs_assert.specs.declared.node.CondNode.TheVariants.{Le, Lt, Eq, Ne, Not, And, Or}
@@ -8,8 +8,9 @@ use Rattle.qs_assert.specs.declared.node.Node.TheVariants.{Term, Condition, Asse
 use Rattle.qs_assert.specs.Trees.{TermTree, CondTree, le, lt, eq, ne, not, and, or, CondTrees, no_conds, cond_and}
 use Rattle.qs_poly.specs.Polynomials.{Polynomial}
 use Rattle.qs_poly.specs.Operations.{lessened}
-use Rattle.qs_assert.specs.Views.{begins}
+use Rattle.qs_assert.specs.Views.{begins, head_arity}
 use Rattle.qs_base.specs.Results.{bind}
+use Rattle.qs_base.specs.declared.memory.NoMemory.{NoMemory}
 use Rattle.qs_entail.specs.Building.{Failure, Two, limited, difference, term_polynomial}
 use Rattle.qs_entail.specs.Pushing.{Known, with_condition, with_polynomials}
 
@@ -66,6 +67,11 @@ opens negated (Assertion node ∷ nodes) = false
 -- whether the parts are negated
 abbrev pub parts_negated : Bool → List Node → Bool
 parts_negated negated nodes = if begins nodes (Condition Not) then flip negated else negated
+
+-- the parts of the first condition are put on the stack, whose front is its end
+abbrev pub PutsParts : Bool → List Node → (old new : List Bool) → Result (Unit {0}) NoMemory → Type 0
+PutsParts negated nodes old new result =
+    OnOk result (reverse new ≡ replicate (head_arity nodes) (parts_negated negated nodes) ++ reverse old)
 
 -- ---- polynomials
 

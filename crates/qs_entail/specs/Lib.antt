@@ -11,10 +11,12 @@ pub mod Said
 -- how the code goes about it
 pub mod Answers
 pub mod Branching
+pub mod Checking
 pub mod Combining
 pub mod Extending
 pub mod Flattening
 pub mod Fronts
+pub mod Learning
 pub mod Parts
 pub mod Placing
 pub mod Plain

@@ -34,6 +34,10 @@ abbrev pub Above : List CondTree → List Define → AssertionTree → Assertion
 Above hypotheses ds p q =
     (s : State) → InRange s → All (λ c. holds c (defined_by ds s) ≡ true) hypotheses → AtLeast (value p (defined_by ds s)) (value q (defined_by ds s))
 
+-- Where the definitions are in order, P is at least Q.
+abbrev pub AboveInOrder : List CondTree → List Define → AssertionTree → AssertionTree → Type 0
+AboveInOrder hypotheses ds p q = IsInOrder ds → Above hypotheses ds p q
+
 -- A valid certificate shows what it says.
 abbrev pub IsSound : Type 0
 IsSound = (hypotheses : List CondTree) (ds : List Define) (p q : AssertionTree) (c : CertTree) → IsInOrder ds → verdict hypotheses ds p q c ≡ None → Above hypotheses ds p q

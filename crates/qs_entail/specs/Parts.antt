@@ -1,4 +1,8 @@
 -- What the parts of assertions and conditions are.
+use Rattle.std.specs.Prelude.{◌≡◌, ◌++◌, List}
+use Rattle.qs_assert.specs.declared.node.Node.{Node}
+use Rattle.qs_assert.specs.Listing.{inner_term}
+use Rattle.qs_assert.specs.Trees.{TermTree}
 use Rattle.qs_entail.specs.declared.parts.Guarded as code_guarded
 use Rattle.qs_entail.specs.declared.parts.Sides as code_sides
 use Rattle.qs_entail.specs.declared.pushing.Pair as code_pair
@@ -13,6 +17,10 @@ guarded_view g = record { condition = g.condition; body = g.body }
 
 abbrev pub sides_view : code_sides.Sides → Sides
 sides_view sides = record { left = sides.left; right = sides.right }
+
+-- the two terms have these nodes
+abbrev pub HaveNodes : code_sides.Sides → List Node → Type 0
+HaveNodes sides nodes = (t u : TermTree) → nodes ≡ inner_term t ++ inner_term u → (sides.left ≡ t) × (sides.right ≡ u)
 
 abbrev pub pair_view : code_pair.Pair → Two
 pair_view pair = record { first = pair.left; second = pair.right }

@@ -1,6 +1,7 @@
 -- How the polynomials of the nodes of a list come one from the other, the list being read from its end: each
 -- node takes the attempts of its parts from the front of a stack.
-use Rattle.std.specs.Prelude.{ℕ, zero, suc, pos, List, [], ◌∷◌, map, reverse, drop, Result, Ok, Err}
+use Rattle.std.specs.Prelude.{◌≡◌, ℕ, zero, suc, ℤ, pos, List, [], ◌∷◌, map, reverse, drop, Result, Ok, Err, IfOk, OnOk}
+use Rattle.qs_base.specs.declared.memory.NoMemory.{NoMemory}
 use Rattle.qs_assert.specs.declared.node.TermNode.{TermNode}
 use Rattle.qs_assert.specs.declared.node.TermNode.TheVariants.{Number, Variable, Add, Sub, Mul, Div, WrapUnsigned, WrapSigned, Bits}
 use Rattle.qs_assert.specs.declared.node.CondNode.{CondNode}
@@ -22,7 +23,8 @@ use Rattle.qs_entail.specs.declared.operation.Operation.{Operation}
 use Rattle.qs_entail.specs.declared.operation.Operation.TheVariants as operations
 use Rattle.qs_base.specs.Results.{bind}
 use Rattle.qs_entail.specs.Building.{Failure, breaks, passes, limited}
-use Rattle.qs_entail.specs.Answers.{fault_of}
+use Rattle.qs_entail.specs.declared.stop.Stop.{Stop}
+use Rattle.qs_entail.specs.Answers.{fault_of, Follows}
 
 -- ---- what the code has
 
@@ -34,6 +36,18 @@ attempt_of (Past limit) = Err (passes (fault_of limit))
 -- the attempts of a stack, the front being the end
 abbrev pub seen : List Built → List (Result Polynomial Failure)
 seen items = map attempt_of (reverse items)
+
+-- what is built is this attempt, if memory suffices
+abbrev pub Builds : Result Polynomial Failure → Result Built NoMemory → Type 0
+Builds attempt result = IfOk result (λ built. attempt_of built ≡ attempt)
+
+-- what a step gives is kept
+abbrev pub KeepsGiven : Result Polynomial Stop → Result Built NoMemory → Type 0
+KeepsGiven given result = (attempt : Result Polynomial Failure) → Follows given attempt → Builds attempt result
+
+-- the stack becomes what f makes of it, if memory suffices
+abbrev pub Changes : (List (Result Polynomial Failure) → List (Result Polynomial Failure)) → (old new : List Built) → Result (Unit {0}) NoMemory → Type 0
+Changes f old new result = OnOk result (seen new ≡ f (seen old))
 
 abbrev pub operated : Operation → Polynomial → Polynomial → Polynomial
 operated operations.Sum p q = sum p q
@@ -64,22 +78,35 @@ abbrev pub joined : Operation → ℕ → List (Result Polynomial Failure) → R
 joined operation zero xs so_far = so_far
 joined operation (suc n) xs so_far = joined operation n (others xs) (on_both operation so_far (first xs))
 
+-- joined to a number
+abbrev pub joined_from : ℤ → Operation → ℕ → List (Result Polynomial Failure) → Result Polynomial Failure
+joined_from start operation n xs = joined operation n xs (limited (number start))
+
 abbrev pub sum_first : ℕ → List (Result Polynomial Failure) → Result Polynomial Failure
-sum_first n xs = joined operations.Sum n xs (limited (number (pos 0)))
+sum_first n xs = joined_from (pos 0) operations.Sum n xs
 
 abbrev pub product_first : ℕ → List (Result Polynomial Failure) → Result Polynomial Failure
-product_first n xs = joined operations.Product n xs (limited (number (pos 1)))
+product_first n xs = joined_from (pos 1) operations.Product n xs
+
+abbrev pub sum_step : ℕ → List (Result Polynomial Failure) → List (Result Polynomial Failure)
+sum_step n xs = sum_first n xs ∷ drop n xs
+
+abbrev pub product_step : ℕ → List (Result Polynomial Failure) → List (Result Polynomial Failure)
+product_step n xs = product_first n xs ∷ drop n xs
+
+abbrev pub head_step : Head → List (Result Polynomial Failure) → List (Result Polynomial Failure)
+head_step head xs = on_one head (first xs) ∷ others xs
 
 abbrev pub step_term : TermNode → List (Result Polynomial Failure) → List (Result Polynomial Failure)
 step_term (Number k) xs = limited (number k) ∷ xs
 step_term (Variable x) xs = Ok (single (variable x)) ∷ xs
-step_term (Add n) xs = sum_first n xs ∷ drop n xs
+step_term (Add n) xs = sum_step n xs
 step_term Sub xs = on_both operations.Difference (first xs) (first (others xs)) ∷ others (others xs)
-step_term (Mul n) xs = product_first n xs ∷ drop n xs
-step_term (Div k) xs = on_one (heads.Div k) (first xs) ∷ others xs
-step_term WrapUnsigned xs = on_one heads.Wrapu (first xs) ∷ others xs
-step_term WrapSigned xs = on_one heads.Wraps (first xs) ∷ others xs
-step_term Bits xs = on_one heads.Bits (first xs) ∷ others xs
+step_term (Mul n) xs = product_step n xs
+step_term (Div k) xs = head_step (heads.Div k) xs
+step_term WrapUnsigned xs = head_step heads.Wrapu xs
+step_term WrapSigned xs = head_step heads.Wraps xs
+step_term Bits xs = head_step heads.Bits xs
 
 abbrev pub term_steps : List TermNode → List (Result Polynomial Failure) → List (Result Polynomial Failure)
 term_steps [] xs = xs
@@ -97,6 +124,10 @@ no_attempts = record { terms = []; assertions = [] }
 -- the stacks of a building
 abbrev pub both_seen : Building → Stacks
 both_seen b = record { terms = seen b.terms.items; assertions = seen b.assertions.items }
+
+-- the building takes this step, if memory suffices
+abbrev pub Steps : (Stacks → Stacks) → (old new : Building) → Result (Unit {0}) NoMemory → Type 0
+Steps f old new result = OnOk result (both_seen new ≡ f (both_seen old))
 
 -- a condition has no polynomial, but takes those of its terms
 abbrev pub step_cond : CondNode → Stacks → Stacks
@@ -117,9 +148,9 @@ step_assertion (Natural n) s = record s { assertions = limited (number (pos n)) 
 step_assertion Infinity s = none_first 0 s
 step_assertion (Cost f) s = record s { assertions = Ok (single (cost f.0)) ∷ s.assertions }
 step_assertion Num s = record { terms = others s.terms; assertions = on_one heads.Num (first s.terms) ∷ s.assertions }
-step_assertion (Total n) s = record s { assertions = sum_first n s.assertions ∷ drop n s.assertions }
+step_assertion (Total n) s = record s { assertions = sum_step n s.assertions }
 step_assertion (Greatest n) s = none_first n s
-step_assertion (Product n) s = record s { assertions = product_first n s.assertions ∷ drop n s.assertions }
+step_assertion (Product n) s = record s { assertions = product_step n s.assertions }
 step_assertion Guard s = none_first 1 s
 step_assertion If s = none_first 2 s
 step_assertion (Named n) s = none_first 0 s

@@ -13,7 +13,7 @@ use Rattle.qs_base.specs.Results.{bind}
 use Rattle.qs_entail.specs.Building.{Failure, is_plain}
 use Rattle.qs_entail.specs.Pushing.{Known, with_polynomials, at_first, push, push_list}
 use Rattle.qs_entail.specs.Facts.{condition, different_sides, added}
-use Rattle.qs_entail.specs.Faults.{Fault, step, node, part, members_of, member_at, summands_of, guarded_of, definition, branch, unfolded, contradiction, arithmetic_holds, count, count_certs}
+use Rattle.qs_entail.specs.Faults.{Fault, step, node, part, members_of, member_of, member_count, summands_of, summand_count, guarded_of, definition, branch, unfolded, contradiction, arithmetic_holds, count_certs}
 
 -- ---- the conditions and the count of polynomials that hypotheses push
 
@@ -92,10 +92,9 @@ has_count n (Err failure) = false
 abbrev pub stands : CertTree → List Define → Outline → AssertionTree → AssertionTree → Bool
 stands same ds o p q = same_assertion p q
 stands (via r c d) ds o p q = true
-stands (pick i c) ds o p q = is_given (bind (members_of p) (λ members. member_at members i))
-stands (all cs) ds o p q = has_count (count_certs cs) (bind (members_of q) (λ members. Ok (count members)))
-stands (parts cs) ds o p q =
-    has_count (count_certs cs) (bind (summands_of p) (λ summands. Ok (count summands))) && has_count (count_certs cs) (bind (summands_of q) (λ summands. Ok (count summands)))
+stands (pick i c) ds o p q = is_given (member_of p i)
+stands (all cs) ds o p q = has_count (count_certs cs) (member_count q)
+stands (parts cs) ds o p q = has_count (count_certs cs) (summand_count p) && has_count (count_certs cs) (summand_count q)
 stands (assume c) ds o p q = is_given (guarded_of p)
 stands (drop c d) ds o p q = is_given (guarded_of q)
 stands (split b c d) ds o p q = true
@@ -135,7 +134,7 @@ abbrev mutual
   rest (via r c d) ds k p q =
       option_or (part 0 (begun c ds (outlined k) p r (rest c ds k p r))) (part 1 (begun d ds (outlined k) r q (rest d ds k r q)))
   rest (pick i c) ds k p q =
-      node rules.Pick (bind (members_of p) (λ members. member_at members i)) (λ a. part 0 (begun c ds (outlined k) a q (rest c ds k a q)))
+      node rules.Pick (member_of p i) (λ a. part 0 (begun c ds (outlined k) a q (rest c ds k a q)))
   rest (all cs) ds k p q = node rules.All (members_of q) (λ members. faults_all cs 0 ds k p members)
   rest (parts cs) ds k p q =
       node rules.Parts (summands_of p) (λ left. node rules.Parts (summands_of q) (λ right. faults_parts cs 0 ds k left right))
@@ -177,8 +176,16 @@ fault c ds k p q = begun c ds (outlined k) p q (rest c ds k p q)
 abbrev pub outlined_first : Outline
 outlined_first = record { conditions = []; count = 1 }
 
+-- the root's conditions without polynomials hold under the hypotheses
+abbrev pub root_stands : List CondTree → List Define → AssertionTree → AssertionTree → CertTree → Bool
+root_stands hypotheses ds p q c = stands c ds (outline_list hypotheses outlined_first) p q
+
+-- the first fault of a root whose other conditions hold, and of its parts
+abbrev pub rest_under : List CondTree → List Define → AssertionTree → AssertionTree → CertTree → Option Fault
+rest_under hypotheses ds p q c = node (rule_of c) (push_list hypotheses at_first) (λ k. rest c ds k p q)
+
 -- The first fault, or none where the certificate shows under the hypotheses that P is at least Q. The root is
 -- a node that pushes the hypotheses.
 abbrev pub verdict : List CondTree → List Define → AssertionTree → AssertionTree → CertTree → Option Fault
 verdict hypotheses ds p q c =
-    begun c ds (outline_list hypotheses outlined_first) p q (node (rule_of c) (push_list hypotheses at_first) (λ k. rest c ds k p q))
+    begun c ds (outline_list hypotheses outlined_first) p q (rest_under hypotheses ds p q c)

@@ -1,5 +1,5 @@
 -- What the walk over a certificate answers at a node.
-use Rattle.std.specs.Prelude.{◌≡◌, ℕ, Bool, true, false, List, ◌++◌, take, Option, Some, None, Result, Ok, Err}
+use Rattle.std.specs.Prelude.{◌≡◌, ℕ, Bool, true, false, List, [], ◌∷◌, ◌++◌, length, Option, Some, None, Result, Ok, Err, MatchResult}
 use Rattle.qs_entail.specs.declared.fault.Rule.{Rule}
 use Rattle.qs_entail.specs.declared.stop.Stop.{Stop}
 use Rattle.qs_entail.specs.declared.stop.Stop.TheVariants.{NoMemory, Breaks, Passes}
@@ -10,7 +10,11 @@ use Rattle.qs_entail.specs.declared.walk.Walk.{Walk}
 use Rattle.qs_entail.specs.declared.rules.Both.{Both}
 use Rattle.qs_entail.specs.Answers.{fault_of}
 use Rattle.qs_assert.specs.Trees.{AssertionTree}
-use Rattle.qs_entail.specs.Faults.{Fault, step, limit, unfolded}
+use Rattle.qs_assert.specs.declared.define.Define.{Define}
+use Rattle.qs_base.specs.Results.{bind}
+use Rattle.qs_entail.specs.Building.{Failure}
+use Rattle.qs_entail.specs.Extending.{known_first}
+use Rattle.qs_entail.specs.Faults.{Fault, step, limit, definition, unfolded}
 use Rattle.qs_entail.specs.Pushing.{Known}
 use Rattle.qs_entail.specs.View.{known_view}
 
@@ -22,9 +26,20 @@ pub record Place : Type 0 where
 abbrev pub place : Walk → Place
 place walk = record { path = walk.path.items; known = known_view walk.known }
 
+-- a part of a node is entered, and left
+abbrev pub EntersPart : ℕ → (old new : List ℕ) → Result (Unit {0}) Failed → Type 0
+EntersPart i old new result = MatchResult result (λ _. new ≡ old ++ i ∷ []) (λ e. e ≡ failures.NoMemory)
+
+abbrev pub LeavesPart : (old new : List ℕ) → Type 0
+LeavesPart old new = (path : List ℕ) (i : ℕ) → old ≡ path ++ i ∷ [] → new ≡ path
+
+-- how much is known
+abbrev pub mark_of : Known → Mark
+mark_of k = record { conditions = length k.conditions; polynomials = length k.polynomials }
+
 -- what was known at a mark
 abbrev pub cut : Mark → Place → Place
-cut mark w = record { path = w.path; known = record { conditions = take mark.conditions w.known.conditions; polynomials = take mark.polynomials w.known.polynomials } }
+cut mark w = record { path = w.path; known = known_first mark.conditions mark.polynomials w.known }
 
 -- a step of this rule that gives nothing
 abbrev pub failure_of : Rule → Stop → Failed
@@ -59,6 +74,10 @@ both_view both = record { left = both.left; right = both.right }
 
 abbrev pub unfolded_both : List ℕ → AssertionTree → AssertionTree → AssertionTree → Pair
 unfolded_both n body p q = record { left = unfolded n body p; right = unfolded n body q }
+
+-- the two, each name n replaced by the body of its first definition
+abbrev pub both_unfolded : List Define → List ℕ → AssertionTree → AssertionTree → Result Pair Failure
+both_unfolded ds n p q = bind (definition ds n) (λ body. Ok (unfolded_both n body p q))
 
 -- the part with the first branches, and the one with the second
 abbrev pub branch_number : Bool → ℕ

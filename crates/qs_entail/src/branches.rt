@@ -1,8 +1,8 @@
 // Conditionals on a condition are replaced by a branch.
-ghost use Rattle.std.specs.Prelude.{◌≡◌, ◌++◌, IfOk, reverse};
+ghost use Rattle.std.specs.Prelude.{◌≡◌, IfOk};
 ghost use Rattle.qs_assert.specs.Listing.{cond_nodes};
 ghost use Rattle.qs_entail.specs.Branching as branching;
-ghost use Rattle.qs_entail.specs.Branching.{copied, kept};
+ghost use Rattle.qs_entail.specs.Branching.{PutsCopied, PutsKept};
 ghost use Rattle.qs_entail.specs.Faults as faults;
 
 use crate::fronts::{own_length, part_count};
@@ -30,8 +30,8 @@ fn keep(
     nodes: &mut Vec<Node>,
     pending: &mut Vec<bool>,
 ) -> Result<(), NoMemory>
-    ensures nodes { IfOk result (λ _. nodes.new.items ≡ nodes.old.items ++ copied (cond_nodes b.now) rest.now) }
-    ensures marks { IfOk result (λ _. reverse pending.new.items ≡ kept (cond_nodes b.now) first rest.now ++ reverse pending.old.items) }
+    ensures nodes { PutsCopied b.now rest.now nodes.old.items nodes.new.items result }
+    ensures marks { PutsKept b.now first rest.now pending.old.items pending.new.items result }
 {
     if chooses(b, rest) {
         put(pending, !first)?;

@@ -1,11 +1,13 @@
-// The polynomials of terms and assertions. The list of nodes is read from its end, and each node takes the
-// polynomials of its parts from a stack.
-ghost use Rattle.std.specs.Prelude.{◌≡◌, ◌∷◌, OnOk, drop};
+// The polynomials of terms and assertions. The list of nodes is read from its end, and each node
+// takes the polynomials of its parts from a stack.
+ghost use Rattle.std.specs.Prelude.{◌≡◌};
 ghost use Rattle.qs_assert.specs.Reading.{others};
 ghost use Rattle.qs_entail.specs.Answers.{Follows};
 ghost use Rattle.qs_entail.specs.Building as building;
 ghost use Rattle.qs_entail.specs.Stacks as stacks;
-ghost use Rattle.qs_entail.specs.Stacks.{seen, both_seen};
+ghost use Rattle.qs_entail.specs.Stacks.{seen, both_seen, Changes, Steps};
+ghost use Rattle.qs_entail.specs.Stacks.{step_term, sum_step, product_step, head_step};
+ghost use Rattle.qs_entail.specs.Stacks.{step_assertion, step_node, none_first};
 
 use crate::operation::{Operation, limited};
 pub use crate::operation::{atom_of, difference, number_of, times_number};
@@ -25,21 +27,21 @@ pub struct Building {
 }
 
 fn put_number(alloc: Global, stack: &mut Vec<Built>, k: i64) -> Result<(), NoMemory>
-    ensures { OnOk result (seen stack.new.items ≡ stacks.step_term (TermNode.Number k) (seen stack.old.items)) }
+    ensures { Changes (step_term (TermNode.Number k)) stack.old.items stack.new.items result }
 {
     let number = kept(limited(Poly::number(alloc, k)))?;
     put(stack, number)
 }
 
 fn put_variable(alloc: Global, stack: &mut Vec<Built>, x: Var) -> Result<(), NoMemory>
-    ensures { OnOk result (seen stack.new.items ≡ stacks.step_term (TermNode.Variable x) (seen stack.old.items)) }
+    ensures { Changes (step_term (TermNode.Variable x)) stack.old.items stack.new.items result }
 {
     let variable = Poly::atom(alloc, &Atom::Variable(x))?;
     put(stack, Built::Made(variable))
 }
 
 fn put_difference(alloc: Global, stack: &mut Vec<Built>) -> Result<(), NoMemory>
-    ensures { OnOk result (seen stack.new.items ≡ stacks.step_term TermNode.Sub (seen stack.old.items)) }
+    ensures { Changes (step_term TermNode.Sub) stack.old.items stack.new.items result }
 {
     let a = taken(stack);
     let b = taken(stack);
@@ -48,21 +50,21 @@ fn put_difference(alloc: Global, stack: &mut Vec<Built>) -> Result<(), NoMemory>
 }
 
 fn put_sum(alloc: Global, stack: &mut Vec<Built>, count: usize) -> Result<(), NoMemory>
-    ensures { OnOk result (seen stack.new.items ≡ stacks.sum_first count (seen stack.old.items) ∷ drop count (seen stack.old.items)) }
+    ensures { Changes (sum_step count) stack.old.items stack.new.items result }
 {
     let item = joined(alloc, Operation::Sum, 0, count, stack)?;
     put(stack, item)
 }
 
 fn put_product(alloc: Global, stack: &mut Vec<Built>, count: usize) -> Result<(), NoMemory>
-    ensures { OnOk result (seen stack.new.items ≡ stacks.product_first count (seen stack.old.items) ∷ drop count (seen stack.old.items)) }
+    ensures { Changes (product_step count) stack.old.items stack.new.items result }
 {
     let item = joined(alloc, Operation::Product, 1, count, stack)?;
     put(stack, item)
 }
 
 fn put_on_one(alloc: Global, stack: &mut Vec<Built>, head: Head) -> Result<(), NoMemory>
-    ensures { OnOk result (seen stack.new.items ≡ stacks.on_one head (stacks.first (seen stack.old.items)) ∷ others (seen stack.old.items)) }
+    ensures { Changes (head_step head) stack.old.items stack.new.items result }
 {
     let part = taken(stack);
     let item = on_one(alloc, head, part)?;
@@ -70,7 +72,7 @@ fn put_on_one(alloc: Global, stack: &mut Vec<Built>, head: Head) -> Result<(), N
 }
 
 fn step_term(alloc: Global, stack: &mut Vec<Built>, node: TermNode) -> Result<(), NoMemory>
-    ensures { OnOk result (seen stack.new.items ≡ stacks.step_term node (seen stack.old.items)) }
+    ensures { Changes (step_term node) stack.old.items stack.new.items result }
 {
     match node {
         TermNode::Number(k) => put_number(alloc, stack, k),
@@ -123,21 +125,21 @@ impl Building {
     }
 
     fn put_natural(&mut self, alloc: Global, n: u64) -> Result<(), NoMemory>
-        ensures { OnOk result (both_seen self.new ≡ stacks.step_assertion (AssertionNode.Natural n) (both_seen self.old)) }
+        ensures { Steps (step_assertion (AssertionNode.Natural n)) self.old self.new result }
     {
         let number = kept(number_of(alloc, n))?;
         put(&mut self.assertions, number)
     }
 
     fn put_cost(&mut self, alloc: Global, f: FnId) -> Result<(), NoMemory>
-        ensures { OnOk result (both_seen self.new ≡ stacks.step_assertion (AssertionNode.Cost f) (both_seen self.old)) }
+        ensures { Steps (step_assertion (AssertionNode.Cost f)) self.old self.new result }
     {
         let cost = Poly::atom(alloc, &Atom::Cost(f))?;
         put(&mut self.assertions, Built::Made(cost))
     }
 
     fn put_num(&mut self, alloc: Global) -> Result<(), NoMemory>
-        ensures { OnOk result (both_seen self.new ≡ stacks.step_assertion AssertionNode.Num (both_seen self.old)) }
+        ensures { Steps (step_assertion AssertionNode.Num) self.old self.new result }
     {
         let part = taken(&mut self.terms);
         let item = on_one(alloc, Head::Num, part)?;
@@ -147,14 +149,14 @@ impl Building {
     /// Puts none in place of the first items.
     #[tactic(auto, using(crate::proofs::Stacked::seen_cut))]
     fn put_none(&mut self, count: usize) -> Result<(), NoMemory>
-        ensures { OnOk result (both_seen self.new ≡ stacks.none_first count (both_seen self.old)) }
+        ensures { Steps (none_first count) self.old self.new result }
     {
         cut(&mut self.assertions, count);
         put(&mut self.assertions, Built::Broken)
     }
 
     fn step_assertion(&mut self, alloc: Global, node: &AssertionNode) -> Result<(), NoMemory>
-        ensures { OnOk result (both_seen self.new ≡ stacks.step_assertion node.now (both_seen self.old)) }
+        ensures { Steps (step_assertion node.now) self.old self.new result }
     {
         match node {
             AssertionNode::Natural(n) => self.put_natural(alloc, *n),
@@ -171,7 +173,7 @@ impl Building {
     }
 
     fn step(&mut self, alloc: Global, node: &Node) -> Result<(), NoMemory>
-        ensures { OnOk result (both_seen self.new ≡ stacks.step_node node.now (both_seen self.old)) }
+        ensures { Steps (step_node node.now) self.old self.new result }
     {
         match node {
             Node::Term(head) => step_term(alloc, &mut self.terms, *head),

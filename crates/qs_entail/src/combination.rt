@@ -1,11 +1,9 @@
 // Combinations of the polynomials that are known to be at least 0.
-ghost use Rattle.std.specs.Prelude.{◌≡◌, pos, List, Result, IfOk};
-ghost use Rattle.qs_base.specs.Results.{bind};
-ghost use Rattle.qs_poly.specs.Operations as operations;
-ghost use Rattle.qs_poly.specs.Polynomials.{Polynomial, nothing};
-ghost use Rattle.qs_entail.specs.Answers.{Follows, FollowsAs};
+ghost use Rattle.std.specs.Prelude.{◌≡◌, IfOk};
+ghost use Rattle.qs_poly.specs.Polynomials.{nothing};
+ghost use Rattle.qs_entail.specs.Answers.{Follows, ListFollows};
 ghost use Rattle.qs_entail.specs.Building as building;
-ghost use Rattle.qs_entail.specs.Combining.{item_counted, two_view};
+ghost use Rattle.qs_entail.specs.Combining.{item_counted, CombinesBoth};
 ghost use Rattle.qs_entail.specs.Verdicts.{is_counted, are_counted};
 ghost use Rattle.qs_entail.specs.View.{item_view, items_view};
 
@@ -76,7 +74,7 @@ fn at<'a>(list: &'a [Poly], i: i64, zero: &'a Poly) -> &'a Poly
 }
 
 fn product_times(alloc: Global, p: &Poly, q: &Poly, k: u64) -> Result<Poly, Stop>
-    ensures { Follows result (bind (building.limited (operations.product p.now q.now)) (λ r. building.limited (operations.multiple (pos k) r))) }
+    ensures { Follows result (building.product_times k p.now q.now) }
 {
     let product = operate(alloc, Operation::Product, p, q)?;
     times_number(alloc, &product, k)
@@ -95,7 +93,7 @@ fn item_polynomial(alloc: Global, item: &Item, list: &[Poly]) -> Result<Poly, St
 }
 
 fn item_polynomials(alloc: Global, items: &[Item], list: &[Poly]) -> Result<Vec<Poly>, Stop>
-    ensures { FollowsAs (λ made. made.items) result (building.item_polynomials (items_view items.now) list.now) }
+    ensures { ListFollows result (building.item_polynomials (items_view items.now) list.now) }
 {
     let mut made = Vec::new(alloc);
     for item in items {
@@ -125,7 +123,7 @@ pub fn combination(alloc: Global, items: &[Item], list: &[Poly]) -> Result<Poly,
 
 /// The sums of the items of two combinations; all items come before the sums.
 pub fn two_combinations(alloc: Global, v: &[Item], w: &[Item], list: &[Poly]) -> Result<Two, Stop>
-    ensures { FollowsAs two_view result (building.two_combinations (items_view v.now) (items_view w.now) list.now) }
+    ensures { CombinesBoth v.now w.now list.now result }
 {
     let ps = item_polynomials(alloc, v, list)?;
     let qs = item_polynomials(alloc, w, list)?;

@@ -1,16 +1,12 @@
 // The polynomials that facts add, where their conditions without polynomials hold.
-ghost use Rattle.std.specs.Prelude.{[], ◌∷◌, ◌||◌, Ok, negsuc};
-ghost use Rattle.qs_poly.specs.Operations.{sum, number};
-ghost use Rattle.qs_poly.specs.Terms.{polynomial_eq};
-ghost use Rattle.qs_entail.specs.Answers.{FindsAs, FollowsAs};
-ghost use Rattle.qs_entail.specs.Building as building;
-ghost use Rattle.qs_base.specs.Results.{bind, require};
-ghost use Rattle.qs_entail.specs.Building.{breaks, limited};
-ghost use Rattle.qs_entail.specs.Certificates as cert;
+ghost use Rattle.qs_entail.specs.Answers.{FindsAs, FollowsAs, ListFollows};
+ghost use Rattle.qs_entail.specs.Certificates.{range, cost_range, apart, num_is, num_bounds};
+ghost use Rattle.qs_entail.specs.Certificates.{wrapu_is, wraps_is, wrapu_bounds, wraps_bounds};
+ghost use Rattle.qs_entail.specs.Certificates.{quotient_bounds, bits_bound, bits_half, bits_rise};
 ghost use Rattle.qs_entail.specs.Facts as facts;
-ghost use Rattle.qs_entail.specs.Facts.{added};
-ghost use Rattle.qs_entail.specs.Pushing as pushing;
-ghost use Rattle.qs_entail.specs.View.{fact_tree, items_view, known_view};
+ghost use Rattle.qs_entail.specs.Facts.{both_differences};
+ghost use Rattle.qs_entail.specs.Learning.{Adds, AddsAlways, AddsApart};
+ghost use Rattle.qs_entail.specs.View.{fact_tree, items_view};
 
 use crate::Item;
 use crate::building::{atom_of, difference, term_polynomial};
@@ -30,7 +26,7 @@ use std::alloc::Global;
 
 /// The polynomials p less q, and q less p.
 fn both_ways(alloc: Global, p: &Poly, q: &Poly) -> Result<Vec<Poly>, Stop>
-    ensures { FollowsAs (λ v. v.items) result (bind (building.difference p.now q.now) (λ a. bind (building.difference q.now p.now) (λ b. Ok (a ∷ b ∷ [])))) }
+    ensures { ListFollows result (both_differences p.now q.now) }
 {
     let above = difference(alloc, p, q)?;
     let below = difference(alloc, q, p)?;
@@ -38,7 +34,7 @@ fn both_ways(alloc: Global, p: &Poly, q: &Poly) -> Result<Vec<Poly>, Stop>
 }
 
 fn range(alloc: Global, x: Var) -> Result<Vec<Poly>, Stop>
-    ensures { (k : pushing.Known) → FollowsAs (λ v. v.items) result (added (cert.range x) k) }
+    ensures { AddsAlways (range x) result }
 {
     let variable = atom_of(alloc, &Atom::Variable(x))?;
     let first = small(alloc, least(x.number))?;
@@ -49,7 +45,7 @@ fn range(alloc: Global, x: Var) -> Result<Vec<Poly>, Stop>
 }
 
 fn cost_range(alloc: Global, f: FnId) -> Result<Vec<Poly>, Stop>
-    ensures { (k : pushing.Known) → FollowsAs (λ v. v.items) result (added (cert.cost_range f.0) k) }
+    ensures { AddsAlways (cost_range f.0) result }
 {
     let cost = atom_of(alloc, &Atom::Cost(f))?;
     one(alloc, cost)
@@ -83,14 +79,7 @@ fn condition(conditions: &[Cond], i: i64) -> Result<&Cond, Stop>
 
 /// The items less 1, where they are a difference of the sides.
 fn apart_by(alloc: Global, sides: &Sides, items: &[Item], known: &Known) -> Result<Vec<Poly>, Stop>
-    ensures { FollowsAs (λ v. v.items) result (
-        bind (building.term_polynomial sides.now.left) (λ t.
-        bind (building.term_polynomial sides.now.right) (λ u.
-        bind (building.combination (items_view items.now) known.now.polynomials.items) (λ z.
-        bind (building.difference t u) (λ more.
-        bind (building.difference u t) (λ less.
-        bind (limited (sum z (number (negsuc 0)))) (λ r.
-        require (polynomial_eq z more || polynomial_eq z less) breaks (Ok (r ∷ []))))))))) }
+    ensures { AddsApart sides.now items.now known.now result }
 {
     let left = term_polynomial(alloc, &sides.left)?;
     let right = term_polynomial(alloc, &sides.right)?;
@@ -107,7 +96,7 @@ fn apart_by(alloc: Global, sides: &Sides, items: &[Item], known: &Known) -> Resu
 }
 
 fn apart(alloc: Global, i: i64, items: &[Item], known: &Known) -> Result<Vec<Poly>, Stop>
-    ensures { FollowsAs (λ v. v.items) result (added (cert.apart i (items_view items.now)) (known_view known.now)) }
+    ensures { Adds (apart i (items_view items.now)) known.now result }
 {
     let condition = condition(&known.conditions, i)?;
     let sides = different_sides(alloc, condition)?;
@@ -115,7 +104,7 @@ fn apart(alloc: Global, i: i64, items: &[Item], known: &Known) -> Result<Vec<Pol
 }
 
 fn num_is(alloc: Global, t: &Term, items: &[Item], known: &Known) -> Result<Vec<Poly>, Stop>
-    ensures { FollowsAs (λ v. v.items) result (added (cert.num_is t.now (items_view items.now)) (known_view known.now)) }
+    ensures { Adds (num_is t.now (items_view items.now)) known.now result }
 {
     let p = term_polynomial(alloc, t)?;
     let total = combination(alloc, items, &known.polynomials)?;
@@ -129,7 +118,7 @@ fn num_is(alloc: Global, t: &Term, items: &[Item], known: &Known) -> Result<Vec<
 }
 
 fn num_bounds(alloc: Global, t: &Term) -> Result<Vec<Poly>, Stop>
-    ensures { (k : pushing.Known) → FollowsAs (λ v. v.items) result (added (cert.num_bounds t.now) k) }
+    ensures { AddsAlways (num_bounds t.now) result }
 {
     let p = term_polynomial(alloc, t)?;
     let num = num_of(alloc, &p)?;
@@ -140,16 +129,16 @@ fn num_bounds(alloc: Global, t: &Term) -> Result<Vec<Poly>, Stop>
 fn wrapu_is(
     alloc: Global,
     t: &Term,
-    first: &[Item],
-    second: &[Item],
+    v: &[Item],
+    w: &[Item],
     known: &Known,
 ) -> Result<Vec<Poly>, Stop>
-    ensures { FollowsAs (λ v. v.items) result (added (cert.wrapu_is t.now (items_view first.now) (items_view second.now)) (known_view known.now)) }
+    ensures { Adds (wrapu_is t.now (items_view v.now) (items_view w.now)) known.now result }
 {
     let p = term_polynomial(alloc, t)?;
     let last = small(alloc, 4_294_967_295)?;
     let room = difference(alloc, &last, &p)?;
-    let totals = two_combinations(alloc, first, second, &known.polynomials)?;
+    let totals = two_combinations(alloc, v, w, &known.polynomials)?;
     let wrapped = wrapu_of(alloc, &p)?;
     let pair = both_ways(alloc, &wrapped, &p)?;
     if totals.first == p && totals.second == room {
@@ -162,18 +151,18 @@ fn wrapu_is(
 fn wraps_is(
     alloc: Global,
     t: &Term,
-    first: &[Item],
-    second: &[Item],
+    v: &[Item],
+    w: &[Item],
     known: &Known,
 ) -> Result<Vec<Poly>, Stop>
-    ensures { FollowsAs (λ v. v.items) result (added (cert.wraps_is t.now (items_view first.now) (items_view second.now)) (known_view known.now)) }
+    ensures { Adds (wraps_is t.now (items_view v.now) (items_view w.now)) known.now result }
 {
     let p = term_polynomial(alloc, t)?;
     let offset = small(alloc, 2_147_483_648)?;
     let above = sum(alloc, &p, &offset)?;
     let last = small(alloc, 2_147_483_647)?;
     let room = difference(alloc, &last, &p)?;
-    let totals = two_combinations(alloc, first, second, &known.polynomials)?;
+    let totals = two_combinations(alloc, v, w, &known.polynomials)?;
     let wrapped = wraps_of(alloc, &p)?;
     let pair = both_ways(alloc, &wrapped, &p)?;
     if totals.first == above && totals.second == room {
@@ -184,7 +173,7 @@ fn wraps_is(
 }
 
 fn wrapu_bounds(alloc: Global, t: &Term) -> Result<Vec<Poly>, Stop>
-    ensures { (k : pushing.Known) → FollowsAs (λ v. v.items) result (added (cert.wrapu_bounds t.now) k) }
+    ensures { AddsAlways (wrapu_bounds t.now) result }
 {
     let p = term_polynomial(alloc, t)?;
     let wrapped = wrapu_of(alloc, &p)?;
@@ -194,7 +183,7 @@ fn wrapu_bounds(alloc: Global, t: &Term) -> Result<Vec<Poly>, Stop>
 }
 
 fn wraps_bounds(alloc: Global, t: &Term) -> Result<Vec<Poly>, Stop>
-    ensures { (k : pushing.Known) → FollowsAs (λ v. v.items) result (added (cert.wraps_bounds t.now) k) }
+    ensures { AddsAlways (wraps_bounds t.now) result }
 {
     let p = term_polynomial(alloc, t)?;
     let wrapped = wraps_of(alloc, &p)?;
@@ -207,7 +196,7 @@ fn wraps_bounds(alloc: Global, t: &Term) -> Result<Vec<Poly>, Stop>
 
 #[tactic(auto, using(qs_poly::proofs::Coefficients::lessened_canonical))]
 fn quotient_bounds(alloc: Global, t: &Term, n: u64) -> Result<Vec<Poly>, Stop>
-    ensures { (k : pushing.Known) → FollowsAs (λ v. v.items) result (added (cert.quotient_bounds t.now n) k) }
+    ensures { AddsAlways (quotient_bounds t.now n) result }
 {
     let p = term_polynomial(alloc, t)?;
     let quotient = div_of(alloc, &p, n)?;
@@ -217,7 +206,7 @@ fn quotient_bounds(alloc: Global, t: &Term, n: u64) -> Result<Vec<Poly>, Stop>
 }
 
 fn bits_bound(alloc: Global, t: &Term) -> Result<Vec<Poly>, Stop>
-    ensures { (k : pushing.Known) → FollowsAs (λ v. v.items) result (added (cert.bits_bound t.now) k) }
+    ensures { AddsAlways (bits_bound t.now) result }
 {
     let p = term_polynomial(alloc, t)?;
     let bits = bits_of(alloc, &p)?;
@@ -225,7 +214,7 @@ fn bits_bound(alloc: Global, t: &Term) -> Result<Vec<Poly>, Stop>
 }
 
 fn bits_half(alloc: Global, t: &Term, items: &[Item], known: &Known) -> Result<Vec<Poly>, Stop>
-    ensures { FollowsAs (λ v. v.items) result (added (cert.bits_half t.now (items_view items.now)) (known_view known.now)) }
+    ensures { Adds (bits_half t.now (items_view items.now)) known.now result }
 {
     let p = term_polynomial(alloc, t)?;
     let unit = small(alloc, 1)?;
@@ -250,7 +239,7 @@ fn bits_rise(
     items: &[Item],
     known: &Known,
 ) -> Result<Vec<Poly>, Stop>
-    ensures { FollowsAs (λ v. v.items) result (added (cert.bits_rise t.now u.now (items_view items.now)) (known_view known.now)) }
+    ensures { Adds (bits_rise t.now u.now (items_view items.now)) known.now result }
 {
     let p = term_polynomial(alloc, t)?;
     let q = term_polynomial(alloc, u)?;
@@ -268,7 +257,7 @@ fn bits_rise(
 
 /// The polynomials that a fact adds.
 pub fn added(alloc: Global, fact: &Fact, known: &Known) -> Result<Vec<Poly>, Stop>
-    ensures { FollowsAs (λ v. v.items) result (added (fact_tree fact.now) (known_view known.now)) }
+    ensures { Adds (fact_tree fact.now) known.now result }
 {
     match fact {
         Fact::Range(x) => range(alloc, *x),

@@ -56,8 +56,8 @@ impl Rule {
     }
 }
 
-/// Why a certificate does not show what it is to show. A path has the numbers of parts, from 0, from the
-/// root to the first node that fails, a node being before its parts.
+/// Why a certificate does not show what it is to show. A path has the numbers of parts, from 0,
+/// from the root to the first node that fails, a node being before its parts.
 #[derive(Debug, Drop, Error)]
 pub enum CertFault {
     /// No memory was found.

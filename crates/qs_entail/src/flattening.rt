@@ -1,8 +1,7 @@
 // A condition or its negation, as the list of the conditions that are pushed for it.
-ghost use Rattle.std.specs.Prelude.{◌≡◌, ◌≤◌, ◌++◌, IfOk, true, reverse, replicate};
-ghost use Rattle.qs_assert.specs.Views.{head_arity};
+ghost use Rattle.std.specs.Prelude.{◌≡◌, ◌≤◌, ◌++◌, IfOk, true};
 ghost use Rattle.qs_entail.specs.Flattening as flattening;
-ghost use Rattle.qs_entail.specs.Flattening.{flat, whole, parts_negated};
+ghost use Rattle.qs_entail.specs.Flattening.{flat, whole, PutsParts};
 
 use crate::parts::both_sides;
 use qs_assert::stack::{next, put, put_all};
@@ -36,7 +35,7 @@ fn opens(negated: bool, nodes: &[Node]) -> bool
 
 /// Says of the parts of the first condition which are negated.
 fn open(negated: bool, nodes: &[Node], pending: &mut Vec<bool>) -> Result<(), NoMemory>
-    ensures { IfOk result (λ _. reverse pending.new.items ≡ replicate (head_arity nodes.now) (parts_negated negated nodes.now) ++ reverse pending.old.items) }
+    ensures { PutsParts negated nodes.now pending.old.items pending.new.items result }
 {
     let is_not = begins(nodes, &Node::Condition(CondNode::Not));
     let negated = if is_not { !negated } else { negated };

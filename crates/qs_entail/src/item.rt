@@ -1,7 +1,8 @@
 // The items of combinations.
 
-/// A summand of a combination of the polynomials that are known to be at least 0. They are told by their
-/// numbers in the order of pushing, from 0; a number that no polynomial has fails the side condition.
+/// A summand of a combination of the polynomials that are known to be at least 0. They are told by
+/// their numbers in the order of pushing, from 0; a number that no polynomial has fails the side
+/// condition.
 #[derive(Clone, Copy, Debug, PartialEq, Eq)]
 pub enum Item {
     /// So many times a polynomial.

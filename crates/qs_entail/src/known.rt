@@ -1,5 +1,6 @@
 // What is known at a node of a certificate.
-ghost use Rattle.std.specs.Prelude.{◌≡◌, take};
+ghost use Rattle.std.specs.Prelude.{◌≡◌};
+ghost use Rattle.qs_entail.specs.Extending.{known_first};
 ghost use Rattle.qs_entail.specs.View.{known_view};
 
 use qs_assert::Cond;
@@ -15,7 +16,7 @@ pub struct Known {
 impl Known {
     /// Forgets all but the first conditions and polynomials.
     pub fn restore(&mut self, conditions: usize, polynomials: usize)
-        ensures { known_view self.new ≡ record { conditions = take conditions self.old.conditions.items; polynomials = take polynomials self.old.polynomials.items } }
+        ensures { known_view self.new ≡ known_first conditions polynomials (known_view self.old) }
     {
         self.conditions.truncate(conditions);
         self.polynomials.truncate(polynomials);

@@ -1,14 +1,11 @@
 // The walk over a certificate, a node before its parts. On a fault its path leads to the node.
-ghost use Rattle.std.specs.Prelude.{true, false};
-ghost use Rattle.qs_assert.specs.Trees.{natural, infinity, not, assertions_of};
-ghost use Rattle.qs_entail.specs.Certificates.{pick, all, parts, assume, by_definition};
-ghost use Rattle.qs_entail.specs.Certificates as cert;
-ghost use Rattle.qs_entail.specs.Faults.{node, part, branch, guarded_of, summands_of};
-ghost use Rattle.qs_entail.specs.Verdicts.{fault, rest, faults_all, faults_parts};
-ghost use Rattle.qs_entail.specs.Pushing.{push};
-ghost use Rattle.qs_entail.specs.Extending.{pushed};
-ghost use Rattle.qs_entail.specs.View.{cert_tree, certs_tree, fact_tree, known_view};
-ghost use Rattle.qs_entail.specs.Walking.{place, cut, Says, not_of, branch_number};
+ghost use Rattle.qs_entail.specs.Checking.{Checks, ChecksRest, ChecksPart, ChecksUntil};
+ghost use Rattle.qs_entail.specs.Checking.{ChecksPick, ChecksAll, ChecksEach};
+ghost use Rattle.qs_entail.specs.Checking.{ChecksParts, ChecksRight, ChecksSums};
+ghost use Rattle.qs_entail.specs.Checking.{ChecksAssume, ChecksGuarded};
+ghost use Rattle.qs_entail.specs.Checking.{ChecksGuard, ChecksRefuted, ChecksBody};
+ghost use Rattle.qs_entail.specs.Checking.{ChecksFirst, ChecksSecond, ChecksSide};
+ghost use Rattle.qs_entail.specs.Checking.{ChecksBy, ChecksFact};
 
 use crate::branches::branch;
 use crate::certificate::{Certificate, Fact};
@@ -28,14 +25,14 @@ impl Walk {
         &mut self,
         defines: &[Define],
         i: usize,
-        certificate: &Certificate,
+        part: &Certificate,
         p: &AssertionView<'_>,
         q: &AssertionView<'_>,
     ) -> Result<(), Failed>
-        ensures { Says (place self.old) (place self.new) result (part i (fault (cert_tree certificate.now) defines.now (known_view self.old.known) p.now q.now)) }
+        ensures { ChecksPart i part.now defines.now p.now q.now self.old self.new result }
     {
         self.enter(i)?;
-        self.check(defines, certificate, p, q)?;
+        self.check(defines, part, p, q)?;
         self.leave();
         Ok(())
     }
@@ -47,13 +44,13 @@ impl Walk {
         mark: Mark,
         defines: &[Define],
         i: usize,
-        certificate: &Certificate,
+        part: &Certificate,
         p: &AssertionView<'_>,
         q: &AssertionView<'_>,
     ) -> Result<(), Failed>
-        ensures { Says (cut mark (place self.old)) (place self.new) result (part i (fault (cert_tree certificate.now) defines.now (known_view self.old.known) p.now q.now)) }
+        ensures { ChecksUntil mark i part.now defines.now p.now q.now self.old self.new result }
     {
-        self.check_part(defines, i, certificate, p, q)?;
+        self.check_part(defines, i, part, p, q)?;
         self.back(mark);
         Ok(())
     }
@@ -67,7 +64,7 @@ impl Walk {
         p: &AssertionView<'_>,
         q: &AssertionView<'_>,
     ) -> Result<(), Failed>
-        ensures { Says (place self.old) (place self.new) result (fault (cert_tree certificate.now) defines.now (known_view self.old.known) p.now q.now) }
+        ensures { Checks certificate.now defines.now p.now q.now self.old self.new result }
     {
         if !self.stands(defines, certificate, p, q) {
             return Err(Failed::Step(rule_of(certificate)));
@@ -84,7 +81,7 @@ impl Walk {
         p: &AssertionView<'_>,
         q: &AssertionView<'_>,
     ) -> Result<(), Failed>
-        ensures { Says (place self.old) (place self.new) result (rest (cert_tree certificate.now) defines.now (known_view self.old.known) p.now q.now) }
+        ensures { ChecksRest certificate.now defines.now p.now q.now self.old self.new result }
     {
         match certificate {
             Certificate::Same => Ok(()),
@@ -118,14 +115,14 @@ impl Walk {
         &mut self,
         defines: &[Define],
         i: i64,
-        certificate: &Certificate,
+        part: &Certificate,
         p: &AssertionView<'_>,
         q: &AssertionView<'_>,
     ) -> Result<(), Failed>
-        ensures { Says (place self.old) (place self.new) result (rest (pick i (cert_tree certificate.now)) defines.now (known_view self.old.known) p.now q.now) }
+        ensures { ChecksPick i part.now defines.now p.now q.now self.old self.new result }
     {
         match picked(p, i) {
-            Some(member) => self.check_part(defines, 0, certificate, &member, q),
+            Some(member) => self.check_part(defines, 0, part, &member, q),
             None => Err(Failed::Step(Rule::Pick)),
         }
     }
@@ -134,14 +131,14 @@ impl Walk {
     fn check_all(
         &mut self,
         defines: &[Define],
-        certificates: &[Certificate],
+        parts: &[Certificate],
         p: &AssertionView<'_>,
         q: &AssertionView<'_>,
     ) -> Result<(), Failed>
-        ensures { Says (place self.old) (place self.new) result (rest (all (certs_tree certificates.now)) defines.now (known_view self.old.known) p.now q.now) }
+        ensures { ChecksAll parts.now defines.now p.now q.now self.old self.new result }
     {
         match members(q) {
-            Some(members) => self.check_each(defines, certificates, p, members),
+            Some(members) => self.check_each(defines, parts, p, members),
             None => Err(Failed::Step(Rule::All)),
         }
     }
@@ -150,18 +147,18 @@ impl Walk {
     fn check_each(
         &mut self,
         defines: &[Define],
-        certificates: &[Certificate],
+        parts: &[Certificate],
         p: &AssertionView<'_>,
         members: AssertionViews<'_>,
     ) -> Result<(), Failed>
-        ensures { Says (place self.old) (place self.new) result (faults_all (certs_tree certificates.now) 0 defines.now (known_view self.old.known) p.now (assertions_of members.entry)) }
+        ensures { ChecksEach parts.now defines.now p.now members.entry self.old self.new result }
     {
         let mut rest = members;
-        for (i, certificate) in certificates.iter().enumerate() {
+        for (i, part) in parts.iter().enumerate() {
             let Some((member, others)) = rest.split_first() else {
                 return Ok(());
             };
-            self.check_part(defines, i, certificate, p, &member)?;
+            self.check_part(defines, i, part, p, &member)?;
             rest = others;
         }
         Ok(())
@@ -171,14 +168,14 @@ impl Walk {
     fn check_parts(
         &mut self,
         defines: &[Define],
-        certificates: &[Certificate],
+        parts: &[Certificate],
         p: &AssertionView<'_>,
         q: &AssertionView<'_>,
     ) -> Result<(), Failed>
-        ensures { Says (place self.old) (place self.new) result (rest (parts (certs_tree certificates.now)) defines.now (known_view self.old.known) p.now q.now) }
+        ensures { ChecksParts parts.now defines.now p.now q.now self.old self.new result }
     {
         match summands(p) {
-            Some(left) => self.check_right(defines, certificates, left, q),
+            Some(left) => self.check_right(defines, parts, left, q),
             None => Err(Failed::Step(Rule::Parts)),
         }
     }
@@ -187,14 +184,14 @@ impl Walk {
     fn check_right(
         &mut self,
         defines: &[Define],
-        certificates: &[Certificate],
+        parts: &[Certificate],
         left: AssertionViews<'_>,
         q: &AssertionView<'_>,
     ) -> Result<(), Failed>
-        ensures { Says (place self.old) (place self.new) result (node Rule.Parts (summands_of q.now) (λ right. faults_parts (certs_tree certificates.now) 0 defines.now (known_view self.old.known) (assertions_of left.entry) right)) }
+        ensures { ChecksRight parts.now defines.now left.entry q.now self.old self.new result }
     {
         match summands(q) {
-            Some(right) => self.check_pairs(defines, certificates, left, right),
+            Some(right) => self.check_pairs(defines, parts, left, right),
             None => Err(Failed::Step(Rule::Parts)),
         }
     }
@@ -203,22 +200,22 @@ impl Walk {
     fn check_pairs(
         &mut self,
         defines: &[Define],
-        certificates: &[Certificate],
+        parts: &[Certificate],
         left: AssertionViews<'_>,
         right: AssertionViews<'_>,
     ) -> Result<(), Failed>
-        ensures { Says (place self.old) (place self.new) result (faults_parts (certs_tree certificates.now) 0 defines.now (known_view self.old.known) (assertions_of left.entry) (assertions_of right.entry)) }
+        ensures { ChecksSums parts.now defines.now left.entry right.entry self.old self.new result }
     {
         let mut lefts = left;
         let mut rights = right;
-        for (i, certificate) in certificates.iter().enumerate() {
+        for (i, part) in parts.iter().enumerate() {
             let Some((p, other_lefts)) = lefts.split_first() else {
                 return Ok(());
             };
             let Some((q, other_rights)) = rights.split_first() else {
                 return Ok(());
             };
-            self.check_part(defines, i, certificate, &p, &q)?;
+            self.check_part(defines, i, part, &p, &q)?;
             lefts = other_lefts;
             rights = other_rights;
         }
@@ -229,14 +226,14 @@ impl Walk {
     fn check_assume(
         &mut self,
         defines: &[Define],
-        certificate: &Certificate,
+        part: &Certificate,
         p: &AssertionView<'_>,
         q: &AssertionView<'_>,
     ) -> Result<(), Failed>
-        ensures { Says (place self.old) (place self.new) result (rest (assume (cert_tree certificate.now)) defines.now (known_view self.old.known) p.now q.now) }
+        ensures { ChecksAssume part.now defines.now p.now q.now self.old self.new result }
     {
         match guarded_of(p) {
-            Some(guarded) => self.check_guarded(defines, certificate, &guarded, q),
+            Some(guarded) => self.check_guarded(defines, part, &guarded, q),
             None => Err(Failed::Step(Rule::Assume)),
         }
     }
@@ -245,14 +242,14 @@ impl Walk {
     fn check_guarded(
         &mut self,
         defines: &[Define],
-        certificate: &Certificate,
+        part: &Certificate,
         guarded: &Guarded<'_>,
         q: &AssertionView<'_>,
     ) -> Result<(), Failed>
-        ensures { Says (place self.old) (place self.new) result (node Rule.Assume (push guarded.now.condition (known_view self.old.known)) (λ known. part 0 (fault (cert_tree certificate.now) defines.now known guarded.now.body q.now))) }
+        ensures { ChecksGuarded part.now defines.now guarded.now q.now self.old self.new result }
     {
         match self.push(&guarded.condition, false) {
-            Ok(mark) => self.check_until(mark, defines, 0, certificate, &guarded.body, q),
+            Ok(mark) => self.check_until(mark, defines, 0, part, &guarded.body, q),
             Err(stop) => Err(failure(Rule::Assume, stop)),
         }
     }
@@ -262,13 +259,13 @@ impl Walk {
     fn check_contradiction(
         &mut self,
         defines: &[Define],
-        certificate: &Certificate,
+        part: &Certificate,
         q: &AssertionView<'_>,
     ) -> Result<(), Failed>
-        ensures { Says (place self.old) (place self.new) result (node Rule.DropGuard (guarded_of q.now) (λ g. node Rule.DropGuard (push (not g.condition) (known_view self.old.known)) (λ known. part 0 (fault (cert_tree certificate.now) defines.now known (natural 0) infinity)))) }
+        ensures { ChecksGuard part.now defines.now q.now self.old self.new result }
     {
         match guarded_of(q) {
-            Some(guarded) => self.check_unguarded(defines, certificate, &guarded.condition),
+            Some(guarded) => self.check_unguarded(defines, part, &guarded.condition),
             None => Err(Failed::Step(Rule::DropGuard)),
         }
     }
@@ -277,26 +274,17 @@ impl Walk {
     fn check_unguarded(
         &mut self,
         defines: &[Define],
-        certificate: &Certificate,
+        part: &Certificate,
         condition: &CondView<'_>,
     ) -> Result<(), Failed>
-        ensures { Says (place self.old) (place self.new) result (node Rule.DropGuard (push (not condition.now) (known_view self.old.known)) (λ known. part 0 (fault (cert_tree certificate.now) defines.now known (natural 0) infinity))) }
+        ensures { ChecksRefuted condition.now part.now defines.now self.old self.new result }
     {
         let (zero, infinity) = match ends(self.alloc) {
             Ok(pair) => pair,
             Err(NoMemory) => return Err(Failed::NoMemory),
         };
         match self.push(condition, true) {
-            Ok(mark) => {
-                self.check_until(
-                    mark,
-                    defines,
-                    0,
-                    certificate,
-                    &zero.view(),
-                    &infinity.view(),
-                )
-            }
+            Ok(mark) => { self.check_until(mark, defines, 0, part, &zero.view(), &infinity.view()) }
             Err(stop) => Err(failure(Rule::DropGuard, stop)),
         }
     }
@@ -306,14 +294,14 @@ impl Walk {
     fn check_body(
         &mut self,
         defines: &[Define],
-        certificate: &Certificate,
+        part: &Certificate,
         p: &AssertionView<'_>,
         q: &AssertionView<'_>,
     ) -> Result<(), Failed>
-        ensures { Says (place self.old) (place self.new) result (node Rule.DropGuard (guarded_of q.now) (λ g. part 1 (fault (cert_tree certificate.now) defines.now (known_view self.old.known) p.now g.body))) }
+        ensures { ChecksBody part.now defines.now p.now q.now self.old self.new result }
     {
         match guarded_of(q) {
-            Some(guarded) => self.check_part(defines, 1, certificate, p, &guarded.body),
+            Some(guarded) => self.check_part(defines, 1, part, p, &guarded.body),
             None => Err(Failed::Step(Rule::DropGuard)),
         }
     }
@@ -323,15 +311,15 @@ impl Walk {
     fn check_first(
         &mut self,
         defines: &[Define],
-        condition: &CondView<'_>,
-        certificate: &Certificate,
+        b: &CondView<'_>,
+        part: &Certificate,
         p: &AssertionView<'_>,
         q: &AssertionView<'_>,
     ) -> Result<(), Failed>
-        ensures { Says (place self.old) (place self.new) result (node Rule.Split (push condition.now (known_view self.old.known)) (λ known. node Rule.Split (push (not condition.now) (known_view self.old.known)) (λ _. part 0 (fault (cert_tree certificate.now) defines.now known (branch condition.now true p.now) (branch condition.now true q.now))))) }
+        ensures { ChecksFirst b.now part.now defines.now p.now q.now self.old self.new result }
     {
-        match self.tries_both(condition) {
-            Ok(()) => self.check_branch(defines, condition, true, certificate, p, q),
+        match self.tries_both(b) {
+            Ok(()) => self.check_branch(defines, b, true, part, p, q),
             Err(stop) => Err(failure(Rule::Split, stop)),
         }
     }
@@ -341,14 +329,14 @@ impl Walk {
     fn check_second(
         &mut self,
         defines: &[Define],
-        condition: &CondView<'_>,
-        certificate: &Certificate,
+        b: &CondView<'_>,
+        part: &Certificate,
         p: &AssertionView<'_>,
         q: &AssertionView<'_>,
     ) -> Result<(), Failed>
-        ensures { Says (place self.old) (place self.new) result (node Rule.Split (push (not condition.now) (known_view self.old.known)) (λ known. part 1 (fault (cert_tree certificate.now) defines.now known (branch condition.now false p.now) (branch condition.now false q.now)))) }
+        ensures { ChecksSecond b.now part.now defines.now p.now q.now self.old self.new result }
     {
-        self.check_branch(defines, condition, false, certificate, p, q)
+        self.check_branch(defines, b, false, part, p, q)
     }
 
     /// Checks the part of the first branches or of the second, with the condition or its negation.
@@ -356,29 +344,29 @@ impl Walk {
     fn check_branch(
         &mut self,
         defines: &[Define],
-        condition: &CondView<'_>,
+        b: &CondView<'_>,
         first: bool,
-        certificate: &Certificate,
+        part: &Certificate,
         p: &AssertionView<'_>,
         q: &AssertionView<'_>,
     ) -> Result<(), Failed>
-        ensures { Says (place self.old) (place self.new) result (node Rule.Split (pushed (not_of first) condition.now (known_view self.old.known)) (λ known. part (branch_number first) (fault (cert_tree certificate.now) defines.now known (branch condition.now first p.now) (branch condition.now first q.now)))) }
+        ensures { ChecksSide b.now first part.now defines.now p.now q.now self.old self.new result }
     {
-        let left = match branch(self.alloc, condition, first, p) {
+        let left = match branch(self.alloc, b, first, p) {
             Ok(left) => left,
             Err(NoMemory) => return Err(Failed::NoMemory),
         };
-        let right = match branch(self.alloc, condition, first, q) {
+        let right = match branch(self.alloc, b, first, q) {
             Ok(right) => right,
             Err(NoMemory) => return Err(Failed::NoMemory),
         };
-        match self.push(condition, !first) {
+        match self.push(b, !first) {
             Ok(mark) => {
                 self.check_until(
                     mark,
                     defines,
                     part_number(first),
-                    certificate,
+                    part,
                     &left.view(),
                     &right.view(),
                 )
@@ -392,22 +380,14 @@ impl Walk {
         &mut self,
         defines: &[Define],
         name: &Name,
-        certificate: &Certificate,
+        part: &Certificate,
         p: &AssertionView<'_>,
         q: &AssertionView<'_>,
     ) -> Result<(), Failed>
-        ensures { Says (place self.old) (place self.new) result (rest (by_definition name.now (cert_tree certificate.now)) defines.now (known_view self.old.known) p.now q.now) }
+        ensures { ChecksBy name.now part.now defines.now p.now q.now self.old self.new result }
     {
         match both_unfolded(self.alloc, defines, name, p, q) {
-            Ok(both) => {
-                self.check_part(
-                    defines,
-                    0,
-                    certificate,
-                    &both.left.view(),
-                    &both.right.view(),
-                )
-            }
+            Ok(both) => { self.check_part(defines, 0, part, &both.left.view(), &both.right.view()) }
             Err(stop) => Err(failure(Rule::ByDefinition, stop)),
         }
     }
@@ -417,14 +397,14 @@ impl Walk {
         &mut self,
         defines: &[Define],
         fact: &Fact,
-        certificate: &Certificate,
+        part: &Certificate,
         p: &AssertionView<'_>,
         q: &AssertionView<'_>,
     ) -> Result<(), Failed>
-        ensures { Says (place self.old) (place self.new) result (rest (cert.fact (fact_tree fact.now) (cert_tree certificate.now)) defines.now (known_view self.old.known) p.now q.now) }
+        ensures { ChecksFact fact.now part.now defines.now p.now q.now self.old self.new result }
     {
         match self.add(fact) {
-            Ok(mark) => self.check_until(mark, defines, 0, certificate, p, q),
+            Ok(mark) => self.check_until(mark, defines, 0, part, p, q),
             Err(stop) => Err(failure(Rule::Fact, stop)),
         }
     }

@@ -1,8 +1,8 @@
 // The conditions and the count of polynomials that hypotheses push.
-ghost use Rattle.std.specs.Prelude.{◌≡◌, ◌≤◌, ◌<◌, ◌*◌, ◌^◌, ◌++◌, [], length, IfOk};
+ghost use Rattle.std.specs.Prelude.{◌≡◌, ◌≤◌, ◌<◌, ◌*◌, ◌^◌, ◌++◌, length, IfOk};
 ghost use Rattle.qs_entail.specs.Flattening.{flat_list, polynomial_counts};
 ghost use Rattle.qs_entail.specs.Parts.{outline_view};
-ghost use Rattle.qs_entail.specs.Verdicts.{outline_list};
+ghost use Rattle.qs_entail.specs.Verdicts.{outline_list, outlined_first};
 
 use crate::flattening::{polynomial_count, put_flat};
 use qs_assert::Cond;
@@ -41,7 +41,7 @@ fn count_polynomials(conditions: &[Cond]) -> usize
 
 /// The conditions and the count of polynomials that the hypotheses push.
 pub fn outlined(alloc: Global, hypotheses: &[Cond]) -> Result<Outline, NoMemory>
-    ensures { IfOk result (λ o. outline_view o ≡ outline_list hypotheses.now (record { conditions = []; count = 1 })) }
+    ensures { IfOk result (λ o. outline_view o ≡ outline_list hypotheses.now outlined_first) }
 {
     let mut conditions = Vec::new(alloc);
     put_flat_list(alloc, hypotheses, &mut conditions)?;

@@ -1,12 +1,11 @@
 // The parts of assertions and conditions.
-ghost use Rattle.std.specs.Prelude.{◌≡◌, ◌++◌, IfOk, Ok, pos};
-ghost use Rattle.qs_base.specs.Results.{bind};
+ghost use Rattle.std.specs.Prelude.{◌≡◌, ◌++◌, IfOk, pos};
 ghost use Rattle.qs_assert.specs.Trees.{TermTree, assertions_of};
 ghost use Rattle.qs_assert.specs.Listing.{inner_term};
 ghost use Rattle.qs_entail.specs.Answers.{FindsAs, Finds, FollowsAs};
 ghost use Rattle.qs_entail.specs.Facts as facts;
 ghost use Rattle.qs_entail.specs.Faults as faults;
-ghost use Rattle.qs_entail.specs.Parts.{guarded_view, sides_view};
+ghost use Rattle.qs_entail.specs.Parts.{guarded_view, sides_view, HaveNodes};
 ghost use Rattle.qs_entail.specs.Fronts as fronts;
 ghost use Rattle.qs_entail.specs.Standing.{counted};
 ghost use Rattle.qs_entail.specs.Verdicts.{is_given};
@@ -76,7 +75,7 @@ fn total_count(nodes: &[Node]) -> Option<usize>
 /// How many members an assertion has, if it is the greatest of some.
 #[tactic(auto, using(crate::proofs::Counted::members_are))]
 pub fn member_count(a: &AssertionView<'_>) -> Option<usize>
-    ensures { bind (faults.members_of a.now) (λ members. Ok (faults.count members)) ≡ counted result }
+    ensures { faults.member_count a.now ≡ counted result }
 {
     greatest_count(a.nodes())
 }
@@ -84,7 +83,7 @@ pub fn member_count(a: &AssertionView<'_>) -> Option<usize>
 /// How many summands an assertion has, if it is a sum.
 #[tactic(auto, using(crate::proofs::Counted::summands_are))]
 pub fn summand_count(a: &AssertionView<'_>) -> Option<usize>
-    ensures { bind (faults.summands_of a.now) (λ summands. Ok (faults.count summands)) ≡ counted result }
+    ensures { faults.summand_count a.now ≡ counted result }
 {
     total_count(a.nodes())
 }
@@ -158,7 +157,7 @@ fn member_at<'a>(members: AssertionViews<'a>, number: i64) -> Option<AssertionVi
 /// A member of a greatest by its number, from 0, if there is one.
 #[tactic(auto, using(crate::proofs::Numbered::among, crate::proofs::Numbered::nowhere))]
 pub fn picked<'a>(p: &AssertionView<'a>, number: i64) -> Option<AssertionView<'a>>
-    ensures { Finds result (bind (faults.members_of p.now) (λ members. faults.member_at members number)) }
+    ensures { Finds result (faults.member_of p.now number) }
 {
     match members(p) {
         Some(members) => member_at(members, number),
@@ -183,7 +182,7 @@ pub fn guarded_of<'a>(a: &AssertionView<'a>) -> Option<Guarded<'a>>
 /// The two terms that have these nodes.
 pub fn both_sides(alloc: Global, nodes: &[Node]) -> Result<Sides, NoMemory>
     requires { (t : TermTree) × ((u : TermTree) × (nodes.now ≡ inner_term t ++ inner_term u)) }
-    ensures { IfOk result (λ sides. (t u : TermTree) → nodes.now ≡ inner_term t ++ inner_term u → (sides.left ≡ t) × (sides.right ≡ u)) }
+    ensures { IfOk result (λ sides. HaveNodes sides nodes.now) }
 {
     let (first, others) = split_tree(nodes);
     let left = Term::from_inner(alloc, first)?;

@@ -1,11 +1,12 @@
 // What conditions add to what is known.
 ghost use Rattle.qs_assert.specs.Trees as trees;
 ghost use Rattle.qs_poly.specs.Operations.{lessened};
-ghost use Rattle.qs_entail.specs.Answers.{Follows, FollowsAs};
+ghost use Rattle.qs_entail.specs.Answers.{Follows, FollowsAs, ListFollows};
 ghost use Rattle.qs_entail.specs.Building.{limited};
-ghost use Rattle.qs_entail.specs.Extending.{Extends, pushed};
+ghost use Rattle.qs_entail.specs.Extending.{Extends};
 ghost use Rattle.qs_entail.specs.Flattening as flattening;
-ghost use Rattle.qs_entail.specs.Flattening.{polynomials_of};
+ghost use Rattle.qs_entail.specs.Flattening.{both_polynomials, polynomials_of};
+ghost use Rattle.qs_entail.specs.Learning.{Learns, Pushes};
 ghost use Rattle.qs_entail.specs.Parts.{pair_view};
 ghost use Rattle.qs_entail.specs.Pushing as pushing;
 ghost use Rattle.qs_entail.specs.View.{known_view};
@@ -27,7 +28,7 @@ struct Pair {
 }
 
 fn both_polynomials(alloc: Global, sides: &Sides) -> Result<Pair, Stop>
-    ensures { FollowsAs pair_view result (flattening.both_polynomials sides.now.left sides.now.right) }
+    ensures { FollowsAs pair_view result (both_polynomials sides.now.left sides.now.right) }
 {
     let left = term_polynomial(alloc, &sides.left)?;
     let right = term_polynomial(alloc, &sides.right)?;
@@ -43,7 +44,7 @@ fn room(alloc: Global, pair: &Pair) -> Result<Poly, Stop>
 }
 
 fn at_most(alloc: Global, sides: &Sides) -> Result<Vec<Poly>, Stop>
-    ensures { FollowsAs (λ list. list.items) result (polynomials_of (trees.le sides.now.left sides.now.right)) }
+    ensures { ListFollows result (polynomials_of (trees.le sides.now.left sides.now.right)) }
 {
     let pair = both_polynomials(alloc, sides)?;
     let more = difference(alloc, &pair.right, &pair.left)?;
@@ -53,7 +54,7 @@ fn at_most(alloc: Global, sides: &Sides) -> Result<Vec<Poly>, Stop>
 }
 
 fn less(alloc: Global, sides: &Sides) -> Result<Vec<Poly>, Stop>
-    ensures { FollowsAs (λ list. list.items) result (polynomials_of (trees.lt sides.now.left sides.now.right)) }
+    ensures { ListFollows result (polynomials_of (trees.lt sides.now.left sides.now.right)) }
 {
     let pair = both_polynomials(alloc, sides)?;
     let more = room(alloc, &pair)?;
@@ -63,7 +64,7 @@ fn less(alloc: Global, sides: &Sides) -> Result<Vec<Poly>, Stop>
 }
 
 fn equal(alloc: Global, sides: &Sides) -> Result<Vec<Poly>, Stop>
-    ensures { FollowsAs (λ list. list.items) result (polynomials_of (trees.eq sides.now.left sides.now.right)) }
+    ensures { ListFollows result (polynomials_of (trees.eq sides.now.left sides.now.right)) }
 {
     let pair = both_polynomials(alloc, sides)?;
     let more = difference(alloc, &pair.right, &pair.left)?;
@@ -76,7 +77,7 @@ fn equal(alloc: Global, sides: &Sides) -> Result<Vec<Poly>, Stop>
 
 /// The polynomials that are pushed for a condition that is pushed whole.
 fn polynomials(alloc: Global, c: &Cond) -> Result<Vec<Poly>, Stop>
-    ensures { FollowsAs (λ list. list.items) result (polynomials_of c.now) }
+    ensures { ListFollows result (polynomials_of c.now) }
 {
     let nodes = c.nodes();
     if begins(nodes, &Node::Condition(CondNode::Le)) {
@@ -96,7 +97,7 @@ fn polynomials(alloc: Global, c: &Cond) -> Result<Vec<Poly>, Stop>
 
 /// Pushes a condition whole.
 fn push_whole(alloc: Global, c: &Cond, known: &mut Known) -> Result<(), Stop>
-    ensures step { FollowsAs (λ _. known_view known.new) result (flattening.push_whole c.now (known_view known.old)) }
+    ensures step { Learns (flattening.push_whole c.now) known.old known.new result }
     ensures front { Extends (known_view known.old) (known_view known.new) }
 {
     let mut list = polynomials(alloc, c)?;
@@ -108,7 +109,7 @@ fn push_whole(alloc: Global, c: &Cond, known: &mut Known) -> Result<(), Stop>
 
 /// Pushes conditions whole.
 fn push_wholes(alloc: Global, list: &[Cond], known: &mut Known) -> Result<(), Stop>
-    ensures step { FollowsAs (λ _. known_view known.new) result (flattening.push_wholes list.now (known_view known.old)) }
+    ensures step { Learns (flattening.push_wholes list.now) known.old known.new result }
     ensures front { Extends (known_view known.old) (known_view known.new) }
 {
     for c in list {
@@ -119,7 +120,7 @@ fn push_wholes(alloc: Global, list: &[Cond], known: &mut Known) -> Result<(), St
 
 /// Pushes a condition or its negation. What was known stays in front, also where this fails.
 pub fn push(alloc: Global, c: &CondView<'_>, negated: bool, known: &mut Known) -> Result<(), Stop>
-    ensures step { FollowsAs (λ _. known_view known.new) result (pushed negated c.now (known_view known.old)) }
+    ensures step { Pushes negated c.now known.old known.new result }
     ensures front { Extends (known_view known.old) (known_view known.new) }
 {
     let mut list = Vec::new(alloc);
@@ -129,7 +130,7 @@ pub fn push(alloc: Global, c: &CondView<'_>, negated: bool, known: &mut Known) -
 
 /// Pushes conditions one after the other. What was known stays in front, also where this fails.
 pub fn push_list(alloc: Global, list: &[Cond], known: &mut Known) -> Result<(), Stop>
-    ensures step { FollowsAs (λ _. known_view known.new) result (pushing.push_list list.now (known_view known.old)) }
+    ensures step { Learns (pushing.push_list list.now) known.old known.new result }
     ensures front { Extends (known_view known.old) (known_view known.new) }
 {
     for c in list {

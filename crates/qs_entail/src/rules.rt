@@ -1,10 +1,10 @@
 // The side conditions of rules.
-ghost use Rattle.std.specs.Prelude.{◌≡◌, IfOk, Ok};
+ghost use Rattle.std.specs.Prelude.{◌≡◌, IfOk};
 ghost use Rattle.qs_assert.specs.Trees.{natural, infinity};
 ghost use Rattle.qs_entail.specs.Answers.{Follows, FollowsAs};
-ghost use Rattle.qs_base.specs.Results.{bind};
-ghost use Rattle.qs_entail.specs.Faults.{definition, contradiction, arithmetic_holds};
-ghost use Rattle.qs_entail.specs.Walking.{both_view, unfolded_both, branch_number};
+ghost use Rattle.qs_entail.specs.Faults.{contradiction};
+ghost use Rattle.qs_entail.specs.Learning.{ShowsDifference};
+ghost use Rattle.qs_entail.specs.Walking.{both_view, both_unfolded, branch_number};
 ghost use Rattle.qs_entail.specs.View.{items_view, known_view};
 
 use crate::Item;
@@ -33,7 +33,7 @@ pub fn both_unfolded(
     p: &AssertionView<'_>,
     q: &AssertionView<'_>,
 ) -> Result<Both, Stop>
-    ensures { FollowsAs both_view result (bind (definition defines.now name.now) (λ body. Ok (unfolded_both name.now body p.now q.now))) }
+    ensures { FollowsAs both_view result (both_unfolded defines.now name.now p.now q.now) }
 {
     let body = definition(defines, name)?;
     let left = unfolded(alloc, name, body, p)?;
@@ -80,7 +80,7 @@ pub fn arithmetic_holds(
     p: &AssertionView<'_>,
     q: &AssertionView<'_>,
 ) -> Result<(), Stop>
-    ensures { Follows result (arithmetic_holds (items_view items.now) (known_view known.now) p.now q.now) }
+    ensures { ShowsDifference items.now known.now p.now q.now result }
 {
     let left = assertion_polynomial(alloc, p)?;
     let right = assertion_polynomial(alloc, q)?;

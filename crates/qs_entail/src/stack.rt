@@ -1,13 +1,10 @@
 // The polynomials of parts, on stacks.
-ghost use Rattle.std.specs.Prelude.{◌≡◌, IfOk, OnOk, Result, drop};
+ghost use Rattle.std.specs.Prelude.{◌≡◌, OnOk, drop};
 ghost use Rattle.qs_assert.specs.Reading.{others};
-ghost use Rattle.qs_poly.specs.Polynomials.{Polynomial};
 ghost use Rattle.qs_poly.specs.Atoms.{tree_of};
-ghost use Rattle.qs_poly.specs.Operations as operations;
 ghost use Rattle.qs_entail.specs.Answers.{Follows};
-ghost use Rattle.qs_entail.specs.Building as building;
-ghost use Rattle.qs_entail.specs.Building.{Failure};
-ghost use Rattle.qs_entail.specs.Stacks.{attempt_of, seen, atom_on, first, on_one, on_both, joined};
+ghost use Rattle.qs_entail.specs.Stacks.{attempt_of, seen, atom_on, first, on_one, on_both};
+ghost use Rattle.qs_entail.specs.Stacks.{joined_from, Builds, KeepsGiven};
 
 use crate::operation::{Operation, limited, operate};
 use crate::stop::{Limit, Stop};
@@ -36,7 +33,7 @@ pub enum Head {
 
 /// Keeps what a step answers, want of memory aside.
 pub fn kept(given: Result<Poly, Stop>) -> Result<Built, NoMemory>
-    ensures { (attempt : Result Polynomial Failure) → Follows given attempt → IfOk result (λ built. attempt_of built ≡ attempt) }
+    ensures { KeepsGiven given result }
 {
     match given {
         Ok(poly) => Ok(Built::Made(poly)),
@@ -68,7 +65,7 @@ pub fn taken(stack: &mut Vec<Built>) -> Built
 
 /// The operation on two, or why the first or the second isn't there.
 pub fn on_both(alloc: Global, operation: Operation, a: &Built, b: &Built) -> Result<Built, NoMemory>
-    ensures { IfOk result (λ built. attempt_of built ≡ on_both operation (attempt_of a.now) (attempt_of b.now)) }
+    ensures { Builds (on_both operation (attempt_of a.now) (attempt_of b.now)) result }
 {
     match a {
         Built::Made(p) => match b {
@@ -95,7 +92,7 @@ fn atom_on(head: Head, p: Poly) -> Atom
 
 /// The atom, or why its part isn't there.
 pub fn on_one(alloc: Global, head: Head, a: Built) -> Result<Built, NoMemory>
-    ensures { IfOk result (λ built. attempt_of built ≡ on_one head (attempt_of a)) }
+    ensures { Builds (on_one head (attempt_of a)) result }
 {
     match a {
         Built::Made(p) => {
@@ -115,7 +112,7 @@ pub fn joined(
     count: usize,
     stack: &mut Vec<Built>,
 ) -> Result<Built, NoMemory>
-    ensures value { IfOk result (λ built. attempt_of built ≡ joined operation count (seen stack.old.items) (building.limited (operations.number start))) }
+    ensures value { Builds (joined_from start operation count (seen stack.old.items)) result }
     ensures left { OnOk result (seen stack.new.items ≡ drop count (seen stack.old.items)) }
 {
     let mut so_far = kept(limited(Poly::number(alloc, start)))?;

@@ -1,11 +1,11 @@
 // The conditions without polynomials of a node, under what is known.
-ghost use Rattle.std.specs.Prelude.{◌≡◌, ◌==◌, nat_le, Ok};
+ghost use Rattle.std.specs.Prelude.{◌≡◌, ◌==◌, nat_le};
 ghost use Rattle.qs_base.specs.Results.{bind};
 ghost use Rattle.qs_entail.specs.Faults as faults;
-ghost use Rattle.qs_entail.specs.Faults.{definition, count, count_certs};
+ghost use Rattle.qs_entail.specs.Faults.{definition, count_certs};
 ghost use Rattle.qs_entail.specs.Facts as facts;
-ghost use Rattle.qs_entail.specs.Standing.{counted};
-ghost use Rattle.qs_entail.specs.Verdicts.{is_given, has_count, fact_stands, stands, rule_of};
+ghost use Rattle.qs_entail.specs.Standing.{counted, outline_of, stands_under};
+ghost use Rattle.qs_entail.specs.Verdicts.{is_given, has_count, fact_stands, rule_of};
 ghost use Rattle.qs_entail.specs.View.{cert_tree, certs_tree, fact_tree};
 
 use crate::Item;
@@ -21,7 +21,7 @@ use qs_base::Name;
 
 #[tactic(auto, using(crate::proofs::Counted::numbered, crate::proofs::Counted::none_numbered))]
 fn has_member(p: &AssertionView<'_>, i: i64) -> bool
-    ensures { result ≡ is_given (bind (faults.members_of p.now) (λ members. faults.member_at members i)) }
+    ensures { result ≡ is_given (faults.member_of p.now i) }
 {
     match member_count(p) {
         Some(count) => is_counted(i, count),
@@ -40,14 +40,14 @@ fn is_so_many(wanted: usize, count: Option<usize>) -> bool
 
 #[tactic(auto, using(crate::proofs::Stands::has_so_many))]
 fn has_members(wanted: usize, q: &AssertionView<'_>) -> bool
-    ensures { result ≡ has_count wanted (bind (faults.members_of q.now) (λ members. Ok (count members))) }
+    ensures { result ≡ has_count wanted (faults.member_count q.now) }
 {
     is_so_many(wanted, member_count(q))
 }
 
 #[tactic(auto, using(crate::proofs::Stands::has_so_many))]
 fn has_summands(wanted: usize, q: &AssertionView<'_>) -> bool
-    ensures { result ≡ has_count wanted (bind (faults.summands_of q.now) (λ summands. Ok (count summands))) }
+    ensures { result ≡ has_count wanted (faults.summand_count q.now) }
 {
     is_so_many(wanted, summand_count(q))
 }
@@ -80,7 +80,7 @@ fn is_divisor(n: u64) -> bool
 }
 
 fn fact_stands(fact: &Fact, conditions: &[Cond], count: usize) -> bool
-    ensures { result ≡ fact_stands (fact_tree fact.now) (record { conditions = conditions.now; count = count }) }
+    ensures { result ≡ fact_stands (fact_tree fact.now) (outline_of conditions.now count) }
 {
     match fact {
         Fact::Range(_) => true,
@@ -139,7 +139,7 @@ pub fn stands(
     p: &AssertionView<'_>,
     q: &AssertionView<'_>,
 ) -> bool
-    ensures { result ≡ stands (cert_tree certificate.now) defines.now (record { conditions = conditions.now; count = count }) p.now q.now }
+    ensures { result ≡ stands_under conditions.now count certificate.now defines.now p.now q.now }
 {
     match certificate {
         Certificate::Same => p.same(q),

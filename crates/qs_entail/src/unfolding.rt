@@ -1,5 +1,5 @@
 // A name stands for the body of its definition.
-ghost use Rattle.std.specs.Prelude.{◌≡◌, ◌++◌, IfOk};
+ghost use Rattle.std.specs.Prelude.{◌≡◌, ◌++◌, IfOk, OnOk};
 ghost use Rattle.qs_entail.specs.Answers.{FindsAs, FollowsAs};
 ghost use Rattle.qs_entail.specs.Faults as faults;
 ghost use Rattle.qs_entail.specs.Placing.{placed};
@@ -39,7 +39,7 @@ fn put_placed(
     name: &Name,
     body: &Assertion,
 ) -> Result<(), NoMemory>
-    ensures { IfOk result (λ _. list.new.items ≡ list.old.items ++ placed name.now body.now node.now) }
+    ensures { OnOk result (list.new.items ≡ list.old.items ++ placed name.now body.now node.now) }
 {
     match node {
         Node::Assertion(AssertionNode::Named(m)) if *name == *m => {

@@ -1,15 +1,9 @@
 // The check of a certificate under hypotheses.
 ghost use Rattle.std.specs.Prelude.{◌≡◌, [], IfOk, OnOk};
-ghost use Rattle.qs_entail.specs.Faults.{node};
-ghost use Rattle.qs_assert.specs.Order.{IsInOrder};
-ghost use Rattle.qs_entail.specs.Meaning.{Above};
-ghost use Rattle.qs_entail.specs.Pushing as pushing;
+ghost use Rattle.qs_entail.specs.Checking.{RootStands, TellsRest, TellsUnder, TellsVerdict};
+ghost use Rattle.qs_entail.specs.Meaning.{AboveInOrder};
 ghost use Rattle.qs_entail.specs.Pushing.{at_first};
-ghost use Rattle.qs_entail.specs.Said.{Tells};
 ghost use Rattle.qs_entail.specs.Standing.{told};
-ghost use Rattle.qs_entail.specs.Verdicts as verdicts;
-ghost use Rattle.qs_entail.specs.Verdicts.{stands, outline_list, outlined_first, rest, verdict};
-ghost use Rattle.qs_entail.specs.View.{cert_tree, known_view};
 ghost use Rattle.qs_entail.specs.Walking.{place};
 
 use crate::certificate::Certificate;
@@ -62,7 +56,7 @@ fn root_stands(
     q: &AssertionView<'_>,
     certificate: &Certificate,
 ) -> Result<bool, NoMemory>
-    ensures { IfOk result (λ b. b ≡ stands (cert_tree certificate.now) defines.now (outline_list hypotheses.now outlined_first) p.now q.now) }
+    ensures { RootStands hypotheses.now defines.now p.now q.now certificate.now result }
 {
     let outline = outlined(alloc, hypotheses)?;
     let Outline { conditions, count } = outline;
@@ -79,7 +73,7 @@ fn walked(
     certificate: &Certificate,
 ) -> Result<(), CertFault>
     requires { walk.path.items ≡ [] }
-    ensures { Tells result (rest (cert_tree certificate.now) defines.now (known_view walk.known) p.now q.now) }
+    ensures { TellsRest certificate.now defines.now walk.known p.now q.now result }
 {
     match walk.check_rest(defines, certificate, p, q) {
         Ok(()) => Ok(()),
@@ -97,7 +91,7 @@ fn walked_under(
     q: &AssertionView<'_>,
     certificate: &Certificate,
 ) -> Result<(), CertFault>
-    ensures { Tells result (node (verdicts.rule_of (cert_tree certificate.now)) (pushing.push_list hypotheses.now at_first) (λ known. rest (cert_tree certificate.now) defines.now known p.now q.now)) }
+    ensures { TellsUnder hypotheses.now defines.now p.now q.now certificate.now result }
 {
     let mut walk = match at_root(alloc) {
         Ok(walk) => walk,
@@ -118,7 +112,7 @@ fn checked(
     q: &AssertionView<'_>,
     certificate: &Certificate,
 ) -> Result<(), CertFault>
-    ensures { Tells result (verdict hypotheses.now defines.now p.now q.now (cert_tree certificate.now)) }
+    ensures { TellsVerdict hypotheses.now defines.now p.now q.now certificate.now result }
 {
     let stands = match root_stands(alloc, hypotheses, defines, p, q, certificate) {
         Ok(stands) => stands,
@@ -133,9 +127,10 @@ fn checked(
 
 /// Checks that a certificate shows under the hypotheses that P is at least Q.
 ///
-/// `Step` is the first node whose side condition fails, `Limit` the first at which a polynomial passes a
-/// limit, a node being before its parts. Where the definitions are in order, each mentioning only earlier
-/// ones, an `Ok` implies that P is at least Q for all costs, in each state in which the hypotheses hold.
+/// `Step` is the first node whose side condition fails, `Limit` the first at which a polynomial
+/// passes a limit, a node being before its parts. Where the definitions are in order, each
+/// mentioning only earlier ones, an `Ok` implies that P is at least Q for all costs, in each state
+/// in which the hypotheses hold.
 pub fn check(
     alloc: Global,
     hypotheses: &[Cond],
@@ -144,8 +139,8 @@ pub fn check(
     q: &Assertion,
     certificate: &Certificate,
 ) -> Result<(), CertFault>
-    ensures exact { Tells result (verdict hypotheses.now defines.now p.now q.now (cert_tree certificate.now)) }
-    ensures sound { OnOk result (IsInOrder defines.now → Above hypotheses.now defines.now p.now q.now) }
+    ensures exact { TellsVerdict hypotheses.now defines.now p.now q.now certificate.now result }
+    ensures sound { OnOk result (AboveInOrder hypotheses.now defines.now p.now q.now) }
 {
     let left = p.view();
     let right = q.view();

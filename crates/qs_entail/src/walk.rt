@@ -1,15 +1,12 @@
 // Where the walk over a certificate is.
-ghost use Rattle.std.specs.Prelude.{◌≡◌, ◌++◌, ◌∷◌, [], MatchResult, IfOk, OnOk, length, List, ℕ, Ok, None};
-ghost use Rattle.qs_assert.specs.Trees.{not};
-ghost use Rattle.qs_entail.specs.Answers.{Follows, FollowsAs};
-ghost use Rattle.qs_base.specs.Results.{bind};
-ghost use Rattle.qs_entail.specs.Verdicts.{outlined, stands};
-ghost use Rattle.qs_entail.specs.Facts.{added};
-ghost use Rattle.qs_entail.specs.Faults.{done, node, contradiction, arithmetic_holds};
-ghost use Rattle.qs_entail.specs.Pushing.{push, with_polynomials};
-ghost use Rattle.qs_entail.specs.Extending.{pushed};
-ghost use Rattle.qs_entail.specs.View.{cert_tree, fact_tree, items_view, known_view};
-ghost use Rattle.qs_entail.specs.Walking.{place, cut, Says};
+ghost use Rattle.std.specs.Prelude.{◌≡◌, IfOk, OnOk};
+ghost use Rattle.qs_entail.specs.Answers.{Follows};
+ghost use Rattle.qs_entail.specs.Checking.{Contradicts, AreDifference};
+ghost use Rattle.qs_entail.specs.Extending.{trial, both_trials};
+ghost use Rattle.qs_entail.specs.Learning.{Pushes, LearnsFact};
+ghost use Rattle.qs_entail.specs.Standing.{stands_here};
+ghost use Rattle.qs_entail.specs.View.{known_view};
+ghost use Rattle.qs_entail.specs.Walking.{place, cut, mark_of, EntersPart, LeavesPart};
 
 use crate::Item;
 use crate::certificate::{Certificate, Fact};
@@ -42,7 +39,7 @@ pub struct Walk {
 impl Walk {
     /// Goes into part i of a node.
     pub fn enter(&mut self, i: usize) -> Result<(), Failed>
-        ensures path { MatchResult result (λ _. self.new.path.items ≡ self.old.path.items ++ i ∷ []) (λ e. e ≡ Failed.NoMemory) }
+        ensures path { EntersPart i self.old.path.items self.new.path.items result }
         ensures known { known_view self.new.known ≡ known_view self.old.known }
     {
         match self.path.push(i) {
@@ -53,14 +50,14 @@ impl Walk {
 
     /// And out of it.
     pub fn leave(&mut self)
-        ensures path { (old : List ℕ) (i : ℕ) → self.old.path.items ≡ old ++ i ∷ [] → self.new.path.items ≡ old }
+        ensures path { LeavesPart self.old.path.items self.new.path.items }
         ensures known { known_view self.new.known ≡ known_view self.old.known }
     {
         self.path.pop();
     }
 
     fn mark(&self) -> Mark
-        ensures { result ≡ record { conditions = length self.now.known.conditions.items; polynomials = length self.now.known.polynomials.items } }
+        ensures { result ≡ mark_of (known_view self.now.known) }
     {
         Mark {
             conditions: self.known.conditions.len(),
@@ -77,7 +74,7 @@ impl Walk {
 
     /// Pushes a condition, or its negation.
     pub fn push(&mut self, condition: &CondView<'_>, negated: bool) -> Result<Mark, Stop>
-        ensures step { FollowsAs (λ _. known_view self.new.known) result (pushed negated condition.now (known_view self.old.known)) }
+        ensures step { Pushes negated condition.now self.old.known self.new.known result }
         ensures back { IfOk result (λ mark. cut mark (place self.new) ≡ place self.old) }
         ensures path { self.new.path.items ≡ self.old.path.items }
     {
@@ -88,7 +85,7 @@ impl Walk {
 
     /// Whether a condition, or its negation, can be pushed.
     fn tries(&mut self, condition: &CondView<'_>, negated: bool) -> Result<(), Stop>
-        ensures step { Follows result (bind (pushed negated condition.now (known_view self.old.known)) (λ _. done)) }
+        ensures step { Follows result (trial negated condition.now (known_view self.old.known)) }
         ensures back { OnOk result (place self.new ≡ place self.old) }
         ensures path { self.new.path.items ≡ self.old.path.items }
     {
@@ -99,7 +96,7 @@ impl Walk {
 
     /// Whether a condition can be pushed, and its negation.
     pub fn tries_both(&mut self, condition: &CondView<'_>) -> Result<(), Stop>
-        ensures step { Follows result (bind (push condition.now (known_view self.old.known)) (λ _. bind (push (not condition.now) (known_view self.old.known)) (λ _. done))) }
+        ensures step { Follows result (both_trials condition.now (known_view self.old.known)) }
         ensures back { OnOk result (place self.new ≡ place self.old) }
         ensures path { self.new.path.items ≡ self.old.path.items }
     {
@@ -109,7 +106,7 @@ impl Walk {
 
     /// Adds the polynomials of a fact.
     pub fn add(&mut self, fact: &Fact) -> Result<Mark, Stop>
-        ensures step { FollowsAs (λ _. known_view self.new.known) result (bind (added (fact_tree fact.now) (known_view self.old.known)) (λ ps. Ok (with_polynomials ps (known_view self.old.known)))) }
+        ensures step { LearnsFact fact.now self.old.known self.new.known result }
         ensures back { IfOk result (λ mark. cut mark (place self.new) ≡ place self.old) }
         ensures path { self.new.path.items ≡ self.old.path.items }
     {
@@ -127,7 +124,7 @@ impl Walk {
         p: &AssertionView<'_>,
         q: &AssertionView<'_>,
     ) -> bool
-        ensures { result ≡ stands (cert_tree certificate.now) defines.now (outlined (known_view self.now.known)) p.now q.now }
+        ensures { result ≡ stands_here certificate.now defines.now self.now.known p.now q.now }
     {
         let count = self.known.polynomials.len();
         stands(certificate, defines, &self.known.conditions, count, p, q)
@@ -136,7 +133,7 @@ impl Walk {
     /// Whether the items contradict what is known.
     #[tactic(auto, using(crate::proofs::Walks::says_settled))]
     pub fn contradicts(&self, items: &[Item]) -> Result<(), Failed>
-        ensures { Says (place self.now) (place self.now) result (node Rule.Contradict (contradiction (items_view items.now) (known_view self.now.known)) (λ _. None)) }
+        ensures { Contradicts items.now self.now result }
     {
         settle(
             Rule::Contradict,
@@ -152,7 +149,7 @@ impl Walk {
         p: &AssertionView<'_>,
         q: &AssertionView<'_>,
     ) -> Result<(), Failed>
-        ensures { Says (place self.now) (place self.now) result (node Rule.Arithmetic (arithmetic_holds (items_view items.now) (known_view self.now.known) p.now q.now) (λ _. None)) }
+        ensures { AreDifference items.now p.now q.now self.now result }
     {
         settle(
             Rule::Arithmetic,

@@ -65,14 +65,14 @@ check_rest-returns-in_err-check_contradiction-in-DropGuard t c =
 
 pub check_fact-returns-in-Ok : goal.check_fact-returns-in-Ok
 check_fact-returns-in-Ok t c =
-    fact_given (place c.args.self.now) (cut c.in-Ok.mark (place c.add.new.self)) (place c.check_until.new.self) c.check_until.result rules.Fact (added (fact_tree c.args.fact.now) (known_view c.args.self.now.known)) (known_view c.args.self.now.known) (known_view c.add.new.self.known) (λ k. part 0 (fault (cert_tree c.args.certificate.now) c.args.defines.now k c.args.p.now c.args.q.now)) c.in-Ok.ensures.step c.in-Ok.ensures.back c.check_until.ensures
+    fact_given (place c.args.self.now) (cut c.in-Ok.mark (place c.add.new.self)) (place c.check_until.new.self) c.check_until.result rules.Fact (added (fact_tree c.args.fact.now) (known_view c.args.self.now.known)) (known_view c.args.self.now.known) (known_view c.add.new.self.known) (λ k. part 0 (fault (cert_tree c.args.part.now) c.args.defines.now k c.args.p.now c.args.q.now)) c.in-Ok.ensures.step c.in-Ok.ensures.back c.check_until.ensures
 
 pub check_each-loop-i-preserved : goal.check_each-loop-i-preserved
 check_each-loop-i-preserved t c =
-    let r = each_goes_on (place c.args.self.now) (place c.loop-i.self) (place c.check_part.new.self) tt c.args.certificates.now c.loop-i.rest c.in-Some.others c.loop-i.i c.index-certificates-i.result c.in-Some.member c.args.defines.now c.args.p.now _ c.loop-i.invariant.back (omega arith) c.index-certificates-i.is c.in-Some.ensures c.in_ok-check_part.ensures c.loop-i.invariant.rest in
+    let r = each_goes_on (place c.args.self.now) (place c.loop-i.self) (place c.check_part.new.self) tt c.args.parts.now c.loop-i.rest c.in-Some.others c.loop-i.i c.index-parts-i.result c.in-Some.member c.args.defines.now c.args.p.now _ c.loop-i.invariant.back (omega arith) c.index-parts-i.is c.in-Some.ensures c.in_ok-check_part.ensures c.loop-i.invariant.rest in
     record { back = r.0; rest = r.1 }
 
 pub check_pairs-loop-i-preserved : goal.check_pairs-loop-i-preserved
 check_pairs-loop-i-preserved t c =
-    let r = pair_goes_on (place c.args.self.now) (place c.loop-i.self) (place c.check_part.new.self) tt c.args.certificates.now c.loop-i.lefts c.loop-i.rights c.in-Some.other_lefts c.in-Some-split_first.other_rights c.loop-i.i c.index-certificates-i.result c.in-Some.p c.in-Some-split_first.q c.args.defines.now _ c.loop-i.invariant.back (omega arith) c.index-certificates-i.is c.in-Some.ensures c.in-Some-split_first.ensures c.in_ok-check_part.ensures c.loop-i.invariant.rest in
+    let r = pair_goes_on (place c.args.self.now) (place c.loop-i.self) (place c.check_part.new.self) tt c.args.parts.now c.loop-i.lefts c.loop-i.rights c.in-Some.other_lefts c.in-Some-split_first.other_rights c.loop-i.i c.index-parts-i.result c.in-Some.p c.in-Some-split_first.q c.args.defines.now _ c.loop-i.invariant.back (omega arith) c.index-parts-i.is c.in-Some.ensures c.in-Some-split_first.ensures c.in_ok-check_part.ensures c.loop-i.invariant.rest in
     record { back = r.0; rest = r.1 }

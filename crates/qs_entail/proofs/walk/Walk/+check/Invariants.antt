@@ -10,11 +10,11 @@ use Rattle.qs_entail.proofs.walk.Walk.+check.Given as goal
 abbrev pub invariant-check_each-loop-i : goal.invariant-check_each-loop-i
 invariant-check_each-loop-i l = record {
   back : place l.self ≡ place l.initial.self;
-  rest : faults_all (certs_tree l.certificates) 0 l.defines (known_view l.initial.self.known) l.p (assertions_of l.fn.members) ≡ faults_all (certs_tree (drop l.i l.certificates)) l.i l.defines (known_view l.initial.self.known) l.p (assertions_of l.rest);
+  rest : faults_all (certs_tree l.parts) 0 l.defines (known_view l.initial.self.known) l.p (assertions_of l.fn.members) ≡ faults_all (certs_tree (drop l.i l.parts)) l.i l.defines (known_view l.initial.self.known) l.p (assertions_of l.rest);
 }
 
 abbrev pub invariant-check_pairs-loop-i : goal.invariant-check_pairs-loop-i
 invariant-check_pairs-loop-i l = record {
   back : place l.self ≡ place l.initial.self;
-  rest : faults_parts (certs_tree l.certificates) 0 l.defines (known_view l.initial.self.known) (assertions_of l.fn.left) (assertions_of l.fn.right) ≡ faults_parts (certs_tree (drop l.i l.certificates)) l.i l.defines (known_view l.initial.self.known) (assertions_of l.lefts) (assertions_of l.rights);
+  rest : faults_parts (certs_tree l.parts) 0 l.defines (known_view l.initial.self.known) (assertions_of l.fn.left) (assertions_of l.fn.right) ≡ faults_parts (certs_tree (drop l.i l.parts)) l.i l.defines (known_view l.initial.self.known) (assertions_of l.lefts) (assertions_of l.rights);
 }

@@ -61,8 +61,7 @@ is_one_run bs n = is_empty bs || n == 0
 abbrev pub Appends : {A E : Type 0} → List PieceTree → (old new : Vec Piece) → Result A E → Type 0
 Appends ps old new result = OnOk result (map piece_tree new.items ≡ map piece_tree old.items ++ ps)
 
--- Pieces that are done, and a run of bytes or of null pointers, give with what comes later what those from before give with this put in
--- front of it.
+-- with whatever comes behind, the pieces and the run now give what those from before give with this in front of it
 abbrev pub Puts : {A E : Type 0} → (List PieceTree → List PieceTree) → Vec Piece → Vec ℕ → ℕ → Vec Piece → Vec ℕ → ℕ → Result A E → Type 0
 Puts put out bs n new_out new_bs new_n result =
     OnOk result ((ps : List PieceTree) →

@@ -1,9 +1,7 @@
 use Rattle.std.proofs.Common.{◌≡◌, ◌||◌, false, ◌++◌, length, take, sym, ap, ◌∙◌}
 use Rattle.qs_core.specs.Trees as core
-use Rattle.qs_core.specs.Trees.{CoreStmtTree}
 use Rattle.qs_core.specs.TreeOf.{core_expr, core_stmts}
 use Rattle.qs_meaning.specs.Typed as trees
-use Rattle.qs_meaning.specs.Typed.{Expr}
 use Rattle.qs_typed.specs.TreeOf.{expression_tree, lvalue_tree, assignment_tree, effect_tree, conversion_tree, order_tree}
 use Rattle.qs_elaborate.specs.Laws.{has_any}
 use Rattle.qs_elaborate.specs.Acting.{acts}

@@ -39,7 +39,7 @@ pub record IsFillable (u : CoreUnitTree) (given : ProofsTree) : Type 0 where
 abbrev pub entries_only : List EntryTree → ProofsTree
 entries_only entries = record { defines = []; functions = entries }
 
--- of the code's entries
+-- proofs with these entries of the code alone, without definitions
 abbrev pub proofs_of : List FunctionProof → ProofsTree
 proofs_of entries = entries_only (map entry_tree entries)
 

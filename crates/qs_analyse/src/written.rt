@@ -6,7 +6,7 @@ ghost use Rattle.qs_entail.specs.View.{cert_tree};
 ghost use Rattle.qs_triples.specs.TreeOf.{derivation_tree, derivation_trees};
 ghost use Rattle.qs_callgraph.specs.CallLists.{numbers};
 ghost use Rattle.qs_analyse.specs.Written as spec;
-ghost use Rattle.qs_analyse.specs.Written.{place_of};
+ghost use Rattle.qs_analyse.specs.Written.{for_needs, place_of, written_stmt, written_stmts};
 
 use qs_assert::Assertion;
 use qs_base::{FnId, Name, NoMemory};

@@ -1,7 +1,8 @@
 // Declarations (C11 6.7). In all functions at most `context.room` levels are left for the parts of
 // a node, and each answers what is read, how high its highest node is, and what stands behind it.
 ghost use Rattle.std.specs.Prelude.{◌≡◌, ◌+◌, ◌≤◌, [], IfOk};
-ghost use Rattle.qs_syntax.specs.Trees.{list, unnumbered, value};
+ghost use Rattle.qs_syntax.specs.Trees as trees;
+ghost use Rattle.qs_syntax.specs.Trees.{list, unnumbered};
 ghost use Rattle.qs_syntax.specs.TreeOf.{expr_tree, lengths_tree, declarator_tree};
 ghost use Rattle.qs_syntax.specs.TreeOf.{initialiser_tree, initialisers_tree, variable_tree};
 ghost use Rattle.qs_syntax.specs.TreeOf.{declaration_tree, members_tree, parameter_tree};
@@ -190,7 +191,7 @@ fn initialiser(
 
 /// An initialiser that is an expression.
 fn expression(value: Expr) -> Initialiser
-    ensures { initialiser_tree result ≡ value (expr_tree value) }
+    ensures { initialiser_tree result ≡ trees.value (expr_tree value) }
 {
     Initialiser::Value(value)
 }

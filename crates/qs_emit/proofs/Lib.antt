@@ -37,7 +37,6 @@ pub mod SetUp
 pub mod Roots
 pub mod Beginning
 pub mod Whole
-pub mod CodeWords
 pub mod RuleExamples
 pub mod SampleEntry
 pub mod Owners

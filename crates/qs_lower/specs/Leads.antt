@@ -27,5 +27,5 @@ followed leads = retargeted (follow_leads leads (length leads))
 abbrev pub instruction_trees : List Instruction → List InstructionTree
 instruction_trees code = map instruction_tree code
 
-abbrev pub Threads : (before after : Vec Instruction Global) → Type 0
-Threads before after = instruction_trees after.items ≡ threaded (instruction_trees before.items)
+abbrev pub IsThreaded : (before after : Vec Instruction Global) → Type 0
+IsThreaded before after = instruction_trees after.items ≡ threaded (instruction_trees before.items)

@@ -2,7 +2,7 @@
 ghost use Rattle.std.specs.Prelude.{◌≡◌, IfOk, OnOk, Some, length, map};
 ghost use Rattle.std.specs.List.{slice_get};
 ghost use Rattle.qs_tac.specs.TreeOf.{instruction_tree};
-ghost use Rattle.qs_lower.specs.Leads.{leads_of, lead_in, follow_leads, Threads, followed};
+ghost use Rattle.qs_lower.specs.Leads.{leads_of, lead_in, follow_leads, IsThreaded, followed};
 ghost use Rattle.qs_lower.specs.Leads.{instruction_trees};
 ghost use Rattle.qs_lower.specs.Threads as spec;
 
@@ -102,7 +102,7 @@ fn retarget_all(leads: &[Option<u32>], code: &mut [Instruction])
 
 /// Lets each jump and branch of a function's code go where the jumps that stand there lead.
 pub fn thread(alloc: Global, code: &mut Vec<Instruction>) -> Result<(), NoMemory>
-    ensures { OnOk result (Threads code.old code.new) }
+    ensures { OnOk result (IsThreaded code.old code.new) }
 {
     let leads = leads_of(alloc, code)?;
     retarget_all(&leads, code);

@@ -1,4 +1,4 @@
-use Rattle.qs_emit.proofs.CodeWords.{code_is_short}
+use Rattle.qs_emit.proofs.SetUp.{code_is_short}
 use Rattle.qs_emit.proofs.laws.code_is_short.Goals as goal
 
 pub returns : goal.returns

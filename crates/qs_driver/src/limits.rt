@@ -1,7 +1,7 @@
 // The limits of what the tool takes, in bytes. The largest stack is the machine's own limit.
 
-/// The longest source.
-pub const SOURCE_LIMIT: usize = 1_048_576;
+// The longest source is the longest text that the lexer takes.
+pub use qs_lexer::SOURCE_LIMIT;
 
 /// The longest proof file.
 pub const PROOF_LIMIT: usize = 16_777_216;

@@ -77,9 +77,9 @@ given_name = refl
 abbrev character : trees.ParameterTree
 character = record { node = unnumbered 0; type_name = record { base = bases.Int; stars = 0 }; name = None; lengths = one }
 
--- the header hides what is given
+-- the header declares again what is given
 declared_name : unit_referents (numbered_unit (header bases.Int putchar_name (character ∷ []) ∷ g (eval (e (trees.call putchar_name (trees.exprs_of (number 1 ∷ [])))) ∷ []) ∷ []))
-    ≡ None ∷ None ∷ None ∷ None ∷ Some (referents.Function 0) ∷ None ∷ []
+    ≡ None ∷ None ∷ None ∷ None ∷ Some referents.PutChar ∷ None ∷ []
 declared_name = refl
 
 -- void g(void){int a;&a;}

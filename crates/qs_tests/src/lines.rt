@@ -30,7 +30,12 @@ fn the_line_of_a_fault(rt: HostRuntime) -> Result<(), Fail> {
         line: 4,
         column: 16,
     };
-    let line = fault_line(rt.alloc(), b"a.c", b"", &FaultText::Rule(pos, Rule::TruthOperand))?;
+    let line = fault_line(
+        rt.alloc(),
+        b"a.c",
+        b"",
+        &FaultText::Rule(pos, Rule::TruthOperand),
+    )?;
     assert_eq!(rt; line.as_slice(), b"a.c:4:16: rule K21\n".as_slice());
     Ok(())
 }

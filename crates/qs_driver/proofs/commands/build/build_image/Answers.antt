@@ -1,5 +1,3 @@
--- UNPROVED: the names of goals and of what each step ensures are as in the room that stood here; `differ` is to come from
--- what `names_one_twice` ensures at its test.
 use Rattle.std.proofs.Common.{rules}
 use Rattle.std.proofs.lemmas.Result.{err_from_is_err_and}
 use Rattle.qs_driver.specs.commands.Build.{words_in}

@@ -1,5 +1,7 @@
 -- What the words of a call ask of the tool: a row for each command.
 use Rattle.std.specs.Prelude.{◌≡◌, ℕ, List, Option, Some, None}
+use Rattle.qs_cli.specs.Reading.{command_of}
+use Rattle.qs_cli.specs.declared.commands.Command as code
 use Rattle.qs_cli.specs.Commands.{Command, meaning, Build, Check, Bound, Derive, Outline, Run, Exec, Sample}
 use Rattle.qs_driver.specs.Task.{Task}
 use Rattle.qs_driver.specs.commands.Usage.{none}
@@ -29,6 +31,10 @@ task_of (Some (Run image stack args input steps)) = run (run_words image stack a
 task_of (Some (Exec source proof args input steps)) =
     exec (exec_words source proof args input steps)
 task_of (Some (Sample count out)) = sample (sample_words count out)
+
+-- the task of a command as the code holds it
+abbrev pub to_do : code.Command → Task
+to_do command = task_of (Some (command_of command))
 
 -- the task of the words of a call
 abbrev pub task : List (List ℕ) → Task

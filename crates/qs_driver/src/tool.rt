@@ -1,10 +1,10 @@
 // The top call: reads the words, and hands the devices to their command.
-ghost use Rattle.std.specs.Prelude.{Some, map, string_bytes};
+ghost use Rattle.std.specs.Prelude.{map, string_bytes};
 ghost use Rattle.qs_cli.specs.Reading.{command_of};
-ghost use Rattle.qs_driver.specs.Devices.{views, views_left, views_of};
-ghost use Rattle.qs_driver.specs.Promises.{LacksMemory, Promises};
-ghost use Rattle.qs_driver.specs.Task.{Answers};
-ghost use Rattle.qs_driver.specs.Tool.{task, task_of, IsMeant};
+ghost use Rattle.qs_driver.specs.Devices.{views_of};
+ghost use Rattle.qs_driver.specs.Promises.{LacksMemoryOn, Promises};
+ghost use Rattle.qs_driver.specs.Task.{AnswersOn};
+ghost use Rattle.qs_driver.specs.Tool.{task, to_do, IsMeant};
 
 use crate::Status;
 use crate::commands::bound::bound;
@@ -33,9 +33,7 @@ fn perform<S: Store, O: Sink, L: Sink>(
     devices: Devices<'_, S, O, L>,
 ) -> Status
     requires { IsMeant (command_of command.now) }
-    ensures { let before = views S.view O.view L.view devices.entry in
-        let after = views_left S.view O.view L.view devices.exit in
-        Answers (task_of (Some (command_of command.now))) before after result }
+    ensures { AnswersOn S.view O.view L.view devices.entry devices.exit (to_do command.now) result }
 {
     match command {
         Command::Build { source, proof, out } => {
@@ -69,9 +67,7 @@ fn perform<S: Store, O: Sink, L: Sink>(
 
 // No memory was found for the words.
 fn lacks_memory<S: Store, O: Sink, L: Sink>(devices: Devices<'_, S, O, L>) -> Status
-    ensures { let before = views S.view O.view L.view devices.entry in
-        let after = views_left S.view O.view L.view devices.exit in
-        LacksMemory before after result }
+    ensures { LacksMemoryOn S.view O.view L.view devices.entry devices.exit result }
 {
     let Devices {
         store: _,

@@ -1,6 +1,5 @@
 // `exec`: a source is certified and compiled, and its image is run on a stack of exactly its bound.
 ghost use Rattle.std.specs.Prelude.{◌≡◌, Ok};
-ghost use Rattle.qs_compile.specs.Agree.{IsInput};
 ghost use Rattle.qs_machine.specs.Standing.{taken_of};
 ghost use Rattle.qs_driver.specs.Certified as meant;
 ghost use Rattle.qs_driver.specs.Names.{names_in};
@@ -14,6 +13,7 @@ use crate::certified::CertifyOrder;
 use crate::commands::run::{Ready, RunOrder, finish, load_bytes, read_input};
 use crate::devices::Devices;
 use crate::due::refuse;
+use crate::laws::consists_of_bytes;
 use crate::made::make;
 use crate::names::{FileNames, nameless};
 use qs_assert::Amount;
@@ -104,11 +104,6 @@ pub fn loaded(
     let bytes = write(alloc, image)?;
     load_bytes(alloc, &bytes, &run_order(order, stack))
 }
-
-// What is read consists of bytes, as agreement asks it of an input.
-fn consists_of_bytes(input: &[u8])
-    ensures { IsInput input.now }
-{}
 
 // Certifies and compiles the source, loads its image and reads the input.
 fn start_source<S: Store>(

@@ -1,5 +1,7 @@
 -- What the words of a call ask of the tool: a row for each command.
-use Rattle.std.specs.Prelude.{◌≡◌, ℕ, List, Option, Some, None}
+use Rattle.std.specs.Prelude.{◌≡◌, ℕ, List, map, Option, Some, None, string_bytes}
+use Rattle.std.specs.declared.alloc.Global.{Global}
+use Rattle.std.specs.declared.string.String.{String}
 use Rattle.qs_cli.specs.Reading.{command_of}
 use Rattle.qs_cli.specs.declared.commands.Command as code
 use Rattle.qs_cli.specs.Commands.{Command, meaning, Build, Check, Bound, Derive, Outline, Run, Exec, Sample}
@@ -39,3 +41,7 @@ to_do command = task_of (Some (command_of command))
 -- the task of the words of a call
 abbrev pub task : List (List ℕ) → Task
 task words = task_of (meaning words)
+
+-- the same, where the code holds the words
+abbrev pub task_in : List (String Global) → Task
+task_in words = task (map string_bytes words)

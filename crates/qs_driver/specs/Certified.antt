@@ -1,15 +1,17 @@
 -- A source and a proof file that a command reads: a unit with proofs that cover it, or why it is refused.
-use Rattle.std.specs.Prelude.{◌≡◌, ◌⊎◌, ◌↔◌, ℕ, List, [], map, Option, Some, None, Result, Ok, Err, Vec, option_map}
+use Rattle.std.specs.Prelude.{◌≡◌, ◌⊎◌, ◌↔◌, ℕ, ◌<◌, true, List, [], length, map, Option, Some, None, Result, Ok, Err, IfOk, Vec}
 use Rattle.std.specs.declared.alloc.Global.{Global}
+use Rattle.qs_base.specs.declared.function.FnId.{FnId}
 use Rattle.qs_base.specs.declared.places.Pos.{Pos}
 use Rattle.qs_syntax.specs.Trees.{UnitTree}
 use Rattle.qs_typing.specs.TypedOf.{typed_tree}
 use Rattle.qs_core.specs.CallGraph.{IsCycle, IsWithoutRecursion}
 use Rattle.qs_core.specs.Trees.{CoreUnitTree}
 use Rattle.qs_core.specs.UnitTrees.{unit_tree}
+use Rattle.qs_core.specs.declared.unit.CoreUnit.{CoreUnit}
 use Rattle.qs_elaborate.specs.FitLaws.{HasCore}
 use Rattle.qs_elaborate.specs.Units.{core_of}
-use Rattle.qs_callgraph.specs.CallLists.{numbers}
+use Rattle.qs_callgraph.specs.CallLists.{is_member, numbers}
 use Rattle.qs_prooftext.specs.Reading.{Reading}
 use Rattle.qs_prooftext.specs.Writing.{variable_text}
 use Rattle.qs_prooftext.specs.declared.fault.TextFault.{TextFault}
@@ -42,6 +44,7 @@ use Rattle.qs_report.specs.declared.fault_texts.ProofText.{ProofText}
 use Rattle.qs_report.specs.declared.fault_texts.ProofText.TheVariants as wrongs
 use Rattle.qs_ports.specs.StoreView.{StoreView, Files}
 use Rattle.qs_driver.specs.Limits.{source_limit, proof_limit}
+use Rattle.qs_driver.specs.Names.{name_in}
 use Rattle.qs_driver.specs.Files.{IsUntouched, HoldsContent, HoldsWith, IsTooLong, WasReadAs, CannotRead, ReadsFile}
 use Rattle.qs_driver.specs.Source.{HoldsText, IsPlaceOf, IsTypedAs, IsTypedUnit, IsOfSource, LacksSource, RefusesSource}
 use Rattle.qs_driver.specs.Told.{EntryPlace, place_of, fault_place, owner_of, fault_text}
@@ -53,6 +56,7 @@ use Rattle.qs_driver.specs.declared.status.SourceFault.TheVariants.{TooLong}
 use Rattle.qs_driver.specs.declared.status.ProofFault.{ProofFault}
 use Rattle.qs_driver.specs.declared.status.ProofFault.TheVariants.{Text, Cycle, Order, Entry}
 use Rattle.qs_driver.specs.declared.status.FileKind.TheVariants as kinds
+use Rattle.qs_driver.specs.declared.told.Wrong.{Wrong}
 
 -- ---- the words
 
@@ -66,7 +70,7 @@ certify_words source proof = record { source = source; proof = proof }
 
 -- the words as the code holds them
 abbrev pub words_in : CertifyOrder → CertifyWords
-words_in order = certify_words order.source.now (option_map (λ name. name.now) order.proof)
+words_in order = certify_words order.source.now (name_in order.proof)
 
 -- the name of the proof file, and nothing where none is named
 abbrev pub proof_name : Option (List ℕ) → List ℕ
@@ -179,14 +183,17 @@ IsEntryTold u f fault told =
     (spot : Spot) × (text : ProofText) × (told ≡ Entry (function_name u f) spot text)
     × IsToldAs u f fault spot text
 
+-- the names of these functions, in order
+abbrev pub names_of : CoreUnitTree → List FnId → List (List ℕ)
+names_of u functions = map (function_name u) (numbers functions)
+
 -- The cause why proofs can't be certified, as it is told. Want of memory is no such cause.
 abbrev pub Tells : CoreUnitTree → (file : Option (List ℕ)) → CertifyFault → ProofFault → Type 0
 Tells u file faults.NoMemory told = ⊥
 Tells u file (faults.Text fault) told =
     (pos : Pos) × (told ≡ Text fault pos) × IsTextPlace file fault pos
 Tells u file (faults.Cycle fs) told =
-    (names : Vec (List ℕ) Global) × (told ≡ Cycle names)
-    × (names.items ≡ map (function_name u) (numbers fs.items))
+    (names : Vec (List ℕ) Global) × (told ≡ Cycle names) × (names.items ≡ names_of u fs.items)
 Tells u file (faults.Order name) told = told ≡ Order name
 Tells u file (faults.Entry f fault) told = IsEntryTold u f.0 fault told
 
@@ -362,10 +369,28 @@ pub record RefusesCertified (w : CertifyWords) (files : Files) (status : Status)
 abbrev pub IsCertificateTold : CertFault → Path → ProofText → Type 0
 IsCertificateTold fault path text = path_is path (path_in fault) × IsWrongThere fault text
 
+-- this is wrong in the entry of this function, which has this fault
+abbrev pub IsWrong : CoreUnitTree → (function : ℕ) → DerivFault → Wrong → Type 0
+IsWrong u f fault wrong = IsToldAs u f fault wrong.spot wrong.text
+
+-- the same of an answer, unless memory ran out
+abbrev pub TellsWrong :
+    {E : Type 0} → CoreUnitTree → (function : ℕ) → DerivFault → Result Wrong E → Type 0
+TellsWrong u f fault result = IfOk result (λ wrong. IsWrong u f fault wrong)
+
+-- each of these functions is one of the unit's
+abbrev pub AreFunctionsOf : CoreUnit → List FnId → Type 0
+AreFunctionsOf unit functions =
+    (f : ℕ) → is_member f (numbers functions) ≡ true → f < length unit.functions.items
+
 -- the answer of `told`
 abbrev pub TellsFault : CoreUnitTree → (file : Option (List ℕ)) → CertifyFault → Status → Type 0
 TellsFault u file fault status =
     (status ≡ NoMemory) ⊎ ((told : ProofFault) × (status ≡ Proof told) × Tells u file fault told)
+
+-- the same, whichever the file
+abbrev pub TellsOfAnyFile : CoreUnitTree → CertifyFault → Status → Type 0
+TellsOfAnyFile u fault status = (file : Option (List ℕ)) → TellsFault u file fault status
 
 -- a unit is certified: its core and its proofs, as the code holds them
 pub record IsCertifiedUnit (unit : UnitTree) (file : Option (List ℕ)) (c : CertifiedUnit)

@@ -2,9 +2,10 @@
 use Rattle.std.specs.Prelude.{[], ◌∷◌, Result, Ok, Err}
 use Rattle.qs_report.specs.Lines.{count_line}
 use Rattle.qs_report.specs.declared.fault_texts.Count.{Count}
-use Rattle.qs_driver.specs.Names.{Names}
+use Rattle.qs_driver.specs.Names.{Names, names_in}
 use Rattle.qs_driver.specs.Steps.{on_out}
 use Rattle.qs_driver.specs.Due.{Due, refusal}
+use Rattle.qs_driver.specs.declared.names.FileNames.{FileNames}
 use Rattle.qs_driver.specs.declared.status.Status.{Status}
 use Rattle.qs_driver.specs.declared.status.Status.TheVariants.{Done}
 
@@ -16,3 +17,7 @@ counted count = record { status = Done; steps = on_out (count_line count) ∷ []
 abbrev pub counted_or_refused : Names → Result Count Status → Due
 counted_or_refused names (Ok count) = counted count
 counted_or_refused names (Err status) = refusal names status
+
+-- the same, where the code holds the names
+abbrev pub due_to : FileNames → Result Count Status → Due
+due_to names work = counted_or_refused (names_in names) work

@@ -24,7 +24,8 @@ use Rattle.qs_report.specs.declared.fault_texts.ProofFileText.TheVariants as pro
 use Rattle.qs_report.specs.declared.fault_texts.Shown.{Shown}
 use Rattle.qs_report.specs.declared.fault_texts.Shown.TheVariants as shown
 use Rattle.qs_report.specs.declared.fault_texts.TrapText.TheVariants as trap_texts
-use Rattle.qs_driver.specs.Names.{Names, file_name}
+use Rattle.qs_driver.specs.Names.{Names, file_name, names_in}
+use Rattle.qs_driver.specs.declared.names.FileNames.{FileNames}
 use Rattle.qs_driver.specs.declared.status.Status.{Status}
 use Rattle.qs_driver.specs.declared.status.Status.TheVariants.{Done, Source, Proof, Words, Missing, StoreFailed, Image, Trapped, StepLimit, NoBound, StackTooLarge, SinkFailed, NoMemory}
 use Rattle.qs_driver.specs.declared.status.SourceFault.TheVariants.{TooLong, Lex, Syntax, Typing}
@@ -140,3 +141,7 @@ status_line names (NoBound bound) = named_line [] (texts.NoBound (shown_of bound
 status_line names (StackTooLarge size) = named_line [] (texts.StackTooLarge size)
 status_line names SinkFailed = []
 status_line names NoMemory = named_line [] texts.NoMemory
+
+-- the same, where the code holds the names
+abbrev pub line_of : FileNames → Status → List ℕ
+line_of names status = status_line (names_in names) status

@@ -19,6 +19,7 @@ pub mod SampleSource
 pub mod KeptOutput
 pub mod Task
 pub mod commands
+pub mod Orders
 pub mod Tool
 pub mod Promises
 pub mod SampleLaws

@@ -128,3 +128,10 @@ pub record HasMade (m : MakeWords) (before after : StoreView) (made : Made) : Ty
 abbrev pub Makes : MakeWords → StoreView → StoreView → Result Made Status → Type 0
 Makes m before after (Ok made) = HasMade m before after made
 Makes m before after (Err status) = CannotMake m before after status
+
+-- the same of a store that is seen by this view, as the code is handed it and as it leaves it
+abbrev pub MakesOn :
+    {S : Type 0} → (S → StoreView) → S → S → CertifyWords → (args : List ℤ) → Result Made Status
+    → Type 0
+MakesOn view old new inputs args result =
+    Makes (make_words inputs args) (view old) (view new) result

@@ -1,5 +1,6 @@
 -- The files that a command names.
-use Rattle.std.specs.Prelude.{ℕ, List, []}
+use Rattle.std.specs.Prelude.{ℕ, List, [], Option, option_map}
+use Rattle.std.specs.Borrow.{Bor}
 use Rattle.qs_driver.specs.declared.names.FileNames.{FileNames}
 use Rattle.qs_driver.specs.declared.status.FileKind.{FileKind}
 use Rattle.qs_driver.specs.declared.status.FileKind.TheVariants.{Source, Derivation, Image, Input, Output}
@@ -21,6 +22,10 @@ file_name names Derivation = names.derivation
 file_name names Image = names.image
 file_name names Input = names.input
 file_name names Output = names.output
+
+-- a name as the code holds it, where there is one
+abbrev pub name_in : Option (Bor (List ℕ)) → Option (List ℕ)
+name_in name = option_map (λ n. n.now) name
 
 -- the names as the code holds them
 abbrev pub names_in : FileNames → Names

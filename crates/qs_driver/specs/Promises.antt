@@ -1,12 +1,14 @@
 -- What is promised of every call of the tool.
 use Rattle.std.specs.Prelude.{◌≡◌, ◌≢◌, ◌⊎◌, ◌<◌}
 use Rattle.qs_ports.specs.Causes.{Rose}
+use Rattle.qs_ports.specs.SinkView.{SinkView}
 use Rattle.qs_ports.specs.StoreView.{StoreView}
 use Rattle.qs_driver.specs.Names.{no_names}
-use Rattle.qs_driver.specs.Devices.{DevicesView, streams_of}
+use Rattle.qs_driver.specs.Devices.{DevicesView, DevicesLeft, streams_of, views, views_left}
 use Rattle.qs_driver.specs.Due.{refusal, IsWritten}
 use Rattle.qs_driver.specs.Files.{IsUntouched}
 use Rattle.qs_driver.specs.Task.{Task, Answers}
+use Rattle.qs_driver.specs.declared.devices.Devices.{Devices}
 use Rattle.qs_driver.specs.declared.status.Status.{Status}
 use Rattle.qs_driver.specs.declared.status.Status.TheVariants.{StoreFailed, SinkFailed, NoMemory}
 use Rattle.qs_driver.specs.declared.status.FileKind.{FileKind}
@@ -15,6 +17,14 @@ use Rattle.qs_driver.specs.declared.status.FileKind.{FileKind}
 pub record LacksMemory (before after : DevicesView) (result : Status) : Type 0 where
   pub untouched : IsUntouched before.store after.store
   pub written : IsWritten (refusal no_names NoMemory) (streams_of before) (streams_of after) result
+
+-- the same of devices that are seen by these views, as the code is handed them and as it leaves them
+abbrev pub LacksMemoryOn :
+    {S O L : Type 0} → (S → StoreView) → (O → SinkView) → (L → SinkView) → Devices S O L
+    → DevicesLeft S O L → Status → Type 0
+LacksMemoryOn store_view out_view log_view handed left result =
+    LacksMemory (views store_view out_view log_view handed)
+    (views_left store_view out_view log_view left) result
 
 -- no call on the store failed
 abbrev pub StoreHeld : StoreView → StoreView → Type 0
@@ -46,3 +56,11 @@ pub record Promises (task : Task) (before after : DevicesView) (result : Status)
   pub refuses : NoneFailed before after → result ≢ NoMemory → task.Refuses before.store result
   -- a device that failed isn't hidden
   pub shows : ShowsFailures before after result
+
+-- the same of devices that are seen by these views, as the code is handed them and as it leaves them
+abbrev pub Keeps :
+    {S O L : Type 0} → (S → StoreView) → (O → SinkView) → (L → SinkView) → Devices S O L
+    → DevicesLeft S O L → Task → Status → Type 0
+Keeps store_view out_view log_view handed left task result =
+    Promises task (views store_view out_view log_view handed)
+    (views_left store_view out_view log_view left) result

@@ -1,5 +1,6 @@
 -- The source of a sample.
-use Rattle.std.specs.Prelude.{ℕ, zero, suc, ◌+◌, List, [], ◌∷◌, ◌++◌, codes, decimal}
+use Rattle.std.specs.Prelude.{◌≡◌, ℕ, zero, suc, ◌+◌, List, [], ◌∷◌, ◌++◌, codes, decimal, Result, OnOk, Vec}
+use Rattle.std.specs.declared.alloc.Global.{Global}
 use Rattle.qs_report.specs.Lines.{line}
 
 -- `int fK(int x){return fJ(x+1);}`
@@ -25,3 +26,13 @@ main_function n =
 -- the functions, and then main, which calls the last one
 abbrev pub sample_text : (n : ℕ) → List ℕ
 sample_text n = functions n ++ main_function n
+
+-- ---- how the code makes it
+
+-- a number between two texts
+abbrev pub between : (head : List ℕ) → (n : ℕ) → (tail : List ℕ) → List ℕ
+between head n tail = head ++ decimal n ++ tail
+
+-- this was put behind the text, unless memory ran out
+abbrev pub Adds : {A E : Type 0} → (old new : Vec ℕ Global) → List ℕ → Result A E → Type 0
+Adds old new piece result = OnOk result (new.items ≡ old.items ++ piece)

@@ -1,7 +1,9 @@
 -- What a command asks of the tool, and when it is answered.
+use Rattle.qs_ports.specs.SinkView.{SinkView}
 use Rattle.qs_ports.specs.StoreView.{StoreView}
-use Rattle.qs_driver.specs.Devices.{DevicesView, streams_of}
+use Rattle.qs_driver.specs.Devices.{DevicesView, DevicesLeft, streams_of, views, views_left}
 use Rattle.qs_driver.specs.Due.{Due, IsWritten}
+use Rattle.qs_driver.specs.declared.devices.Devices.{Devices}
 use Rattle.qs_driver.specs.declared.status.Status.{Status}
 
 -- The files are those of the store before the call and after it.
@@ -18,3 +20,11 @@ pub record Answers (task : Task) (before after : DevicesView) (result : Status) 
   pub due : Due
   pub is_due : task.IsDue before.store after.store due
   pub written : IsWritten due (streams_of before) (streams_of after) result
+
+-- the same of devices that are seen by these views, as a command is handed them and as it leaves them
+abbrev pub AnswersOn :
+    {S O L : Type 0} → (S → StoreView) → (O → SinkView) → (L → SinkView) → Devices S O L
+    → DevicesLeft S O L → Task → Status → Type 0
+AnswersOn store_view out_view log_view handed left task result =
+    Answers task (views store_view out_view log_view handed)
+    (views_left store_view out_view log_view left) result

@@ -1,5 +1,9 @@
 -- What the words of a call ask of the tool: a row for each command.
-use Rattle.std.specs.Prelude.{◌≡◌, ℕ, List, Option, Some, None}
+use Rattle.std.specs.Prelude.{◌≡◌, ℕ, List, map, Option, Some, None, string_bytes}
+use Rattle.std.specs.declared.alloc.Global.{Global}
+use Rattle.std.specs.declared.string.String.{String}
+use Rattle.qs_cli.specs.Reading.{command_of}
+use Rattle.qs_cli.specs.declared.commands.Command as code
 use Rattle.qs_cli.specs.Commands.{Command, meaning, Build, Check, Bound, Derive, Outline, Run, Exec, Sample}
 use Rattle.qs_driver.specs.Task.{Task}
 use Rattle.qs_driver.specs.commands.Usage.{none}
@@ -30,6 +34,14 @@ task_of (Some (Exec source proof args input steps)) =
     exec (exec_words source proof args input steps)
 task_of (Some (Sample count out)) = sample (sample_words count out)
 
+-- the task of a command as the code holds it
+abbrev pub to_do : code.Command → Task
+to_do command = task_of (Some (command_of command))
+
 -- the task of the words of a call
 abbrev pub task : List (List ℕ) → Task
 task words = task_of (meaning words)
+
+-- the same, where the code holds the words
+abbrev pub task_in : List (String Global) → Task
+task_in words = task (map string_bytes words)

@@ -1,5 +1,5 @@
 // The arguments of main as the words of the machine.
-ghost use Rattle.std.specs.Prelude.{◌≡◌, ◌<◌, ◌≤◌, length};
+ghost use Rattle.std.specs.Prelude.{◌≡◌, ◌<◌, ◌≤◌};
 ghost use Rattle.qs_base.specs.Words.{wrap};
 ghost use Rattle.qs_machine.specs.Arguments.{fits_parameter};
 ghost use Rattle.qs_driver.specs.Arguments.{image_with, FindsWords};

@@ -1,17 +1,16 @@
 // A source and a proof file that a command reads: a unit with proofs that cover it, or why it is
 // refused.
-ghost use Rattle.std.specs.Prelude.{◌≡◌, ◌<◌, ◌^◌, IfOk, List, Option, Some, length, map};
-ghost use Rattle.std.specs.Prelude.{option_map, true, ℕ};
+ghost use Rattle.std.specs.Prelude.{◌≡◌, ◌<◌, ◌^◌, IfOk, Some, length};
 ghost use Rattle.qs_core.specs.Trees.{CoreUnitTree};
 ghost use Rattle.qs_core.specs.UnitTrees.{unit_tree};
 ghost use Rattle.qs_certify.specs.Certification.{ToldOfFunctions};
 ghost use Rattle.qs_certify.specs.Given.{text_of, IsShort};
 ghost use Rattle.qs_certify.specs.declared.fault.CertifyFault.TheVariants as faults;
-ghost use Rattle.qs_callgraph.specs.CallLists.{is_member, numbers};
-ghost use Rattle.qs_triples.specs.Filled.{function_name};
 ghost use Rattle.qs_typing.specs.TypedOf.{typed_tree};
-ghost use Rattle.qs_driver.specs.Certified.{byte_of, file_of, words_in, CertifiesTyped, ReadsAll};
-ghost use Rattle.qs_driver.specs.Certified.{ReadsProof, TellsFault};
+ghost use Rattle.qs_driver.specs.Certified.{byte_of, file_of, names_of, words_in, AreFunctionsOf};
+ghost use Rattle.qs_driver.specs.Certified.{CertifiesTyped, ReadsAll, ReadsProof, TellsFault};
+ghost use Rattle.qs_driver.specs.Certified.{TellsOfAnyFile};
+ghost use Rattle.qs_driver.specs.Names.{name_in};
 
 use crate::files::read_file;
 use crate::limits::PROOF_LIMIT;
@@ -84,10 +83,8 @@ fn file_told(file: Option<&[u8]>, fault: TextFault) -> Status
 
 // The names of functions, in order.
 fn names_of(alloc: Global, unit: &CoreUnit, functions: &[FnId]) -> Result<Vec<Name>, NoMemory>
-    requires { (f : ℕ) → is_member f (numbers functions.now) ≡ true
-        → f < length unit.now.functions.items }
-    ensures { IfOk result (λ names.
-        names.items ≡ map (function_name (unit_tree unit.now)) (numbers functions.now)) }
+    requires { AreFunctionsOf unit.now functions.now }
+    ensures { IfOk result (λ names. names.items ≡ names_of (unit_tree unit.now) functions.now) }
 {
     let mut names = Vec::new(alloc);
     for f in functions {
@@ -98,10 +95,8 @@ fn names_of(alloc: Global, unit: &CoreUnit, functions: &[FnId]) -> Result<Vec<Na
 
 // The status of functions without an entry that call each other in turn.
 fn cycle_told(alloc: Global, unit: &CoreUnit, functions: Vec<FnId>) -> Status
-    requires { (f : ℕ) → is_member f (numbers functions.items) ≡ true
-        → f < length unit.now.functions.items }
-    ensures { (file : Option (List ℕ))
-        → TellsFault (unit_tree unit.now) file (faults.Cycle functions) result }
+    requires { AreFunctionsOf unit.now functions.items }
+    ensures { TellsOfAnyFile (unit_tree unit.now) (faults.Cycle functions) result }
 {
     match names_of(alloc, unit, &functions) {
         Ok(names) => Status::Proof(ProofFault::Cycle(names)),
@@ -133,8 +128,7 @@ fn read_proof<S: Store>(
     store: &mut S,
     proof: Option<&str>,
 ) -> Result<Option<Vec<u8>>, Status>
-    ensures { ReadsProof (S.view store.old) (S.view store.new)
-        (option_map (λ name. name.now) proof.entry) result }
+    ensures { ReadsProof (S.view store.old) (S.view store.new) (name_in proof.entry) result }
 {
     match proof {
         Some(name) => {

@@ -1,8 +1,6 @@
 // The end of a command that counts entries.
-ghost use Rattle.qs_driver.specs.Counts.{counted_or_refused};
-ghost use Rattle.qs_driver.specs.Devices.{streams};
-ghost use Rattle.qs_driver.specs.Due.{IsWritten};
-ghost use Rattle.qs_driver.specs.Names.{names_in};
+ghost use Rattle.qs_driver.specs.Counts.{due_to};
+ghost use Rattle.qs_driver.specs.Due.{Writes};
 
 use crate::Status;
 use crate::due::{refuse, status_after};
@@ -17,9 +15,7 @@ pub fn report_count<O: Sink, L: Sink>(
     out: &mut O,
     log: &mut L,
 ) -> Status
-    ensures { let before = streams (O.view out.old) (L.view log.old) in
-        let after = streams (O.view out.new) (L.view log.new) in
-        IsWritten (counted_or_refused (names_in names.now) work) before after result }
+    ensures { Writes O.view L.view out.old out.new log.old log.new (due_to names.now work) result }
 {
     match work {
         Ok(count) => status_after(put_count(out, count), Status::Done),

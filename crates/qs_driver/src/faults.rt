@@ -1,10 +1,9 @@
 // The line that tells a status. Nothing here takes memory.
 ghost use Rattle.std.specs.Prelude.{◌≡◌};
-ghost use Rattle.qs_ports.specs.SinkView.{PutsAll};
-ghost use Rattle.qs_driver.specs.Faults.{status_line, image_text, lex_text, named_line};
+ghost use Rattle.qs_ports.specs.SinkView.{PutsOn};
+ghost use Rattle.qs_driver.specs.Faults.{image_text, lex_text, line_of, named_line};
 ghost use Rattle.qs_driver.specs.Faults.{placed_text, pos_of, proof_file_text, shown_of};
 ghost use Rattle.qs_driver.specs.Faults.{syntax_text, trap_text, typing_text, unexpected_text};
-ghost use Rattle.qs_driver.specs.Names.{names_in};
 
 use crate::names::{FileNames, file_name};
 use crate::{ProofFault, SourceFault, Status, TokenPlace, WordsFault};
@@ -144,7 +143,7 @@ pub fn shown_of(bound: Amount) -> Shown
 
 // Puts the line of a fault that names this file, or none.
 fn put_text<K: Sink>(log: &mut K, file: &str, text: FaultText) -> Result<(), SinkFault>
-    ensures { PutsAll (K.view log.old) (K.view log.new) (named_line file.now text) result }
+    ensures { PutsOn K.view log.old log.new (named_line file.now text) result }
 {
     put_fault(log, file.as_bytes(), b"", &text)
 }
@@ -154,8 +153,7 @@ fn put_words_fault<K: Sink>(
     names: &FileNames<'_>,
     fault: WordsFault,
 ) -> Result<(), SinkFault>
-    ensures { PutsAll (K.view log.old) (K.view log.new)
-        (status_line (names_in names.now) (Status.Words fault)) result }
+    ensures { PutsOn K.view log.old log.new (line_of names.now (Status.Words fault)) result }
 {
     match fault {
         WordsFault::Usage => put_text(log, "", FaultText::Usage),
@@ -172,8 +170,7 @@ fn put_source_fault<K: Sink>(
     names: &FileNames<'_>,
     fault: SourceFault,
 ) -> Result<(), SinkFault>
-    ensures { PutsAll (K.view log.old) (K.view log.new)
-        (status_line (names_in names.now) (Status.Source fault)) result }
+    ensures { PutsOn K.view log.old log.new (line_of names.now (Status.Source fault)) result }
 {
     match fault {
         SourceFault::TooLong(kind) => put_text(log, file_name(names, kind), FaultText::TooLong),
@@ -188,8 +185,7 @@ fn put_proofs_fault<K: Sink>(
     names: &FileNames<'_>,
     fault: &ProofFault,
 ) -> Result<(), SinkFault>
-    ensures { PutsAll (K.view log.old) (K.view log.new)
-        (status_line (names_in names.now) (Status.Proof fault.now)) result }
+    ensures { PutsOn K.view log.old log.new (line_of names.now (Status.Proof fault.now)) result }
 {
     match fault {
         ProofFault::Text(fault, pos) => put_text(
@@ -220,8 +216,7 @@ pub fn put_status<K: Sink>(
     names: &FileNames<'_>,
     status: &Status,
 ) -> Result<(), SinkFault>
-    ensures { PutsAll (K.view log.old) (K.view log.new)
-        (status_line (names_in names.now) status.now) result }
+    ensures { PutsOn K.view log.old log.new (line_of names.now status.now) result }
 {
     match status {
         Status::Done => Ok(()),

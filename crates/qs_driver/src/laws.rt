@@ -1,4 +1,5 @@
 // Laws: functions that do nothing, for what their clauses say.
+ghost use Rattle.qs_compile.specs.Agree.{IsInput};
 ghost use Rattle.qs_driver.specs.Headline.{Headline};
 ghost use Rattle.qs_driver.specs.SampleLaws.{SamplesAreGood, SamplesHaveStacks};
 ghost use Rattle.qs_driver.specs.Sizes.{SourcesPassNoSize};
@@ -30,4 +31,9 @@ pub fn samples_are_good()
 /// stack can have so many bytes.
 pub fn samples_have_stacks()
     ensures { SamplesHaveStacks }
+{}
+
+/// Of what was read: it consists of bytes, as agreement asks it of an input.
+pub fn consists_of_bytes(input: &[u8])
+    ensures { IsInput input.now }
 {}

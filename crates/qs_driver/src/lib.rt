@@ -22,6 +22,7 @@ mod status;
 mod told;
 mod tool;
 
+pub use devices::Devices;
 pub use laws::{
     accepted_sources_are_built_right, samples_are_good, samples_have_stacks, sources_pass_no_size,
 };

@@ -1,5 +1,5 @@
 // Puts the lines of costs. Nothing here takes memory.
-ghost use Rattle.qs_ports.specs.SinkView.{PutsAll};
+ghost use Rattle.qs_ports.specs.SinkView.{PutsOn};
 ghost use Rattle.qs_driver.specs.Lines.{record_line, cost_lines};
 
 use qs_image::FunctionRecord;
@@ -7,14 +7,14 @@ use qs_ports::{Sink, SinkFault};
 use qs_report::put_cost;
 
 fn put_record<K: Sink>(out: &mut K, function: &FunctionRecord) -> Result<(), SinkFault>
-    ensures { PutsAll (K.view out.old) (K.view out.new) (record_line function.now) result }
+    ensures { PutsOn K.view out.old out.new (record_line function.now) result }
 {
     put_cost(out, function.name.bytes(), function.cost)
 }
 
 /// Puts the cost of each function.
 pub fn put_costs<K: Sink>(out: &mut K, functions: &[FunctionRecord]) -> Result<(), SinkFault>
-    ensures { PutsAll (K.view out.old) (K.view out.new) (cost_lines functions.now) result }
+    ensures { PutsOn K.view out.old out.new (cost_lines functions.now) result }
 {
     for function in functions {
         put_record(out, function)?;

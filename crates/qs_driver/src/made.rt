@@ -3,7 +3,7 @@
 ghost use Rattle.std.specs.Prelude.{◌≡◌, IfOk};
 ghost use Rattle.qs_driver.specs.Bounds.{costs_in};
 ghost use Rattle.qs_driver.specs.Certified.{words_in};
-ghost use Rattle.qs_driver.specs.Made.{make_words, Makes, MakesCertified};
+ghost use Rattle.qs_driver.specs.Made.{MakesCertified, MakesOn};
 
 use crate::Status;
 use crate::arguments::image_words;
@@ -64,8 +64,7 @@ pub fn make<S: Store>(
     inputs: &CertifyOrder<'_>,
     args: &[i64],
 ) -> Result<Made, Status>
-    ensures { Makes (make_words (words_in inputs.now) args.now)
-        (S.view store.old) (S.view store.new) result }
+    ensures { MakesOn S.view store.old store.new (words_in inputs.now) args.now result }
 {
     let certified = read_certified(alloc, store, inputs)?;
     make_certified(alloc, &certified, args)

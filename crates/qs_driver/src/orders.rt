@@ -1,7 +1,10 @@
 // The words of each command, as the command takes them.
-ghost use Rattle.std.specs.Prelude.{◌≡◌, option_map, string_bytes};
+ghost use Rattle.std.specs.Prelude.{◌≡◌};
 ghost use Rattle.qs_cli.specs.Reading.{text_of};
 ghost use Rattle.qs_driver.specs.Certified as certified;
+ghost use Rattle.qs_driver.specs.Names.{name_in};
+ghost use Rattle.qs_driver.specs.Orders.{to_bound, to_build, to_check, to_derive, to_exec};
+ghost use Rattle.qs_driver.specs.Orders.{to_outline, to_run, to_sample};
 ghost use Rattle.qs_driver.specs.commands.Bound as bound;
 ghost use Rattle.qs_driver.specs.commands.Build as build;
 ghost use Rattle.qs_driver.specs.commands.Derive as derive;
@@ -20,7 +23,7 @@ use crate::commands::run::RunOrder;
 use crate::commands::sample::SampleOrder;
 
 fn name_in(name: &Option<String>) -> Option<&str>
-    ensures { option_map (λ name. name.now) result ≡ text_of name.now }
+    ensures { name_in result ≡ text_of name.now }
 {
     name.as_ref().map(|name| name.as_str())
 }
@@ -30,8 +33,7 @@ pub fn to_build<'a>(
     proof: &'a Option<String>,
     out: &'a String,
 ) -> BuildOrder<'a>
-    ensures { build.words_in result
-        ≡ build.build_words (string_bytes source.now) (text_of proof.now) (string_bytes out.now) }
+    ensures { build.words_in result ≡ to_build source.now proof.now out.now }
 {
     BuildOrder {
         source: source.as_str(),
@@ -41,8 +43,7 @@ pub fn to_build<'a>(
 }
 
 pub fn to_check<'a>(source: &'a String, proof: &'a Option<String>) -> CertifyOrder<'a>
-    ensures { certified.words_in result
-        ≡ certified.certify_words (string_bytes source.now) (text_of proof.now) }
+    ensures { certified.words_in result ≡ to_check source.now proof.now }
 {
     CertifyOrder {
         source: source.as_str(),
@@ -55,8 +56,7 @@ pub fn to_bound<'a>(
     proof: &'a Option<String>,
     args: &'a Vec<i64>,
 ) -> BoundOrder<'a>
-    ensures { bound.words_in result
-        ≡ bound.bound_words (string_bytes source.now) (text_of proof.now) args.now.items }
+    ensures { bound.words_in result ≡ to_bound source.now proof.now args.now }
 {
     BoundOrder {
         source: source.as_str(),
@@ -66,8 +66,7 @@ pub fn to_bound<'a>(
 }
 
 pub fn to_derive<'a>(source: &'a String, out: &'a String) -> DeriveOrder<'a>
-    ensures { derive.words_in result
-        ≡ derive.derive_words (string_bytes source.now) (string_bytes out.now) }
+    ensures { derive.words_in result ≡ to_derive source.now out.now }
 {
     DeriveOrder {
         source: source.as_str(),
@@ -76,7 +75,7 @@ pub fn to_derive<'a>(source: &'a String, out: &'a String) -> DeriveOrder<'a>
 }
 
 pub fn to_outline(source: &String) -> OutlineOrder<'_>
-    ensures { outline.words_in result ≡ outline.outline_words (string_bytes source.now) }
+    ensures { outline.words_in result ≡ to_outline source.now }
 {
     OutlineOrder {
         source: source.as_str(),
@@ -90,8 +89,7 @@ pub fn to_run<'a>(
     input: &'a Option<String>,
     steps: u64,
 ) -> RunOrder<'a>
-    ensures { run.words_in result
-        ≡ run.run_words (string_bytes image.now) stack args.now.items (text_of input.now) steps }
+    ensures { run.words_in result ≡ to_run image.now stack args.now input.now steps }
 {
     RunOrder {
         image: image.as_str(),
@@ -109,9 +107,7 @@ pub fn to_exec<'a>(
     input: &'a Option<String>,
     steps: u64,
 ) -> ExecOrder<'a>
-    ensures { exec.words_in result
-        ≡ exec.exec_words (string_bytes source.now) (text_of proof.now) args.now.items
-        (text_of input.now) steps }
+    ensures { exec.words_in result ≡ to_exec source.now proof.now args.now input.now steps }
 {
     ExecOrder {
         source: source.as_str(),
@@ -123,7 +119,7 @@ pub fn to_exec<'a>(
 }
 
 pub fn to_sample(count: u64, out: &Option<String>) -> SampleOrder<'_>
-    ensures { sample.words_in result ≡ sample.sample_words count (text_of out.now) }
+    ensures { sample.words_in result ≡ to_sample count out.now }
 {
     SampleOrder {
         count,

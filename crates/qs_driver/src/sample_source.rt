@@ -1,5 +1,5 @@
 // The source of a sample.
-ghost use Rattle.std.specs.Prelude.{◌≡◌, ◌++◌, ◌<◌, ◌-◌, ◌^◌, IfOk, OnOk, decimal};
+ghost use Rattle.std.specs.Prelude.{◌≡◌, ◌<◌, ◌-◌, ◌^◌, IfOk, decimal};
 ghost use Rattle.qs_driver.specs.SampleSource as meant;
 
 use itoa::Buffer;
@@ -7,22 +7,21 @@ use qs_base::NoMemory;
 use std::alloc::Global;
 
 fn put(text: &mut Vec<u8>, piece: &[u8]) -> Result<(), NoMemory>
-    ensures { OnOk result (text.new.items ≡ text.old.items ++ piece.now) }
+    ensures { meant.Adds text.old text.new piece.now result }
 {
     text.extend_from_slice(piece)?;
     Ok(())
 }
 
 fn put_number(text: &mut Vec<u8>, number: u64) -> Result<(), NoMemory>
-    ensures { OnOk result (text.new.items ≡ text.old.items ++ decimal number) }
+    ensures { meant.Adds text.old text.new (decimal number) result }
 {
     let mut digits = Buffer::new();
     put(text, digits.format(number).as_bytes())
 }
 
 fn put_between(text: &mut Vec<u8>, head: &[u8], number: u64, tail: &[u8]) -> Result<(), NoMemory>
-    ensures { OnOk result (text.new.items
-        ≡ text.old.items ++ (head.now ++ decimal number ++ tail.now)) }
+    ensures { meant.Adds text.old text.new (meant.between head.now number tail.now) result }
 {
     put(text, head)?;
     put_number(text, number)?;
@@ -31,7 +30,7 @@ fn put_between(text: &mut Vec<u8>, head: &[u8], number: u64, tail: &[u8]) -> Res
 
 // The function of this number, which calls that of the other.
 fn put_calling(text: &mut Vec<u8>, number: u64, callee: u64) -> Result<(), NoMemory>
-    ensures { OnOk result (text.new.items ≡ text.old.items ++ meant.calling number callee) }
+    ensures { meant.Adds text.old text.new (meant.calling number callee) result }
 {
     put_between(text, b"int f", number, b"(int x)")?;
     put_between(text, b"{return f", callee, b"(x+1);}\n")
@@ -40,7 +39,7 @@ fn put_calling(text: &mut Vec<u8>, number: u64, callee: u64) -> Result<(), NoMem
 // The function that comes after so many others.
 fn put_function(text: &mut Vec<u8>, before: u64) -> Result<(), NoMemory>
     requires { before < 2 ^ 64 - 1 }
-    ensures { OnOk result (text.new.items ≡ text.old.items ++ meant.function_after before) }
+    ensures { meant.Adds text.old text.new (meant.function_after before) result }
 {
     if before == 0 {
         put(text, b"int f1(int x){return x+1;}\n")
@@ -51,7 +50,7 @@ fn put_function(text: &mut Vec<u8>, before: u64) -> Result<(), NoMemory>
 
 // As many functions.
 fn put_functions(text: &mut Vec<u8>, count: u64) -> Result<(), NoMemory>
-    ensures { OnOk result (text.new.items ≡ text.old.items ++ meant.functions count) }
+    ensures { meant.Adds text.old text.new (meant.functions count) result }
 {
     for before in 0..count {
         put_function(text, before)?;
@@ -61,7 +60,7 @@ fn put_functions(text: &mut Vec<u8>, count: u64) -> Result<(), NoMemory>
 
 // The function main, which calls the last one.
 fn put_main(text: &mut Vec<u8>, count: u64) -> Result<(), NoMemory>
-    ensures { OnOk result (text.new.items ≡ text.old.items ++ meant.main_function count) }
+    ensures { meant.Adds text.old text.new (meant.main_function count) result }
 {
     put_between(
         text,

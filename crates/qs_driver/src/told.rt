@@ -1,9 +1,9 @@
 // A fault of an entry of a proof file, as the tool tells it: where it is, and what is wrong there.
-ghost use Rattle.std.specs.Prelude.{◌≡◌, ◌<◌, IfOk, length, List, Option, ℕ};
+ghost use Rattle.std.specs.Prelude.{◌≡◌, ◌<◌, IfOk, length, ℕ};
 ghost use Rattle.qs_core.specs.Trees.{CoreUnitTree};
 ghost use Rattle.qs_core.specs.UnitTrees.{unit_tree};
 ghost use Rattle.qs_driver.specs.Certified.{IsCertificateTold, IsEntryTold, IsMentionPlace};
-ghost use Rattle.qs_driver.specs.Certified.{IsToldAs, TellsFault};
+ghost use Rattle.qs_driver.specs.Certified.{IsWrong, TellsOfAnyFile, TellsWrong};
 ghost use Rattle.qs_driver.specs.Told.{owner_of};
 ghost use Rattle.qs_certify.specs.Entries.{IsMet};
 ghost use Rattle.qs_certify.specs.declared.fault.CertifyFault.TheVariants as faults;
@@ -71,8 +71,7 @@ fn mention_told(
     x: Var,
 ) -> Result<Wrong, NoMemory>
     requires { f.0 < length unit.now.functions.items }
-    ensures { IfOk result (λ wrong.
-        IsToldAs (unit_tree unit.now) f.0 (entries.Mentions place callee x) wrong.spot wrong.text) }
+    ensures { TellsWrong (unit_tree unit.now) f.0 (entries.Mentions place callee x) result }
 {
     Ok(Wrong {
         text: ProofText::Mentions(variable_text(alloc, unit, owner_of(f, callee), &x)?),
@@ -100,8 +99,7 @@ fn certificate_told(fault: CertFault) -> Result<WrongStep, NoMemory>
 // The fault of a certificate in the derivation, at the node of this path.
 #[tactic(auto, using(crate::proofs::ToldLaws::body_is_told))]
 fn body_told(node: Vec<usize>, fault: CertFault) -> Result<Wrong, NoMemory>
-    ensures { (u : CoreUnitTree) (f : ℕ)
-        → IfOk result (λ wrong. IsToldAs u f (entries.Cert node fault) wrong.spot wrong.text) }
+    ensures { (u : CoreUnitTree) (f : ℕ) → TellsWrong u f (entries.Cert node fault) result }
 {
     let inner = certificate_told(fault)?;
     Ok(Wrong {
@@ -113,8 +111,7 @@ fn body_told(node: Vec<usize>, fault: CertFault) -> Result<Wrong, NoMemory>
 // The fault of the certificate of the entry's precondition.
 #[tactic(auto, using(crate::proofs::ToldLaws::entry_is_told))]
 fn precondition_told(fault: CertFault) -> Result<Wrong, NoMemory>
-    ensures { (u : CoreUnitTree) (f : ℕ)
-        → IfOk result (λ wrong. IsToldAs u f (entries.Entry fault) wrong.spot wrong.text) }
+    ensures { (u : CoreUnitTree) (f : ℕ) → TellsWrong u f (entries.Entry fault) result }
 {
     let inner = certificate_told(fault)?;
     Ok(Wrong {
@@ -125,8 +122,7 @@ fn precondition_told(fault: CertFault) -> Result<Wrong, NoMemory>
 
 #[tactic(auto, using(crate::proofs::ToldLaws::shape_is_told))]
 fn shape_told(path: Vec<usize>) -> Wrong
-    ensures { (u : CoreUnitTree) (f : ℕ)
-        → IsToldAs u f (entries.Shape path) result.spot result.text }
+    ensures { (u : CoreUnitTree) (f : ℕ) → IsWrong u f (entries.Shape path) result }
 {
     Wrong {
         spot: Spot::Body(path_of(path)),
@@ -137,7 +133,7 @@ fn shape_told(path: Vec<usize>) -> Wrong
 fn fault_told(alloc: Global, unit: &CoreUnit, f: FnId, fault: DerivFault) -> Result<Wrong, NoMemory>
     requires known { f.0 < length unit.now.functions.items }
     requires met { IsMet fault }
-    ensures { IfOk result (λ wrong. IsToldAs (unit_tree unit.now) f.0 fault wrong.spot wrong.text) }
+    ensures { TellsWrong (unit_tree unit.now) f.0 fault result }
 {
     match fault {
         DerivFault::NoMemory => Err(NoMemory),
@@ -174,8 +170,7 @@ fn named(alloc: Global, unit: &CoreUnit, f: FnId, fault: DerivFault) -> Result<P
 pub fn entry_told(alloc: Global, unit: &CoreUnit, f: FnId, fault: DerivFault) -> Status
     requires known { f.0 < length unit.now.functions.items }
     requires met { IsMet fault }
-    ensures { (file : Option (List ℕ))
-        → TellsFault (unit_tree unit.now) file (faults.Entry f fault) result }
+    ensures { TellsOfAnyFile (unit_tree unit.now) (faults.Entry f fault) result }
 {
     match named(alloc, unit, f, fault) {
         Ok(fault) => Status::Proof(fault),

@@ -1,10 +1,8 @@
 // The top call: reads the words, and hands the devices to their command.
-ghost use Rattle.std.specs.Prelude.{Some, map, string_bytes};
 ghost use Rattle.qs_cli.specs.Reading.{command_of};
-ghost use Rattle.qs_driver.specs.Devices.{views, views_left, views_of};
-ghost use Rattle.qs_driver.specs.Promises.{LacksMemory, Promises};
-ghost use Rattle.qs_driver.specs.Task.{Answers};
-ghost use Rattle.qs_driver.specs.Tool.{task, task_of, IsMeant};
+ghost use Rattle.qs_driver.specs.Promises.{Keeps, LacksMemoryOn};
+ghost use Rattle.qs_driver.specs.Task.{AnswersOn};
+ghost use Rattle.qs_driver.specs.Tool.{task_in, to_do, IsMeant};
 
 use crate::Status;
 use crate::commands::bound::bound;
@@ -33,9 +31,7 @@ fn perform<S: Store, O: Sink, L: Sink>(
     devices: Devices<'_, S, O, L>,
 ) -> Status
     requires { IsMeant (command_of command.now) }
-    ensures { let before = views S.view O.view L.view devices.entry in
-        let after = views_left S.view O.view L.view devices.exit in
-        Answers (task_of (Some (command_of command.now))) before after result }
+    ensures { AnswersOn S.view O.view L.view devices.entry devices.exit (to_do command.now) result }
 {
     match command {
         Command::Build { source, proof, out } => {
@@ -69,9 +65,7 @@ fn perform<S: Store, O: Sink, L: Sink>(
 
 // No memory was found for the words.
 fn lacks_memory<S: Store, O: Sink, L: Sink>(devices: Devices<'_, S, O, L>) -> Status
-    ensures { let before = views S.view O.view L.view devices.entry in
-        let after = views_left S.view O.view L.view devices.exit in
-        LacksMemory before after result }
+    ensures { LacksMemoryOn S.view O.view L.view devices.entry devices.exit result }
 {
     let Devices {
         store: _,
@@ -87,15 +81,10 @@ fn lacks_memory<S: Store, O: Sink, L: Sink>(devices: Devices<'_, S, O, L>) -> St
 pub fn run_tool<S: Store, O: Sink, L: Sink>(
     alloc: Global,
     words: &[String],
-    store: &mut S,
-    out: &mut O,
-    log: &mut L,
+    devices: Devices<'_, S, O, L>,
 ) -> Status
-    ensures { let before = views_of (S.view store.old) (O.view out.old) (L.view log.old) in
-        let after = views_of (S.view store.new) (O.view out.new) (L.view log.new) in
-        Promises (task (map string_bytes words.now)) before after result }
+    ensures { Keeps S.view O.view L.view devices.entry devices.exit (task_in words.now) result }
 {
-    let devices = Devices { store, out, log };
     match read_words(alloc, words) {
         Ok(command) => perform(alloc, &command, devices),
         Err(CliFault::Usage) => usage(devices),

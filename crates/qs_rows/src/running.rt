@@ -5,7 +5,7 @@ use crate::printing::{
 };
 use crate::row::{Act, NamedFile, Row};
 use qs_base::NoMemory;
-use qs_driver::run_tool;
+use qs_driver::{Devices, run_tool};
 use qs_ports::{MemSink, MemStore};
 use std::alloc::{AllocError, Global};
 
@@ -46,7 +46,12 @@ fn call(alloc: Global, row: &Row, store: MemStore) -> Result<Ran, TableFault> {
     let mut store = store;
     let mut out = sink_of(alloc, row, &row.out_fails)?;
     let mut log = sink_of(alloc, row, &row.log_fails)?;
-    let status = run_tool(alloc, &row.words, &mut store, &mut out, &mut log);
+    let devices = Devices {
+        store: &mut store,
+        out: &mut out,
+        log: &mut log,
+    };
+    let status = run_tool(alloc, &row.words, devices);
     Ok(Ran {
         status: status.code(),
         out: Vec::from_slice(alloc, out.written())?,

@@ -1,5 +1,5 @@
 // The tool over real files.
-use qs_driver::run_tool;
+use qs_driver::{Devices, run_tool};
 use qs_ports::{DirStore, StdSink};
 use std::alloc::{AllocError, Global};
 use std::fs::{self, File};
@@ -51,7 +51,12 @@ fn real_files(rt: HostRuntime) -> Result<(), Fail> {
         (source.as_str(), source.as_str(), 3),
     ] {
         let words = words_of(alloc, from, to)?;
-        let ended = run_tool(alloc, &words, &mut store, &mut lines, &mut faults);
+        let devices = Devices {
+            store: &mut store,
+            out: &mut lines,
+            log: &mut faults,
+        };
+        let ended = run_tool(alloc, &words, devices);
         assert_eq!(rt; ended.code(), code);
     }
     let told = format!(in alloc;

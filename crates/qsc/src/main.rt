@@ -1,7 +1,7 @@
 //! The program `qsc`: the tool over the real files and streams.
 #![tactic(auto)]
 
-use qs_driver::{Status, run_tool};
+use qs_driver::{Devices, Status, run_tool};
 use qs_ports::{DirStore, Sink, StdSink, put_all};
 use std::alloc::Global;
 use std::env::{self, Env};
@@ -55,7 +55,12 @@ fn main(rt: HostRuntime) -> ExitCode {
     let status = match words_of(&rt, alloc) {
         Some(words) => {
             let mut store = DirStore::new(rt);
-            run_tool(alloc, &words, &mut store, &mut out, &mut log)
+            let devices = Devices {
+                store: &mut store,
+                out: &mut out,
+                log: &mut log,
+            };
+            run_tool(alloc, &words, devices)
         }
         None => without_words(&mut log),
     };

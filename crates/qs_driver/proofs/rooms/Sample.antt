@@ -29,7 +29,7 @@ use Rattle.qs_driver.specs.SampleSource.{sample_text}
 use Rattle.qs_driver.specs.Source.{IsTypedAs}
 use Rattle.qs_driver.specs.Task.{Answers}
 use Rattle.qs_driver.specs.commands.Exec.{as_run, IsSourcesEnd, IsStackOf, LoadsImage}
-use Rattle.qs_driver.specs.commands.Sample.{SampleWords, names_of, as_exec, counted, outcome, sample, sample_lines, due_of, HasStarted, HasWritten, IsDueAt, IsDueToSample, ComesTo, RunsCounted, Samples, WritesSource}
+use Rattle.qs_driver.specs.commands.Sample.{SampleWords, names_of, as_exec, counted, outcome, sample, sample_lines, due_of, HasStarted, HasWritten, IsDueAt, IsDueToSample, ComesTo, RunsCounted, Samples, WritesText}
 use Rattle.qs_driver.specs.commands.Sample as meant
 use Rattle.qs_driver.specs.declared.certified.CertifiedUnit.{CertifiedUnit}
 use Rattle.qs_driver.specs.declared.commands.sample.SampleStart.{SampleStart}
@@ -125,7 +125,7 @@ module _ {text : List ℕ} {started : SampleStart} (h : HasStarted text started)
 
 -- ---- the source in the out file
 
-pub nothing_written : (v : StoreView) (text : List ℕ) → WritesSource None text v v (Ok tt)
+pub nothing_written : (v : StoreView) (text : List ℕ) → WritesText None text v v (Ok tt)
 nothing_written v text = untouched v
 
 -- ---- what the work comes to
@@ -133,12 +133,12 @@ nothing_written v text = untouched v
 pub no_text : (w : SampleWords) (v : StoreView) → Samples w v v (Err NoMemory)
 no_text w v = meant.refused NoMemory (meant.no_memory (inl (untouched v)) refl) refl
 
-not_written : (w : SampleWords) (out : Option (List ℕ)) (v u : StoreView) (status : Status) → w.out ≡ out → WritesSource out (sample_text w.count) v u (Err status) → Samples w v u (Err status)
+not_written : (w : SampleWords) (out : Option (List ℕ)) (v u : StoreView) (status : Status) → w.out ≡ out → WritesText out (sample_text w.count) v u (Err status) → Samples w v u (Err status)
 not_written w None v u status is h = absurd h
 not_written w (Some name) v u status is (e, failed, part) =
     meant.refused status (meant.unwritable (record { name = name; named = is; part = part; failed = failed }) e) refl
 
-pub source_not_written : (w : SampleWords) (v u : StoreView) (status : Status) → WritesSource w.out (sample_text w.count) v u (Err status) → Samples w v u (Err status)
+pub source_not_written : (w : SampleWords) (v u : StoreView) (status : Status) → WritesText w.out (sample_text w.count) v u (Err status) → Samples w v u (Err status)
 source_not_written w v u status h = not_written w w.out v u status refl h
 
 pub out_of_memory : (w : SampleWords) (v u : StoreView) (status : Status) → status ≡ NoMemory → HasWritten w.out (sample_text w.count) v u → Samples w v u (Err status)

@@ -1,10 +1,10 @@
 -- `bound`: what each function of a source costs, and the bound of main at some arguments.
-use Rattle.std.specs.Prelude.{◌≡◌, ℕ, ℤ, List, [], ◌∷◌, ◌++◌, IsTrue, Option, Result, Ok, Err, option_map}
+use Rattle.std.specs.Prelude.{◌≡◌, ℕ, ℤ, List, [], ◌∷◌, ◌++◌, IsTrue, Option, Result, Ok, Err}
 use Rattle.qs_assert.specs.declared.define.Amount.{Amount}
 use Rattle.qs_ports.specs.StoreView.{StoreView}
 use Rattle.qs_image.specs.Image.{Image, FunctionRecord}
 use Rattle.qs_report.specs.Lines.{bound_line}
-use Rattle.qs_driver.specs.Names.{Names, no_names}
+use Rattle.qs_driver.specs.Names.{Names, no_names, name_in}
 use Rattle.qs_driver.specs.Faults.{shown_of}
 use Rattle.qs_driver.specs.Lines.{cost_lines}
 use Rattle.qs_driver.specs.Steps.{on_out}
@@ -31,8 +31,7 @@ bound_words source proof args = record { source = source; proof = proof; args = 
 
 -- the words as the code holds them
 abbrev pub words_in : BoundOrder → BoundWords
-words_in order =
-    bound_words order.source.now (option_map (λ name. name.now) order.proof) order.args.now
+words_in order = bound_words order.source.now (name_in order.proof) order.args.now
 
 -- those of what is made
 abbrev pub to_make : BoundWords → MakeWords
@@ -44,12 +43,12 @@ names_of b = record no_names { source = b.source; derivation = proof_name b.proo
 -- ---- what is due
 
 -- the cost of each function, and then the bound
+abbrev pub bounded_lines : List FunctionRecord → Amount → List ℕ
+bounded_lines functions bound = cost_lines functions ++ bound_line (shown_of bound)
+
 abbrev pub costs_and_bound : List FunctionRecord → Amount → Due
 costs_and_bound functions bound =
-    record {
-      status = Done;
-      steps = on_out (cost_lines functions ++ bound_line (shown_of bound)) ∷ [];
-    }
+    record { status = Done; steps = on_out (bounded_lines functions bound) ∷ [] }
 
 -- `out` gets the costs of the image's records, and what main costs with the value of its precondition at the arguments.
 pub record HasBound (b : BoundWords) (before after : StoreView) (due : Due) : Type 0 where
@@ -90,9 +89,17 @@ pub record Refuses (b : BoundWords) (before : StoreView) (status : Status) : Typ
 abbrev pub bound : BoundWords → Task
 bound b = record { IsDue = IsDueToBound b; Accepts = Accepts b; Refuses = Refuses b }
 
+-- the task of the words that the code holds
+abbrev pub to_do : BoundOrder → Task
+to_do order = bound (words_in order)
+
 -- ---- what the parts of the code answer
 
 -- what is due after the work on the store
 abbrev pub due_of : BoundWords → Result Made Status → Due
 due_of b (Ok made) = costs_and_bound made.image.functions made.bound
 due_of b (Err status) = refusal (names_of b) status
+
+-- the same, where the code holds the words
+abbrev pub due_to : BoundOrder → Result Made Status → Due
+due_to order work = due_of (words_in order) work

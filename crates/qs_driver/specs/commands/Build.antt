@@ -1,9 +1,9 @@
 -- `build`: from the source and its proof file in the store to the image in the store.
-use Rattle.std.specs.Prelude.{◌≡◌, ◌⊎◌, ◌↔◌, ℕ, List, [], ◌∷◌, IsTrue, Option, Some, Result, Ok, Err, option_map}
+use Rattle.std.specs.Prelude.{◌≡◌, ◌⊎◌, ◌↔◌, ℕ, List, [], ◌∷◌, IsTrue, Option, Some, Result, Ok, Err}
 use Rattle.qs_ports.specs.StoreView.{StoreView, HasSameCounts, HasFailed}
 use Rattle.qs_ports.specs.Whole.{Stores, IsCutShort}
 use Rattle.qs_image.specs.Image.{Image, IsImage}
-use Rattle.qs_driver.specs.Names.{Names, no_names}
+use Rattle.qs_driver.specs.Names.{Names, no_names, name_in}
 use Rattle.qs_driver.specs.Lines.{cost_lines}
 use Rattle.qs_driver.specs.Steps.{on_out}
 use Rattle.qs_driver.specs.Due.{Due, refusal, IsRefusal}
@@ -30,8 +30,7 @@ build_words source proof out = record { source = source; proof = proof; out = ou
 
 -- the words as the code holds them
 abbrev pub words_in : BuildOrder → BuildWords
-words_in order =
-    build_words order.source.now (option_map (λ name. name.now) order.proof) order.out.now
+words_in order = build_words order.source.now (name_in order.proof) order.out.now
 
 -- those that name what is certified
 abbrev pub inputs : BuildWords → CertifyWords
@@ -124,12 +123,20 @@ pub record Refuses (b : BuildWords) (before : StoreView) (status : Status) : Typ
 abbrev pub build : BuildWords → Task
 build b = record { IsDue = IsDueToBuild b; Accepts = Accepts b; Refuses = Refuses b }
 
+-- the task of the words that the code holds
+abbrev pub to_do : BuildOrder → Task
+to_do order = build (words_in order)
+
 -- ---- what the parts of the code answer
 
 -- what is due after the work on the store
 abbrev pub due_of : BuildWords → Result Image Status → Due
 due_of b (Ok image) = costs image
 due_of b (Err status) = refusal (names_of b) status
+
+-- the same, where the code holds the words
+abbrev pub due_to : BuildOrder → Result Image Status → Due
+due_to order work = due_of (words_in order) work
 
 -- the answer of `build_image`
 abbrev pub Builds : BuildWords → StoreView → StoreView → Result Image Status → Type 0

@@ -7,9 +7,10 @@ use Rattle.qs_driver.specs.Names.{Names, no_names}
 use Rattle.qs_driver.specs.Due.{Due, IsRefusal}
 use Rattle.qs_driver.specs.Counts.{counted, counted_or_refused}
 use Rattle.qs_driver.specs.Files.{IsUntouched}
-use Rattle.qs_driver.specs.Certified.{CertifyWords, proof_name, CertifiedSource, ReadsCertified, LacksCertified, HoldsRight, IsOfCertified, RefusesCertified}
+use Rattle.qs_driver.specs.Certified.{CertifyWords, words_in, proof_name, CertifiedSource, ReadsCertified, LacksCertified, HoldsRight, IsOfCertified, RefusesCertified}
 use Rattle.qs_driver.specs.Bounds.{IsBounded}
 use Rattle.qs_driver.specs.Task.{Task}
+use Rattle.qs_driver.specs.declared.certified.CertifyOrder.{CertifyOrder}
 use Rattle.qs_driver.specs.declared.status.Status.{Status}
 use Rattle.qs_driver.specs.declared.status.Status.TheVariants.{Done}
 
@@ -63,6 +64,10 @@ pub record Refuses (w : CertifyWords) (before : StoreView) (status : Status) : T
 
 abbrev pub check : CertifyWords → Task
 check w = record { IsDue = IsDueToCheck w; Accepts = Accepts w; Refuses = Refuses w }
+
+-- the task of the words that the code holds
+abbrev pub to_do : CertifyOrder → Task
+to_do order = check (words_in order)
 
 -- ---- what the parts of the code answer
 

@@ -122,6 +122,10 @@ pub record Refuses (d : DeriveWords) (before : StoreView) (status : Status) : Ty
 abbrev pub derive : DeriveWords → Task
 derive d = record { IsDue = IsDueToDerive d; Accepts = Accepts d; Refuses = Refuses d }
 
+-- the task of the words that the code holds
+abbrev pub to_do : DeriveOrder → Task
+to_do order = derive (words_in order)
+
 -- ---- what the parts of the code answer
 
 -- the answer of `derive_proofs`

@@ -1,8 +1,9 @@
 -- `exec`: a source is certified and compiled, and its image is run on a stack of exactly its bound.
-use Rattle.std.specs.Prelude.{◌≡◌, ◌⊎◌, ◌↔◌, ℕ, ◌<◌, ◌≤◌, ℤ, List, [], ◌∷◌, IsTrue, Option, Some, None, Result, Ok, Err, option_map}
+use Rattle.std.specs.Prelude.{◌≡◌, ◌⊎◌, ◌↔◌, ℕ, ◌<◌, ◌≤◌, ℤ, List, [], ◌∷◌, IsTrue, Option, Some, None, Result, Ok, Err}
 use Rattle.qs_assert.specs.declared.define.Amount.{Amount}
 use Rattle.qs_assert.specs.declared.define.Amount.TheVariants.{Finite, Infinite, Wide}
 use Rattle.qs_meaning.specs.Typed.{TypedProgram}
+use Rattle.qs_ports.specs.SinkView.{SinkView}
 use Rattle.qs_ports.specs.StoreView.{StoreView}
 use Rattle.qs_image.specs.Image.{Image, IsImage}
 use Rattle.qs_machine.specs.declared.answers.Cause.{Cause}
@@ -17,12 +18,12 @@ use Rattle.qs_emit.specs.Agree.{Begins, HasEndedWith, IsUndefinedWithin}
 use Rattle.qs_compile.specs.Agree.{IsInput}
 use Rattle.qs_report.specs.Lines.{bound_line, end_line}
 use Rattle.qs_report.specs.declared.fault_texts.Shown.TheVariants as shown
-use Rattle.qs_driver.specs.Names.{Names, no_names}
+use Rattle.qs_driver.specs.Names.{Names, no_names, name_in}
 use Rattle.qs_driver.specs.Faults.{status_line}
 use Rattle.qs_driver.specs.Limits.{input_limit}
 use Rattle.qs_driver.specs.Steps.{on_out, on_log}
 use Rattle.qs_driver.specs.Due.{Due, IsRefusal}
-use Rattle.qs_driver.specs.Devices.{Streams, views_of}
+use Rattle.qs_driver.specs.Devices.{Streams, streams, views_of}
 use Rattle.qs_driver.specs.Files.{IsUntouched, IsTooLong, CannotRead}
 use Rattle.qs_driver.specs.Certified.{certify_words, proof_name}
 use Rattle.qs_driver.specs.Made.{MakeWords, make_words, IsMade, CannotMake, FitsMain, IsOfMade, RefusesMade}
@@ -53,8 +54,8 @@ exec_words source proof args input steps =
 -- the words as the code holds them
 abbrev pub words_in : ExecOrder → ExecWords
 words_in order =
-    exec_words order.source.now (option_map (λ name. name.now) order.proof) order.args.now
-    (option_map (λ name. name.now) order.input) order.steps
+    exec_words order.source.now (name_in order.proof) order.args.now (name_in order.input)
+    order.steps
 
 -- those of what is made
 abbrev pub to_make : ExecWords → MakeWords
@@ -231,6 +232,10 @@ pub record Refuses (e : ExecWords) (before : StoreView) (status : Status) : Type
 abbrev pub exec : ExecWords → Task
 exec e = record { IsDue = IsDueToExec e; Accepts = Accepts e; Refuses = Refuses e }
 
+-- the task of the words that the code holds
+abbrev pub to_do : ExecOrder → Task
+to_do order = exec (words_in order)
+
 -- ---- what the parts of the code answer
 
 -- the answer of `stack_of`
@@ -274,3 +279,11 @@ abbrev pub RunsFrom : ExecWords → Result Started Status → Streams → Stream
 RunsFrom e started v w result =
     (before after : StoreView) → Starts e before after started
     → Answers (exec e) (views_of before v.out v.log) (views_of after w.out w.log) result
+
+-- the same of the two streams that are seen by these views, as the code is handed them and as it leaves them
+abbrev pub RunsOn :
+    {O L : Type 0} → (O → SinkView) → (L → SinkView) → (out out' : O) → (log log' : L) → ExecOrder
+    → Result Started Status → Status → Type 0
+RunsOn out_view log_view out out' log log' order started result =
+    RunsFrom (words_in order) started (streams (out_view out) (log_view log))
+    (streams (out_view out') (log_view log')) result

@@ -87,12 +87,20 @@ pub record Refuses (o : OutlineWords) (before : StoreView) (status : Status) : T
 abbrev pub outline : OutlineWords → Task
 outline o = record { IsDue = IsDueToOutline o; Accepts = Accepts o; Refuses = Refuses o }
 
+-- the task of the words that the code holds
+abbrev pub to_do : OutlineOrder → Task
+to_do order = outline (words_in order)
+
 -- ---- what the parts of the code answer
 
 -- what is due after the work on the store
 abbrev pub due_of : OutlineWords → Result (Vec ℕ Global) Status → Due
 due_of o (Ok text) = printed text.items
 due_of o (Err status) = refusal (names_of o) status
+
+-- the same, where the code holds the words
+abbrev pub due_to : OutlineOrder → Result (Vec ℕ Global) Status → Due
+due_to order work = due_of (words_in order) work
 
 -- the answer of `outline_text`
 abbrev pub Outlines : OutlineWords → StoreView → StoreView → Result (Vec ℕ Global) Status → Type 0

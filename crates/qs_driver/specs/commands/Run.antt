@@ -1,5 +1,5 @@
 -- `run`: an image on a stack of a given size.
-use Rattle.std.specs.Prelude.{◌≡◌, ◌≢◌, ℕ, ℤ, ◌<◌, ◌≤◌, List, [], ◌∷◌, length, IsTrue, ltb, eqb, if◌then◌else◌, Option, Some, None, Result, Ok, Err, Vec, option_map}
+use Rattle.std.specs.Prelude.{◌≡◌, ◌≢◌, ℕ, ℤ, ◌<◌, ◌≤◌, List, [], ◌∷◌, length, IsTrue, ltb, eqb, if◌then◌else◌, Option, Some, None, Result, Ok, Err, Vec}
 use Rattle.std.specs.declared.alloc.Global.{Global}
 use Rattle.qs_ports.specs.StoreView.{StoreView}
 use Rattle.qs_ports.specs.SinkView.{SinkView}
@@ -15,10 +15,10 @@ use Rattle.qs_machine.specs.declared.answers.Cause.{Cause}
 use Rattle.qs_machine.specs.declared.answers.RunEnd.{RunEnd}
 use Rattle.qs_machine.specs.declared.answers.RunEnd.TheVariants as end
 use Rattle.qs_driver.specs.Limits.{image_limit, input_limit}
-use Rattle.qs_driver.specs.Names.{Names, no_names}
+use Rattle.qs_driver.specs.Names.{Names, no_names, name_in}
 use Rattle.qs_report.specs.Lines.{end_line}
 use Rattle.qs_driver.specs.Faults.{status_line}
-use Rattle.qs_driver.specs.Devices.{Streams, views_of}
+use Rattle.qs_driver.specs.Devices.{Streams, streams, views_of}
 use Rattle.qs_driver.specs.Steps.{on_out, on_log}
 use Rattle.qs_driver.specs.Due.{Due, IsRefusal, EndsWith}
 use Rattle.qs_driver.specs.Files.{IsUntouched, HoldsContent, HoldsWith, WasReadAs, WasReadWith, CannotRead, ReadsFile}
@@ -50,8 +50,7 @@ run_words image stack args input steps =
 -- the words as the code holds them
 abbrev pub words_in : RunOrder → RunWords
 words_in order =
-    run_words order.image.now order.stack order.args.now
-    (option_map (λ name. name.now) order.input) order.steps
+    run_words order.image.now order.stack order.args.now (name_in order.input) order.steps
 
 abbrev pub input_name : Option (List ℕ) → List ℕ
 input_name None = []
@@ -265,6 +264,10 @@ pub record Refuses (r : RunWords) (before : StoreView) (status : Status) : Type 
 abbrev pub run : RunWords → Task
 run r = record { IsDue = IsDueToRun r; Accepts = Accepts r; Refuses = Refuses r }
 
+-- the task of the words that the code holds
+abbrev pub to_do : RunOrder → Task
+to_do order = run (words_in order)
+
 -- ---- what the parts of the code answer
 
 -- why bytes aren't loaded
@@ -341,3 +344,11 @@ abbrev pub RunsFrom : RunWords → Result Ready Status → Streams → Streams �
 RunsFrom r prepared v w result =
     (before after : StoreView) → Prepares r before after prepared
     → Answers (run r) (views_of before v.out v.log) (views_of after w.out w.log) result
+
+-- the same of the two streams that are seen by these views, as the code is handed them and as it leaves them
+abbrev pub RunsOn :
+    {O L : Type 0} → (O → SinkView) → (L → SinkView) → (out out' : O) → (log log' : L) → RunOrder
+    → Result Ready Status → Status → Type 0
+RunsOn out_view log_view out out' log log' order prepared result =
+    RunsFrom (words_in order) prepared (streams (out_view out) (log_view log))
+    (streams (out_view out') (log_view log')) result

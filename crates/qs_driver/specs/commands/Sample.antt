@@ -1,6 +1,6 @@
 -- `sample`: a source of as many functions as asked for, each of which calls the one before. It is certified, compiled and
 -- run on a stack of exactly its bound, and what it puts is counted.
-use Rattle.std.specs.Prelude.{◌≡◌, ◌⊎◌, ℕ, ◌≤◌, List, [], ◌∷◌, ◌++◌, length, Option, Some, None, Result, Ok, Err, option_map}
+use Rattle.std.specs.Prelude.{◌≡◌, ◌⊎◌, ℕ, ◌≤◌, List, [], ◌∷◌, ◌++◌, length, Option, Some, None, Result, Ok, Err}
 use Rattle.qs_assert.specs.declared.define.Amount.TheVariants.{Finite}
 use Rattle.qs_ports.specs.StoreView.{StoreView, HasSameCounts, HasFailed}
 use Rattle.qs_ports.specs.Whole.{Stores, IsCutShort}
@@ -14,7 +14,7 @@ use Rattle.qs_report.specs.Lines.{bound_line, count_line, end_line}
 use Rattle.qs_report.specs.declared.fault_texts.Count.TheVariants.{Functions, Output}
 use Rattle.qs_report.specs.declared.fault_texts.Shown.TheVariants as shown
 use Rattle.qs_cli.specs.Numbers.{default_steps}
-use Rattle.qs_driver.specs.Names.{Names, no_names}
+use Rattle.qs_driver.specs.Names.{Names, no_names, name_in}
 use Rattle.qs_driver.specs.Steps.{on_out}
 use Rattle.qs_driver.specs.Due.{Due, refusal, IsRefusal}
 use Rattle.qs_driver.specs.Files.{IsUntouched}
@@ -44,7 +44,7 @@ sample_words count out = record { count = count; out = out }
 
 -- the words as the code holds them
 abbrev pub words_in : SampleOrder → SampleWords
-words_in order = sample_words order.count (option_map (λ name. name.now) order.out)
+words_in order = sample_words order.count (name_in order.out)
 
 -- those of its run: no arguments, no input and the default steps
 abbrev pub as_exec : ExecWords
@@ -158,14 +158,18 @@ Refuses w before status = IsOfSample status
 abbrev pub sample : SampleWords → Task
 sample w = record { IsDue = IsDueToSample w; Accepts = Accepts w; Refuses = Refuses w }
 
+-- the task of the words that the code holds
+abbrev pub to_do : SampleOrder → Task
+to_do order = sample (words_in order)
+
 -- ---- what the parts of the code answer
 
 -- the answer of `write_source`
-abbrev pub WritesSource :
+abbrev pub WritesText :
     (out : Option (List ℕ)) → (text : List ℕ) → StoreView → StoreView → Result Unit Status → Type 0
-WritesSource out text before after (Ok t) = HasWritten out text before after
-WritesSource None text before after (Err status) = ⊥
-WritesSource (Some name) text before after (Err status) =
+WritesText out text before after (Ok t) = HasWritten out text before after
+WritesText None text before after (Err status) = ⊥
+WritesText (Some name) text before after (Err status) =
     (status ≡ StoreFailed kinds.Output) × HasFailed before after × IsCutShort before after name text
 
 -- a machine at the start of the image of this text, on a stack of exactly its bound
@@ -211,10 +215,18 @@ RunsCounted text started answer =
     (h : HasStarted text started)
     → (answer ≡ Err NoMemory) ⊎ ComesTo started (outcome h.image started.stack) answer
 
+-- the lines of a run that ended so
+abbrev pub lines_of : SampleEnd → List ℕ
+lines_of end = sample_lines end.functions end.stack end.output end.status
+
 -- what is due after the work
 abbrev pub due_of : SampleWords → Result SampleEnd Status → Due
 due_of w (Ok end) = counted end.functions end.stack end.output end.status
 due_of w (Err status) = refusal (names_of w) status
+
+-- the same, where the code holds the words
+abbrev pub due_to : SampleOrder → Result SampleEnd Status → Due
+due_to order work = due_of (words_in order) work
 
 -- the answer of `run_sample`
 abbrev pub Samples : SampleWords → StoreView → StoreView → Result SampleEnd Status → Type 0

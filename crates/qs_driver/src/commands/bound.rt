@@ -1,15 +1,12 @@
 // `bound`: what each function of a source costs, and the bound of main at some arguments.
-ghost use Rattle.std.specs.Prelude.{◌≡◌, ◌++◌};
-ghost use Rattle.qs_ports.specs.SinkView.{PutsAll};
-ghost use Rattle.qs_report.specs.Lines.{bound_line};
-ghost use Rattle.qs_driver.specs.Faults.{shown_of};
-ghost use Rattle.qs_driver.specs.Lines.{cost_lines};
+ghost use Rattle.std.specs.Prelude.{◌≡◌};
+ghost use Rattle.qs_ports.specs.SinkView.{PutsOn};
 ghost use Rattle.qs_driver.specs.Certified as meant;
-ghost use Rattle.qs_driver.specs.Devices.{streams, views, views_left};
-ghost use Rattle.qs_driver.specs.Due.{IsWritten};
+ghost use Rattle.qs_driver.specs.Due.{Writes};
 ghost use Rattle.qs_driver.specs.Names.{names_in};
-ghost use Rattle.qs_driver.specs.Task.{Answers};
-ghost use Rattle.qs_driver.specs.commands.Bound.{bound, due_of, names_of, to_make, words_in};
+ghost use Rattle.qs_driver.specs.Task.{AnswersOn};
+ghost use Rattle.qs_driver.specs.commands.Bound.{bounded_lines, due_to, names_of, to_do, to_make};
+ghost use Rattle.qs_driver.specs.commands.Bound.{words_in};
 
 use crate::Status;
 use crate::certified::CertifyOrder;
@@ -56,8 +53,7 @@ fn inputs_of<'a>(order: &BoundOrder<'a>) -> CertifyOrder<'a>
 
 // Puts the cost of each function, and then the bound.
 fn put_bounded<O: Sink>(out: &mut O, image: &Image, bound: Amount) -> Result<(), SinkFault>
-    ensures { PutsAll (O.view out.old) (O.view out.new)
-        (cost_lines image.now.functions ++ bound_line (shown_of bound)) result }
+    ensures { PutsOn O.view out.old out.new (bounded_lines image.now.functions bound) result }
 {
     put_costs(out, &image.functions)?;
     put_bound(out, shown_of(bound))
@@ -70,9 +66,7 @@ fn report<O: Sink, L: Sink>(
     out: &mut O,
     log: &mut L,
 ) -> Status
-    ensures { let before = streams (O.view out.old) (L.view log.old) in
-        let after = streams (O.view out.new) (L.view log.new) in
-        IsWritten (due_of (words_in order.now) work) before after result }
+    ensures { Writes O.view L.view out.old out.new log.old log.new (due_to order.now work) result }
 {
     match work {
         Ok(made) => status_after(put_bounded(out, &made.image, made.bound), Status::Done),
@@ -86,9 +80,7 @@ pub fn bound<S: Store, O: Sink, L: Sink>(
     order: &BoundOrder<'_>,
     devices: Devices<'_, S, O, L>,
 ) -> Status
-    ensures { let before = views S.view O.view L.view devices.entry in
-        let after = views_left S.view O.view L.view devices.exit in
-        Answers (bound (words_in order.now)) before after result }
+    ensures { AnswersOn S.view O.view L.view devices.entry devices.exit (to_do order.now) result }
 {
     let Devices { store, out, log } = devices;
     let work = make(alloc, store, &inputs_of(order), order.args);

@@ -1,11 +1,10 @@
 // `build`: from the source and its proof file in the store to the image in the store.
 ghost use Rattle.std.specs.Prelude.{◌≡◌, ◌≢◌, Some, false, true};
 ghost use Rattle.qs_driver.specs.Certified as meant;
-ghost use Rattle.qs_driver.specs.Devices.{streams, views, views_left};
-ghost use Rattle.qs_driver.specs.Due.{IsWritten};
+ghost use Rattle.qs_driver.specs.Due.{Writes};
 ghost use Rattle.qs_driver.specs.Names.{names_in};
-ghost use Rattle.qs_driver.specs.Task.{Answers};
-ghost use Rattle.qs_driver.specs.commands.Build.{build, due_of, inputs, names_of, words_in, Builds};
+ghost use Rattle.qs_driver.specs.Task.{AnswersOn};
+ghost use Rattle.qs_driver.specs.commands.Build.{due_to, inputs, names_of, to_do, words_in, Builds};
 ghost use Rattle.qs_driver.specs.commands.Build.{NamesDiffer, NamesOneTwice};
 
 use crate::certified::{CertifyOrder, read_certified};
@@ -94,9 +93,7 @@ fn report<O: Sink, L: Sink>(
     out: &mut O,
     log: &mut L,
 ) -> Status
-    ensures { let before = streams (O.view out.old) (L.view log.old) in
-        let after = streams (O.view out.new) (L.view log.new) in
-        IsWritten (due_of (words_in order.now) work) before after result }
+    ensures { Writes O.view L.view out.old out.new log.old log.new (due_to order.now work) result }
 {
     match work {
         Ok(image) => status_after(put_costs(out, &image.functions), Status::Done),
@@ -110,9 +107,7 @@ pub fn build<S: Store, O: Sink, L: Sink>(
     order: &BuildOrder<'_>,
     devices: Devices<'_, S, O, L>,
 ) -> Status
-    ensures { let before = views S.view O.view L.view devices.entry in
-        let after = views_left S.view O.view L.view devices.exit in
-        Answers (build (words_in order.now)) before after result }
+    ensures { AnswersOn S.view O.view L.view devices.entry devices.exit (to_do order.now) result }
 {
     let Devices { store, out, log } = devices;
     report(build_image(alloc, order, store), order, out, log)

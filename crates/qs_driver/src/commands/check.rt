@@ -1,10 +1,9 @@
 // `check`: whether the derivations of a source are right.
 ghost use Rattle.std.specs.Prelude.{◌≡◌};
 ghost use Rattle.qs_driver.specs.Certified.{words_in};
-ghost use Rattle.qs_driver.specs.Devices.{views, views_left};
 ghost use Rattle.qs_driver.specs.Names.{names_in};
-ghost use Rattle.qs_driver.specs.Task.{Answers};
-ghost use Rattle.qs_driver.specs.commands.Check.{check, names_of, Checks};
+ghost use Rattle.qs_driver.specs.Task.{AnswersOn};
+ghost use Rattle.qs_driver.specs.commands.Check.{names_of, to_do, Checks};
 
 use crate::Status;
 use crate::certified::{CertifyOrder, read_certified};
@@ -49,9 +48,7 @@ pub fn check<S: Store, O: Sink, L: Sink>(
     order: &CertifyOrder<'_>,
     devices: Devices<'_, S, O, L>,
 ) -> Status
-    ensures { let before = views S.view O.view L.view devices.entry in
-        let after = views_left S.view O.view L.view devices.exit in
-        Answers (check (words_in order.now)) before after result }
+    ensures { AnswersOn S.view O.view L.view devices.entry devices.exit (to_do order.now) result }
 {
     let Devices { store, out, log } = devices;
     let work = check_entries(alloc, order, store);

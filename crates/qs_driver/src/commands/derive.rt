@@ -1,10 +1,9 @@
 // `derive`: a derivation for each function of a source without recursion, as a proof file.
 ghost use Rattle.std.specs.Prelude.{◌≡◌};
 ghost use Rattle.qs_driver.specs.Certified as meant;
-ghost use Rattle.qs_driver.specs.Devices.{views, views_left};
 ghost use Rattle.qs_driver.specs.Names.{names_in};
-ghost use Rattle.qs_driver.specs.Task.{Answers};
-ghost use Rattle.qs_driver.specs.commands.Derive.{derive, inputs, names_of, words_in, Derives};
+ghost use Rattle.qs_driver.specs.Task.{AnswersOn};
+ghost use Rattle.qs_driver.specs.commands.Derive.{inputs, names_of, to_do, words_in, Derives};
 
 use crate::certified::{CertifyOrder, read_certified};
 use crate::counts::report_count;
@@ -68,9 +67,7 @@ pub fn derive<S: Store, O: Sink, L: Sink>(
     order: &DeriveOrder<'_>,
     devices: Devices<'_, S, O, L>,
 ) -> Status
-    ensures { let before = views S.view O.view L.view devices.entry in
-        let after = views_left S.view O.view L.view devices.exit in
-        Answers (derive (words_in order.now)) before after result }
+    ensures { AnswersOn S.view O.view L.view devices.entry devices.exit (to_do order.now) result }
 {
     let Devices { store, out, log } = devices;
     let work = derive_proofs(alloc, order, store);

@@ -1,13 +1,11 @@
 // `exec`: a source is certified and compiled, and its image is run on a stack of exactly its bound.
 ghost use Rattle.std.specs.Prelude.{◌≡◌, Ok};
-ghost use Rattle.qs_compile.specs.Agree.{IsInput};
 ghost use Rattle.qs_machine.specs.Standing.{taken_of};
 ghost use Rattle.qs_driver.specs.Certified as meant;
-ghost use Rattle.qs_driver.specs.Devices.{streams, views, views_left};
 ghost use Rattle.qs_driver.specs.Names.{names_in};
-ghost use Rattle.qs_driver.specs.Task.{Answers};
-ghost use Rattle.qs_driver.specs.commands.Exec.{as_run, exec, names_of, to_make, words_in, IsFresh};
-ghost use Rattle.qs_driver.specs.commands.Exec.{IsStackOf, LoadsImage, RunsFrom, Starts};
+ghost use Rattle.qs_driver.specs.Task.{AnswersOn};
+ghost use Rattle.qs_driver.specs.commands.Exec.{as_run, names_of, to_do, to_make, words_in};
+ghost use Rattle.qs_driver.specs.commands.Exec.{IsFresh, IsStackOf, LoadsImage, RunsOn, Starts};
 ghost use Rattle.qs_driver.specs.commands.Run as run_meant;
 
 use crate::Status;
@@ -15,6 +13,7 @@ use crate::certified::CertifyOrder;
 use crate::commands::run::{Ready, RunOrder, finish, load_bytes, read_input};
 use crate::devices::Devices;
 use crate::due::refuse;
+use crate::laws::consists_of_bytes;
 use crate::made::make;
 use crate::names::{FileNames, nameless};
 use qs_assert::Amount;
@@ -106,11 +105,6 @@ pub fn loaded(
     load_bytes(alloc, &bytes, &run_order(order, stack))
 }
 
-// What is read consists of bytes, as agreement asks it of an input.
-fn consists_of_bytes(input: &[u8])
-    ensures { IsInput input.now }
-{}
-
 // Certifies and compiles the source, loads its image and reads the input.
 fn start_source<S: Store>(
     alloc: Global,
@@ -138,9 +132,7 @@ fn run_started<O: Sink, L: Sink>(
     log: &mut L,
 ) -> Status
     requires { taken_of started.ready.machine ≡ 0 }
-    ensures { let before = streams (O.view out.old) (L.view log.old) in
-        let after = streams (O.view out.new) (L.view log.new) in
-        RunsFrom (words_in order.now) (Ok started) before after result }
+    ensures { RunsOn O.view L.view out.old out.new log.old log.new order.now (Ok started) result }
 {
     let stack = started.stack;
     match put_bound(log, Shown::Number(u128::from(stack))) {
@@ -161,9 +153,7 @@ fn run_or_refuse<O: Sink, L: Sink>(
     log: &mut L,
 ) -> Status
     requires { IsFresh started }
-    ensures { let before = streams (O.view out.old) (L.view log.old) in
-        let after = streams (O.view out.new) (L.view log.new) in
-        RunsFrom (words_in order.now) started before after result }
+    ensures { RunsOn O.view L.view out.old out.new log.old log.new order.now started result }
 {
     match started {
         Ok(started) => run_started(started, order, out, log),
@@ -178,9 +168,7 @@ pub fn exec<S: Store, O: Sink, L: Sink>(
     order: &ExecOrder<'_>,
     devices: Devices<'_, S, O, L>,
 ) -> Status
-    ensures { let before = views S.view O.view L.view devices.entry in
-        let after = views_left S.view O.view L.view devices.exit in
-        Answers (exec (words_in order.now)) before after result }
+    ensures { AnswersOn S.view O.view L.view devices.entry devices.exit (to_do order.now) result }
 {
     let Devices { store, out, log } = devices;
     run_or_refuse(start_source(alloc, order, store), order, out, log)

@@ -1,11 +1,9 @@
 // `outline`: from the source in the store to the outline of its core on standard output.
-ghost use Rattle.std.specs.Prelude.{◌≡◌, IfOk, Some};
-ghost use Rattle.qs_core.specs.UnitTrees.{unit_tree};
-ghost use Rattle.qs_driver.specs.Devices.{streams, views, views_left};
-ghost use Rattle.qs_driver.specs.Due.{IsWritten};
+ghost use Rattle.std.specs.Prelude.{◌≡◌};
+ghost use Rattle.qs_driver.specs.Due.{Writes};
 ghost use Rattle.qs_driver.specs.Names.{names_in};
-ghost use Rattle.qs_driver.specs.Task.{Answers};
-ghost use Rattle.qs_driver.specs.commands.Outline.{due_of, names_of, outline, words_in, Outlines};
+ghost use Rattle.qs_driver.specs.Task.{AnswersOn};
+ghost use Rattle.qs_driver.specs.commands.Outline.{due_to, names_of, to_do, words_in, Outlines};
 
 use crate::Status;
 use crate::devices::Devices;
@@ -54,9 +52,7 @@ fn report<O: Sink, L: Sink>(
     out: &mut O,
     log: &mut L,
 ) -> Status
-    ensures { let before = streams (O.view out.old) (L.view log.old) in
-        let after = streams (O.view out.new) (L.view log.new) in
-        IsWritten (due_of (words_in order.now) work) before after result }
+    ensures { Writes O.view L.view out.old out.new log.old log.new (due_to order.now work) result }
 {
     match work {
         Ok(text) => status_after(put_all(out, &text), Status::Done),
@@ -70,9 +66,7 @@ pub fn outline<S: Store, O: Sink, L: Sink>(
     order: &OutlineOrder<'_>,
     devices: Devices<'_, S, O, L>,
 ) -> Status
-    ensures { let before = views S.view O.view L.view devices.entry in
-        let after = views_left S.view O.view L.view devices.exit in
-        Answers (outline (words_in order.now)) before after result }
+    ensures { AnswersOn S.view O.view L.view devices.entry devices.exit (to_do order.now) result }
 {
     let Devices { store, out, log } = devices;
     report(outline_text(alloc, order, store), order, out, log)

@@ -1,10 +1,9 @@
 // `run`: an image on a stack of a given size.
 ghost use Rattle.std.specs.Prelude.{◌≡◌};
-ghost use Rattle.qs_driver.specs.Devices.{streams, views, views_left};
 ghost use Rattle.qs_driver.specs.Names.{names_in};
-ghost use Rattle.qs_driver.specs.Task.{Answers};
-ghost use Rattle.qs_driver.specs.commands.Run.{names_of, run, words_in, Finishes, IsFresh, Loads};
-ghost use Rattle.qs_driver.specs.commands.Run.{Prepares, ReadsInput, RunsFrom};
+ghost use Rattle.qs_driver.specs.Task.{AnswersOn};
+ghost use Rattle.qs_driver.specs.commands.Run.{names_of, to_do, words_in, Finishes, IsFresh, Loads};
+ghost use Rattle.qs_driver.specs.commands.Run.{Prepares, ReadsInput, RunsOn};
 
 use crate::arguments::argument_words;
 use crate::devices::Devices;
@@ -103,9 +102,7 @@ fn run_ready<O: Sink, L: Sink>(
     log: &mut L,
 ) -> Status
     requires { IsFresh prepared }
-    ensures { let before = streams (O.view out.old) (L.view log.old) in
-        let after = streams (O.view out.new) (L.view log.new) in
-        RunsFrom (words_in order.now) prepared before after result }
+    ensures { RunsOn O.view L.view out.old out.new log.old log.new order.now prepared result }
 {
     match prepared {
         Ok(ready) => {
@@ -123,9 +120,7 @@ pub fn run<S: Store, O: Sink, L: Sink>(
     order: &RunOrder<'_>,
     devices: Devices<'_, S, O, L>,
 ) -> Status
-    ensures { let before = views S.view O.view L.view devices.entry in
-        let after = views_left S.view O.view L.view devices.exit in
-        Answers (run (words_in order.now)) before after result }
+    ensures { AnswersOn S.view O.view L.view devices.entry devices.exit (to_do order.now) result }
 {
     let Devices { store, out, log } = devices;
     run_ready(prepare(alloc, order, store), order, out, log)

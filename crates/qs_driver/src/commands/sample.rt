@@ -1,17 +1,16 @@
 // `sample`: a source of as many functions as asked for, each of which calls the one before. It is
 // certified, compiled and run on a stack of exactly its bound, and what it puts is counted.
-ghost use Rattle.std.specs.Prelude.{◌≡◌, List, length, option_map, ℕ};
-ghost use Rattle.qs_ports.specs.SinkView.{PutsAll};
+ghost use Rattle.std.specs.Prelude.{◌≡◌, List, length, ℕ};
+ghost use Rattle.qs_ports.specs.SinkView.{PutsOn};
 ghost use Rattle.qs_machine.specs.Standing.{taken_of};
-ghost use Rattle.qs_driver.specs.Devices.{streams, views, views_left};
-ghost use Rattle.qs_driver.specs.Due.{IsWritten};
-ghost use Rattle.qs_driver.specs.Names.{names_in};
-ghost use Rattle.qs_driver.specs.Task.{Answers};
+ghost use Rattle.qs_driver.specs.Due.{Writes};
+ghost use Rattle.qs_driver.specs.Names.{name_in, names_in};
+ghost use Rattle.qs_driver.specs.Task.{AnswersOn};
 ghost use Rattle.qs_driver.specs.SampleLaws.{IsSampleCount};
 ghost use Rattle.qs_driver.specs.commands.Exec as run_meant;
-ghost use Rattle.qs_driver.specs.commands.Sample.{as_exec, due_of, names_of, sample, sample_lines};
-ghost use Rattle.qs_driver.specs.commands.Sample.{words_in, HasStarted, RunsCounted, Samples};
-ghost use Rattle.qs_driver.specs.commands.Sample.{StartsText, WritesSource};
+ghost use Rattle.qs_driver.specs.commands.Sample.{as_exec, due_to, lines_of, names_of, to_do};
+ghost use Rattle.qs_driver.specs.commands.Sample.{words_in, RunsCounted, Samples, StartsText};
+ghost use Rattle.qs_driver.specs.commands.Sample.{WritesText};
 
 use crate::certified::certify_typed;
 use crate::commands::exec::{ExecOrder, loaded, stack_of};
@@ -84,8 +83,7 @@ pub struct SampleEnd {
 
 // Writes the source into the file that is named, if one is.
 fn write_source<S: Store>(store: &mut S, out: Option<&str>, text: &[u8]) -> Result<(), Status>
-    ensures { WritesSource (option_map (λ name. name.now) out.entry) text.now
-        (S.view store.old) (S.view store.new) result }
+    ensures { WritesText (name_in out.entry) text.now (S.view store.old) (S.view store.new) result }
 {
     match out {
         Some(name) => {
@@ -166,8 +164,7 @@ fn run_sample<S: Store>(
 
 // Puts how many functions there are, the bound, how many bytes were put, and the status.
 fn put_counted<O: Sink>(out: &mut O, end: SampleEnd) -> Result<(), SinkFault>
-    ensures { PutsAll (O.view out.old) (O.view out.new)
-        (sample_lines end.functions end.stack end.output end.status) result }
+    ensures { PutsOn O.view out.old out.new (lines_of end) result }
 {
     put_count(out, Count::Functions(end.functions))?;
     put_bound(out, Shown::Number(u128::from(end.stack)))?;
@@ -182,9 +179,7 @@ fn report<O: Sink, L: Sink>(
     out: &mut O,
     log: &mut L,
 ) -> Status
-    ensures { let before = streams (O.view out.old) (L.view log.old) in
-        let after = streams (O.view out.new) (L.view log.new) in
-        IsWritten (due_of (words_in order.now) work) before after result }
+    ensures { Writes O.view L.view out.old out.new log.old log.new (due_to order.now work) result }
 {
     match work {
         Ok(end) => status_after(put_counted(out, end), Status::Done),
@@ -200,9 +195,7 @@ pub fn sample<S: Store, O: Sink, L: Sink>(
     devices: Devices<'_, S, O, L>,
 ) -> Status
     requires { IsSampleCount order.now.count }
-    ensures { let before = views S.view O.view L.view devices.entry in
-        let after = views_left S.view O.view L.view devices.exit in
-        Answers (sample (words_in order.now)) before after result }
+    ensures { AnswersOn S.view O.view L.view devices.entry devices.exit (to_do order.now) result }
 {
     let Devices { store, out, log } = devices;
     report(run_sample(alloc, order, store), order, out, log)

@@ -1,6 +1,5 @@
 // Words that mean no command.
-ghost use Rattle.qs_driver.specs.Devices.{views, views_left};
-ghost use Rattle.qs_driver.specs.Task.{Answers};
+ghost use Rattle.qs_driver.specs.Task.{AnswersOn};
 ghost use Rattle.qs_driver.specs.commands.Usage.{none};
 
 use crate::devices::Devices;
@@ -11,9 +10,7 @@ use qs_ports::{Sink, Store};
 
 /// Refuses the words.
 pub fn usage<S: Store, O: Sink, L: Sink>(devices: Devices<'_, S, O, L>) -> Status
-    ensures { let before = views S.view O.view L.view devices.entry in
-        let after = views_left S.view O.view L.view devices.exit in
-        Answers none before after result }
+    ensures { AnswersOn S.view O.view L.view devices.entry devices.exit none result }
 {
     let Devices {
         store: _,

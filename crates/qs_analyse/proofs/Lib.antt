@@ -8,7 +8,6 @@ pub mod AddedLaws
 pub mod WrittenLaws
 pub mod SettingLaws
 pub mod FlagLaws
-pub mod TreeLaws
 pub mod FillLaws
 pub mod FillingLaws
 pub mod MeetLaws

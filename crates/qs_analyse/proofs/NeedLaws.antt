@@ -18,7 +18,7 @@ use Rattle.qs_entail.specs.Meaning.{AtLeast}
 use Rattle.qs_triples.specs.Filled.{for_call, for_calls, has_variables}
 use Rattle.qs_callgraph.specs.CallLists.{is_member}
 use Rattle.qs_callgraph.proofs.MemberLaws.{first_cases, member_first}
-use Rattle.qs_analyse.specs.Needs.{greatest_part, needed_calls, is_variable_head, is_variable_node}
+use Rattle.qs_analyse.specs.Needs.{is_variable_head, is_variable_node}
 
 -- ---- amounts
 
@@ -115,13 +115,6 @@ no_variables a h = by (variables a) h
     by : (xs : List Var) → list_any (λ x. true) xs ≡ false → xs ≡ []
     by [] h = refl
     by (x ∷ xs) h = absurd (both_ways true h refl)
-
--- ---- what is built part by part
-
-pub calls_built : (needs : ℕ → AssertionTree) (gs : List ℕ) → greatest_part (needed_calls needs gs) ≡ for_calls needs gs
-calls_built needs [] = refl
-calls_built needs (g ∷ []) = refl
-calls_built needs (g ∷ h ∷ gs) = refl
 
 -- ---- nodes
 

@@ -1,6 +1,5 @@
 // What calls need.
 ghost use Rattle.std.specs.Prelude.{◌≡◌, ◌++◌, ◌∷◌, [], IfOk, OnOk, length};
-ghost use Rattle.qs_assert.specs.Trees as trees;
 ghost use Rattle.qs_analyse.specs.Needs.{call_of, greatest_part};
 
 use qs_assert::Assertion;

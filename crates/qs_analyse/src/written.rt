@@ -1,6 +1,5 @@
 // The derivation of an open function: before each statement its name is enough.
 ghost use Rattle.std.specs.Prelude.{◌≡◌, IfOk, pos};
-ghost use Rattle.qs_core.specs.TreeOf.{core_stmt};
 ghost use Rattle.qs_entail.specs.Certificates.{pick, same};
 ghost use Rattle.qs_entail.specs.View.{cert_tree};
 ghost use Rattle.qs_triples.specs.TreeOf.{derivation_tree, derivation_trees};

@@ -1,5 +1,5 @@
 -- The nodes of a tree are the first tree of a list that begins with them.
-use Rattle.std.proofs.Common.{◌≡◌, ◌≤◌, ◌<◌, ◌+◌, ◌-◌, ℕ, zero, suc, take, drop, refl, ap, ◌∙◌, sym, subst, List, [], ◌∷◌, ◌++◌, length, map, append_assoc, length-append, length-drop, add-one, arith}
+use Rattle.std.proofs.Common.{◌≡◌, ◌<◌, ◌+◌, ◌-◌, ℕ, suc, take, drop, refl, ap, ◌∙◌, sym, subst, List, [], ◌∷◌, ◌++◌, length, map, append_assoc, length-append, length-drop, add-one, arith}
 use Rattle.std.proofs.lemmas.List.{map-append, take_at, drop_at}
 use Rattle.qs_assert.specs.declared.node.TermNode.{TermNode}
 use Rattle.qs_assert.specs.declared.node.TermNode.TheVariants.{Number, Variable, Add, Sub, Mul, Div, WrapUnsigned, WrapSigned, Bits}
@@ -15,15 +15,6 @@ use Rattle.qs_assert.specs.Views.{front_length}
 pub none_needed : (nodes : List Node) → front_length nodes 0 ≡ 0
 none_needed [] = refl
 none_needed (node ∷ nodes) = refl
-
-pub front_within : (nodes : List Node) (n : ℕ) → front_length nodes n ≤ length nodes
-front_within [] n = omega arith
-front_within (node ∷ nodes) zero = omega arith
-front_within (node ∷ nodes) (suc n) = omega (arith, front_within nodes (n + arity node))
-
-pub one_more : (node : Node) (nodes : List Node) (n : ℕ) → 0 < n → front_length (node ∷ nodes) n ≡ suc (front_length nodes (n - 1 + arity node))
-one_more node nodes zero h = omega arith
-one_more node nodes (suc n) h = ap (λ (m : ℕ). suc (front_length nodes m)) (omega arith)
 
 -- k trees at the front of any list
 pub record Fronts (xs : List Node) (k : ℕ) : Type 0 where

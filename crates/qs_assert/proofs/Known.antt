@@ -1,11 +1,10 @@
 -- Which numbers are wide.
-use Rattle.std.proofs.Common.{◌≡◌, ◌≢◌, ◌≤◌, ◌<◌, ℕ, zero, suc, ◌+◌, ◌*◌, ◌^◌, ap, sym, refl, arith, Bool, pos, negsuc, ℤ, inl, inr, List, ◌∷◌, length, take, reverse, get_or, Option, Some, None}
+use Rattle.std.proofs.Common.{◌≡◌, ◌≢◌, ◌≤◌, ◌<◌, zero, suc, ◌*◌, ◌^◌, ap, sym, refl, arith, Bool, pos, negsuc, ℤ, inl, inr, Some, None}
 use Rattle.std.specs.Prelude.{◌*ℤ◌, unsigned_abs, if◌then◌else◌}
 use Rattle.std.proofs.Math.Nat.{mul-le-mul_right}
 use Rattle.std.proofs.lemmas.Bool.{cases_lt, le-leb, lt-leb}
 use Rattle.std.proofs.lemmas.Int.{unsigned_abs-mul}
-use Rattle.qs_assert.specs.Stacks.{known, some_none}
-use Rattle.qs_assert.proofs.Reversed.{reverse_more}
+use Rattle.qs_assert.specs.Stacks.{known}
 
 pub known_wide : (z : ℤ) → 2 ^ 127 ≤ unsigned_abs z → known z ≡ None
 known_wide z h = ap (λ (b : Bool). if b then None else Some z) (le-leb _ _ h)
@@ -30,6 +29,3 @@ wide_product x y h e =
     let p : 1 * unsigned_abs y ≤ unsigned_abs x * unsigned_abs y = mul-le-mul_right (unsigned_abs y) (positive x h) in
     let q : unsigned_abs (x *ℤ y) ≡ unsigned_abs x * unsigned_abs y = unsigned_abs-mul x y in
     sym (known_wide (x *ℤ y) (omega arith))
-
-pub none_more : {A : Type 0} (xs : List (Option A)) (i : ℕ) (d : Option A) → i < length xs → some_none (reverse (take (i + 1) xs)) ≡ some_none (get_or xs i d ∷ reverse (take i xs))
-none_more xs i d h = ap some_none (reverse_more xs i d h)

@@ -4,7 +4,6 @@ pub mod Agreement
 pub mod BitLengths
 pub mod Evaluated
 pub mod Fronted
-pub mod Headed
 pub mod Kept
 pub mod Known
 pub mod Mapped

@@ -1,10 +1,9 @@
 -- Lists from their ends.
-use Rattle.std.proofs.Common.{◌≡◌, ◌≤◌, ◌<◌, ℕ, ◌+◌, ◌-◌, List, ◌∷◌, ◌++◌, length, take, drop, reverse, get_or, ap, ◌∙◌, sym, arith, inl, inr}
+use Rattle.std.proofs.Common.{◌≡◌, ◌≤◌, ℕ, ◌+◌, ◌-◌, List, ◌++◌, length, take, drop, reverse, ap, ◌∙◌, sym, arith, inl, inr}
 use Rattle.std.proofs.Math.ListN.{drop_of_length-le}
 use Rattle.std.proofs.Math.Seq.{drop-append_seam}
 use Rattle.std.proofs.lemmas.Bool.{cases_lt}
 use Rattle.std.proofs.lemmas.List.{reverse-append, length-reverse, length-drop, take-append-drop}
-use Rattle.std.proofs.lemmas.Grind.{common_steps}
 
 parted : {A : Type 0} (xs : List A) (k : ℕ) → reverse xs ≡ reverse (drop k xs) ++ reverse (take k xs)
 parted xs k = ap reverse (sym (take-append-drop k xs)) ∙ reverse-append (take k xs) (drop k xs)
@@ -22,10 +21,6 @@ cut_off xs n = elim (cases_lt (length xs) n) [
   | inr h ↦
       sym (ap (drop n) (parted xs (length xs - n)) ∙ (ap (λ m. drop m (reverse (drop (length xs - n) xs) ++ reverse (take (length xs - n) xs))) (sym (back_length xs n h)) ∙ drop-append_seam (reverse (drop (length xs - n) xs)) (reverse (take (length xs - n) xs))))
 ]
-
--- one item more
-pub reverse_more : {A : Type 0} (xs : List A) (i : ℕ) (d : A) → i < length xs → reverse (take (i + 1) xs) ≡ get_or xs i d ∷ reverse (take i xs)
-reverse_more xs i d h = grind (arith, common_steps)
 
 pub cut_at : {A : Type 0} (xs ys : List A) (n m k : ℕ) → m ≡ length xs → k ≡ m - n → ys ≡ take k xs → reverse ys ≡ drop n (reverse xs)
 cut_at xs ys n m k e f h =

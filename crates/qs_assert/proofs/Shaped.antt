@@ -1,11 +1,12 @@
 -- Nodes that are those of terms.
-use Rattle.std.proofs.Common.{◌≡◌, ◌≢◌, ◌≤◌, ◌<◌, ℕ, zero, suc, ◌+◌, ◌-◌, refl, sym, ap, ◌∙◌, Bool, true, false, List, [], ◌∷◌, ◌++◌, length, get_or, take, drop, append_assoc, append-nil, zero-add, add-one, length-drop, arith}
+use Rattle.std.proofs.Common.{◌≡◌, ◌≢◌, ◌≤◌, ◌<◌, ℕ, zero, suc, ◌+◌, ◌-◌, refl, sym, ap, ◌∙◌, Bool, true, false, List, [], ◌∷◌, ◌++◌, length, map, take, drop, append_assoc, append-nil, zero-add, length-drop, arith}
 use Rattle.std.proofs.lemmas.List.{length-take-le, take-append-drop}
 use Rattle.std.proofs.Math.Seq.{drop-cons}
 use Rattle.qs_assert.specs.declared.node.TermNode.{TermNode}
+use Rattle.qs_assert.specs.declared.node.Node.TheVariants.{Term}
 use Rattle.qs_assert.specs.declared.node.TermNode.TheVariants.{Number, Variable, Add, Sub, Mul, Div, WrapUnsigned, WrapSigned, Bits}
 use Rattle.qs_assert.specs.Trees.{TermTree, number, variable, add, sub, mul, div, wrapu, wraps, bits, TermTrees, no_terms, term_and, terms_of, term_list}
-use Rattle.qs_assert.specs.Listing.{term_nodes, terms_nodes}
+use Rattle.qs_assert.specs.Listing.{term_heads, term_nodes, terms_nodes}
 use Rattle.qs_assert.specs.Reading.{term_list-of}
 use Rattle.qs_assert.specs.Shapes.{term_arity, are_terms}
 
@@ -121,14 +122,11 @@ none_there nodes b e h t k = not_both (sym (is_one t) ∙ (ap (λ (l : List Term
 
 -- ---- node by node
 
-swapped : (a k : ℕ) → a + k ≡ suc k - 1 + a
-swapped a k = omega arith
-
-pub shape_step : (nodes : List TermNode) (i due : ℕ) (d : TermNode) → i < length nodes → due ≢ 0 → are_terms (drop i nodes) due ≡ are_terms (drop (i + 1) nodes) (due - 1 + term_arity (get_or nodes i d))
-shape_step nodes i zero d h z = absurd (z refl)
-shape_step nodes i (suc k) d h z =
-    ap (λ (l : List TermNode). are_terms l (suc k)) (drop-cons nodes i d h)
-    ∙ (ap (are_terms (drop (suc i) nodes)) (swapped (term_arity (get_or nodes i d)) k) ∙ ap (λ j. are_terms (drop j nodes) (suc k - 1 + term_arity (get_or nodes i d))) (sym (add-one i)))
-
 pub shape_stop : (nodes : List TermNode) (i due : ℕ) (d : TermNode) → i < length nodes → due ≡ 0 → are_terms (drop i nodes) due ≡ false
 shape_stop nodes i due d h z = ap (are_terms (drop i nodes)) z ∙ ap (λ (l : List TermNode). are_terms l 0) (drop-cons nodes i d h)
+
+-- ---- the heads of terms
+
+pub heads_are : (nodes : List TermNode) → term_heads (map Term nodes) ≡ nodes
+heads_are [] = refl
+heads_are (node ∷ nodes) = ap (λ (l : List TermNode). node ∷ l) (heads_are nodes)

@@ -1,5 +1,5 @@
 // Amounts. Wide stands for a finite amount that is wide.
-ghost use Rattle.std.specs.Prelude.{◌≡◌, ◌^◌, ℕ, reverse};
+ghost use Rattle.std.specs.Prelude.{◌≡◌, reverse};
 ghost use Rattle.qs_assert.specs.Values as values;
 ghost use Rattle.qs_assert.specs.Stacks as stacks;
 ghost use Rattle.qs_assert.specs.Joining.{operation, start};

@@ -1,6 +1,6 @@
 // Numbers of 128 bits. None stands for a number that is wide.
-ghost use Rattle.std.specs.Prelude.{◌≡◌, ◌≤◌, ℤ, pos, negsuc, ◌+ℤ◌, ◌-ℤ◌, ◌*ℤ◌, ◌≤ℤ◌};
-ghost use Rattle.std.specs.Prelude.{◌^◌, ◌-◌, ℕ, reverse};
+ghost use Rattle.std.specs.Prelude.{◌≡◌, ℤ, pos, ◌-ℤ◌, ◌*ℤ◌};
+ghost use Rattle.std.specs.Prelude.{◌-◌, reverse};
 ghost use Rattle.qs_assert.specs.Values as values;
 ghost use Rattle.qs_assert.specs.Stacks as stacks;
 
@@ -16,23 +16,14 @@ pub fn known(z: i128) -> Option<i128>
 fn known_difference(x: i128, y: i128) -> Option<i128>
     ensures { result ≡ stacks.known (x -ℤ y) }
 {
-    match x.checked_sub(y) {
-        Some(z) => known(z),
-        None => None,
-    }
+    known(x.checked_sub(y)?)
 }
 
 /// `a` less `b`.
 pub fn difference(a: Option<i128>, b: Option<i128>) -> Option<i128>
     ensures { result ≡ stacks.on_both ◌-ℤ◌ a b }
 {
-    match a {
-        Some(x) => match b {
-            Some(y) => known_difference(x, y),
-            None => None,
-        },
-        None => None,
-    }
+    known_difference(a?, b?)
 }
 
 fn floor_quotient(z: i128, k: u64) -> i128
@@ -49,10 +40,7 @@ fn floor_quotient(z: i128, k: u64) -> i128
 pub fn quotient(a: Option<i128>, k: u64) -> Option<i128>
     ensures { result ≡ stacks.on_known (λ z. values.quotient z k) a }
 {
-    match a {
-        Some(z) => known(floor_quotient(z, k)),
-        None => None,
-    }
+    known(floor_quotient(a?, k))
 }
 
 fn low_word(z: i128) -> i128
@@ -76,20 +64,14 @@ fn signed_word(z: i128) -> i128
 pub fn wrapped_unsigned(a: Option<i128>) -> Option<i128>
     ensures { result ≡ stacks.on_known values.wrapped_unsigned a }
 {
-    match a {
-        Some(z) => known(low_word(z)),
-        None => None,
-    }
+    known(low_word(a?))
 }
 
 /// The number modulo 2^32, from -2^31 to 2^31 - 1.
 pub fn wrapped_signed(a: Option<i128>) -> Option<i128>
     ensures { result ≡ stacks.on_known values.wrapped_signed a }
 {
-    match a {
-        Some(z) => known(signed_word(z)),
-        None => None,
-    }
+    known(signed_word(a?))
 }
 
 fn bit_length(z: i128) -> u32
@@ -102,10 +84,7 @@ fn bit_length(z: i128) -> u32
 pub fn bits(a: Option<i128>) -> Option<i128>
     ensures { result ≡ stacks.on_known (λ z. pos (values.bit_length z)) a }
 {
-    match a {
-        Some(z) => known(i128::from(bit_length(z))),
-        None => None,
-    }
+    known(i128::from(bit_length(a?)))
 }
 
 /// The sum, the numbers being given the last first.

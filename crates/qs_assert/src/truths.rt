@@ -1,7 +1,5 @@
 // Truth values of conditions. None stands for a condition with a part that is wide.
-ghost use Rattle.std.specs.Prelude.{◌≡◌, ◌&&◌, ◌||◌, Bool, true, false, int_le, int_lt, reverse};
-ghost use Rattle.std.specs.Prelude.{not as flip};
-ghost use Rattle.std.specs.Ordering.{int_eq};
+ghost use Rattle.std.specs.Prelude.{◌≡◌, ◌&&◌, ◌||◌, reverse};
 ghost use Rattle.qs_assert.specs.Comparing.{relation_of};
 ghost use Rattle.qs_assert.specs.Stacks as stacks;
 
@@ -29,23 +27,14 @@ fn relates(relation: Relation, x: i128, y: i128) -> bool
 pub fn compared(relation: Relation, a: Option<i128>, b: Option<i128>) -> Option<bool>
     ensures { result ≡ stacks.compared (relation_of relation) a b }
 {
-    match a {
-        Some(x) => match b {
-            Some(y) => Some(relates(relation, x, y)),
-            None => None,
-        },
-        None => None,
-    }
+    Some(relates(relation, a?, b?))
 }
 
 /// Whether the condition does not hold.
 pub fn negated(a: Option<bool>) -> Option<bool>
     ensures { result ≡ stacks.negated a }
 {
-    match a {
-        Some(holds) => Some(!holds),
-        None => None,
-    }
+    Some(!a?)
 }
 
 fn with_all(part: Option<bool>, whole: bool) -> bool

@@ -1,23 +1,15 @@
 -- Laws of the operations on words, for those who reason about the machine.
-use Rattle.std.proofs.Common.{◌≡◌, ℕ, ◌+◌, ◌-◌, ◌*◌, ◌/◌, ◌%◌, ◌^◌, ◌<◌, ◌≤◌, ℤ, pos, negsuc, Bool, true, false, cond, arith}
-use Rattle.std.specs.Int.{cast_signed, cast_unsigned, w32}
+use Rattle.std.proofs.Common.{◌≡◌, ℕ, ◌-◌, ◌/◌, ◌%◌, ◌^◌, ◌<◌, ℤ, pos, negsuc, Bool, true, false, cond, arith}
+use Rattle.std.specs.Int.{cast_signed, w32}
 use Rattle.std.proofs.lemmas.Int.{ints}
 use Rattle.std.proofs.lemmas.Bool.Decides.{nat_tests}
-use Rattle.std.proofs.lemmas.Nat.{and_le_l, or_lt, xor_lt, mul-lt}
+use Rattle.std.proofs.lemmas.Nat.{and_le_l, or_lt, xor_lt}
 use Rattle.std.proofs.Math.Nat.{div-le_self, mod-le}
-use Rattle.std.proofs.Math.Pow.{pow_mono}
-use Rattle.qs_base.specs.Words.{signed, wrap, sign_extend, all_ones, add, sub, slt, sltu, and, or, xor, sll, srl, sra, mul, mulh, mulhsu, mulhu, div, rem, divu, remu}
+use Rattle.qs_base.specs.Words.{signed, wrap, all_ones, add, sub, and, or, xor, sll, srl, sra, mul, div, rem, divu, remu}
 
 -- the signed reading is the cast to `i32`
 pub signed-cast : (a : ℕ) → a < 2 ^ 32 → signed a ≡ cast_signed w32 a
 signed-cast a h = grind (arith, ints, nat_tests)
-
--- the word of an integer from -2 ^ 32 to 2 ^ 32 - 1 is the cast to `u32`
-pub wrap-pos : (n : ℕ) → n < 2 ^ 32 → wrap (pos n) ≡ n
-wrap-pos n h = omega arith
-
-pub wrap-negsuc : (n : ℕ) → n < 2 ^ 32 → wrap (negsuc n) ≡ cast_unsigned w32 (negsuc n)
-wrap-negsuc n h = omega arith
 
 -- ---- every result is a word
 
@@ -29,22 +21,11 @@ cond-below : (b : Bool) (m n k : ℕ) → m < k → n < k → cond b m n < k
 cond-below true m n k hm hn = hm
 cond-below false m n k hm hn = hn
 
-pub sign_extend-below : (n x : ℕ) → n ≤ 32 → x < 2 ^ n → sign_extend n x < 2 ^ 32
-sign_extend-below n x small h =
-    let whole : 2 ^ n ≤ 2 ^ 32 = pow_mono small in
-    cond-below _ x (2 ^ 32 - 2 ^ n + x) (2 ^ 32) (omega arith) (omega arith)
-
 pub add-below : (a b : ℕ) → add a b < 2 ^ 32
 add-below a b = omega arith
 
 pub sub-below : (a b : ℕ) → sub a b < 2 ^ 32
 sub-below a b = omega arith
-
-pub slt-below : (a b : ℕ) → slt a b < 2 ^ 32
-slt-below a b = cond-below _ 1 0 (2 ^ 32) (omega arith) (omega arith)
-
-pub sltu-below : (a b : ℕ) → sltu a b < 2 ^ 32
-sltu-below a b = cond-below _ 1 0 (2 ^ 32) (omega arith) (omega arith)
 
 pub and-below : (a b : ℕ) → a < 2 ^ 32 → and a b < 2 ^ 32
 and-below a b h = let e = and_le_l a b in omega arith
@@ -66,17 +47,6 @@ sra-below a b = wrap-below _
 
 pub mul-below : (a b : ℕ) → mul a b < 2 ^ 32
 mul-below a b = omega arith
-
-pub mulh-below : (a b : ℕ) → mulh a b < 2 ^ 32
-mulh-below a b = wrap-below _
-
-pub mulhsu-below : (a b : ℕ) → mulhsu a b < 2 ^ 32
-mulhsu-below a b = wrap-below _
-
-pub mulhu-below : (a b : ℕ) → a < 2 ^ 32 → b < 2 ^ 32 → mulhu a b < 2 ^ 32
-mulhu-below a b h k =
-    let product : a * b < 2 ^ 32 * 2 ^ 32 = mul-lt a b (2 ^ 32) (2 ^ 32) h k in
-    omega arith
 
 pub div-below : (a b : ℕ) → div a b < 2 ^ 32
 div-below a b = cond-below _ all_ones _ (2 ^ 32) (omega arith) (wrap-below _)

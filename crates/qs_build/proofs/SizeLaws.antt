@@ -1,5 +1,5 @@
 -- What a unit keeps to for which code is selected.
-use Rattle.std.proofs.Common.{◌≡◌, ℕ, zero, suc, ◌+◌, ◌^◌, ◌<◌, ◌≤◌, Bool, true, false, List, [], ◌∷◌, length, map, Option, Some, None, refl, ◌∙◌, subst, arith}
+use Rattle.std.proofs.Common.{◌≡◌, ℕ, zero, suc, ◌+◌, ◌<◌, ◌≤◌, Bool, true, false, List, [], ◌∷◌, length, map, Option, Some, None, refl, ◌∙◌, subst, arith}
 use Rattle.std.specs.Prelude.{if◌then◌else◌, slice_index_or}
 use Rattle.std.proofs.lemmas.Bool.Decides.{nat_tests}
 use Rattle.std.proofs.lemmas.List.{length-map}
@@ -63,12 +63,6 @@ data_few t fits =
     let total_few : total (data_sizes t.data_blocks) ≤ 16777216 = grind (arith, nat_tests, fits) in
     let within = end_within t.data_blocks in
     omega (arith, total_few, within)
-
--- so that they have addresses
-pub data_placed : (t : TacUnitTree) → data_fit t ≡ true → 268435456 + total (data_sizes t.data_blocks) ≤ 2 ^ 29
-data_placed t fits =
-    let total_few : total (data_sizes t.data_blocks) ≤ 16777216 = grind (arith, nat_tests, fits) in
-    omega (arith, total_few)
 
 -- ---- the unit
 

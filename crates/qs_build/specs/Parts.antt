@@ -1,6 +1,7 @@
 -- The parts that an image is put together from.
 use Rattle.std.specs.Prelude.{◌≡◌, ℕ, ◌<◌, ◌≤◌, ◌^◌, List, length, All, None}
 use Rattle.qs_asm.specs.Assembly.{IsAssembly}
+use Rattle.qs_asm.specs.Counting.{reached_words}
 use Rattle.qs_core.specs.Trees.{CoreUnitTree}
 use Rattle.qs_core.specs.Units.{initial_memory}
 use Rattle.qs_image.specs.Image.{FunctionRecord}
@@ -21,7 +22,7 @@ pub record AreParts (u : CoreUnitTree) (t : TacUnitTree) (ps : List PlacesTree) 
   pub free : first_fault t ps ≡ None
   pub records : HaveRecords u.functions t.functions ps (items_of t ps) functions
   pub assembly : IsAssembly (items_of t ps) code
-  pub reached : length code ≤ 2 ^ 18
+  pub reached : length code ≤ reached_words
   pub words : All (λ word. word < 2 ^ 32) code
   pub octets : bytes ≡ data_bytes (data_address t.data_blocks) (initial_memory u)
 

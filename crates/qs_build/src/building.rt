@@ -5,6 +5,7 @@ ghost use Rattle.qs_core.specs.TreeOf.{function_trees};
 ghost use Rattle.qs_tac.specs.UnitTrees as tac;
 ghost use Rattle.qs_tac.specs.Places.{places_trees};
 ghost use Rattle.qs_asm.specs.Assembly.{IsAssembly};
+ghost use Rattle.qs_asm.specs.Counting.{reached_words};
 ghost use Rattle.qs_image.specs.Limits.{most_name_bytes};
 ghost use Rattle.qs_select.specs.Limits.{data_fit};
 ghost use Rattle.qs_emit.specs.Images.{IsWithinLimits};
@@ -77,7 +78,7 @@ fn check_names(unit: &CoreUnit) -> Result<(), BuildFault>
 fn code_of(alloc: Global, items: &[Item]) -> Result<Vec<u32>, BuildFault>
     requires { AreCounted items.now }
     ensures code { IfOk result (λ code. IsAssembly items.now code.items) }
-    ensures few { IfOk result (λ code. length code.items ≤ 2 ^ 18) }
+    ensures few { IfOk result (λ code. length code.items ≤ reached_words) }
     ensures words { IfOk result (λ code. All (λ word. word < 2 ^ 32) code.items) }
     ensures fault { IfErr result (λ fault. IsCodeFault items.now fault) }
 {

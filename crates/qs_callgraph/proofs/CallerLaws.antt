@@ -1,12 +1,12 @@
 -- The callers of functions.
-use Rattle.std.proofs.Common.{◌≡◌, ℕ, ◌+◌, ◌<◌, ◌≤◌, ◌==◌, ◌||◌, ◌&&◌, ltb, Bool, true, false, List, [], ◌∷◌, ◌++◌, length, get_or, set, replicate, ⊎_elim, refl, sym, ap, ◌∙◌, subst, arith}
+use Rattle.std.proofs.Common.{◌≡◌, ℕ, ◌+◌, ◌<◌, ◌≤◌, ◌==◌, ◌||◌, ◌&&◌, ltb, Bool, true, false, List, [], ◌∷◌, ◌++◌, length, get_or, set, ⊎_elim, refl, sym, ap, ◌∙◌, subst, arith}
 use Rattle.std.specs.declared.alloc.Global.{Global}
 use Rattle.std.specs.declared.vec.Vec.{Vec}
 use Rattle.std.proofs.lemmas.Bool.{both_ways, eq-eqb, ne_eqb, cases_eq, cases_lt, lt-ltb, le-ltb}
-use Rattle.std.proofs.lemmas.List.{get_or-set_same, get_or-set_other, length-set, map-set, get_or-map, get_or-replicate, get_or_past, length-replicate}
+use Rattle.std.proofs.lemmas.List.{get_or-set_same, get_or-set_other, length-set, map-set, get_or-map}
 use Rattle.qs_base.specs.declared.function.FnId.{FnId}
 use Rattle.qs_callgraph.specs.CallLists.{callees_in, is_member, numbers_in, number_lists}
-use Rattle.qs_callgraph.specs.Opens.{AreCallers, with_caller}
+use Rattle.qs_callgraph.specs.Opens.{with_caller}
 use Rattle.qs_callgraph.proofs.MemberLaws.{member-push}
 
 pub length-with_caller : (f : ℕ) (gs : List ℕ) (callers : List (List ℕ)) → length (with_caller f gs callers) ≡ length callers
@@ -72,17 +72,6 @@ pub record AddedBelow (graph callers : List (List ℕ)) (i : ℕ) : Type 0 where
   pub as_many : length callers ≡ length graph
   pub same : (f g : ℕ) → is_member f (callees_in callers g) ≡ (ltb f i && is_member g (callees_in graph f))
 
-pub none_added : (graph callers : List (List ℕ)) (n : ℕ) → n ≡ length graph → callers ≡ replicate n [] → AddedBelow graph callers 0
-none_added graph callers n e is = record {
-  as_many = ap length is ∙ length-replicate n [] ∙ e;
-  same = λ f g.
-      ap (λ (cs : List (List ℕ)). is_member f (callees_in cs g)) is ∙ ap (is_member f) (empty g)
-      ∙ sym (ap (λ (c : Bool). c && is_member g (callees_in graph f)) (le-ltb f 0 (omega arith)));
-}
-  where
-    empty : (g : ℕ) → callees_in (replicate n []) g ≡ []
-    empty g = ⊎_elim (λ (l : g < n). get_or-replicate n g [] [] l) (λ (l : n ≤ g). get_or_past (replicate n []) g [] (subst (λ (k : ℕ). k ≤ g) (sym (length-replicate n [])) l)) (cases_lt g n)
-
 below_next : (f i : ℕ) → ltb f (i + 1) ≡ (ltb f i || (i == f))
 below_next f i =
     ⊎_elim (λ (e : f ≡ i). lt-ltb f (i + 1) (omega arith) ∙ sym (ap (λ (c : Bool). ltb f i || c) (eq-eqb i f (sym e)) ∙ or-true (ltb f i)))
@@ -132,15 +121,6 @@ added_more graph callers next i gs a at within is = record {
         ∙ ap (λ (c : Bool). (ltb f i || c) && is_member g (callees_in graph f)) (sym (ne_eqb i f d))
         ∙ ap (λ (c : Bool). c && is_member g (callees_in graph f)) (sym (below_next f i)))
         (cases_eq i f)
-
-pub all_added : (graph callers : List (List ℕ)) (i : ℕ) → AddedBelow graph callers i → length graph ≤ i → AreCallers graph callers
-all_added graph callers i a l = record {
-  as_many = a.as_many;
-  same = λ f g. a.same f g ∙ ⊎_elim
-      (λ (b : f < length graph). ap (λ (c : Bool). c && is_member g (callees_in graph f)) (lt-ltb f i (omega (arith, b, l))))
-      (λ (b : length graph ≤ f). ap (λ (xs : List ℕ). ltb f i && is_member g xs) (get_or_past graph f [] b) ∙ and-false (ltb f i) ∙ sym (ap (is_member g) (get_or_past graph f [] b)))
-      (cases_lt f (length graph));
-}
 
 -- ---- lists of functions
 

@@ -1,5 +1,5 @@
 -- Marks on the functions of a list.
-use Rattle.std.proofs.Common.{◌≡◌, ℕ, zero, suc, ◌+◌, ◌<◌, ◌==◌, ◌||◌, Bool, true, false, cond, List, [], ◌∷◌, ◌++◌, filter, length, replicate, get_or, set, ⊎_elim, refl, sym, ap, ◌∙◌, subst, arith, add-one, append-nil, Some}
+use Rattle.std.proofs.Common.{◌≡◌, ℕ, zero, suc, ◌+◌, ◌<◌, ◌==◌, ◌||◌, Bool, true, false, cond, List, [], ◌∷◌, ◌++◌, filter, length, replicate, get_or, set, ⊎_elim, refl, sym, ap, ◌∙◌, subst, arith, Some}
 use Rattle.std.specs.List.{slice_get}
 use Rattle.std.proofs.lemmas.Bool.{eq-eqb, ne_eqb, cases_eq}
 use Rattle.std.proofs.lemmas.List.{get_or-set_same, get_or-set_other, get_or-replicate, length-set, length-replicate}
@@ -57,15 +57,6 @@ filter_same p q (suc n) same =
     ∙ ap (λ (xs : List ℕ). xs ++ filter p (n ∷ [])) (filter_same p q n (λ g b. same g (omega (arith, b))))
     ∙ ap (λ (b : Bool). filter q (below n) ++ cond b (n ∷ []) []) (same n (omega arith))
     ∙ sym (filter-append q (below n) (n ∷ []))
-
--- the functions that are marked, one more
-pub marked_more : (test : ℕ → Bool) (i : ℕ) → test i ≡ true → filter test (below i) ++ i ∷ [] ≡ filter test (below (i + 1))
-marked_more test i h =
-    sym (ap (λ (n : ℕ). filter test (below n)) (add-one i) ∙ filter-append test (below i) (i ∷ []) ∙ ap (λ (b : Bool). filter test (below i) ++ cond b (i ∷ []) []) h)
-
-pub unmarked_more : (test : ℕ → Bool) (i : ℕ) → test i ≡ false → filter test (below i) ≡ filter test (below (i + 1))
-unmarked_more test i h =
-    sym (ap (λ (n : ℕ). filter test (below n)) (add-one i) ∙ filter-append test (below i) (i ∷ []) ∙ ap (λ (b : Bool). filter test (below i) ++ cond b (i ∷ []) []) h ∙ append-nil (filter test (below i)))
 
 -- what is marked for a body are the functions that it calls
 pub marked_callees :

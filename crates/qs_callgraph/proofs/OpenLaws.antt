@@ -20,14 +20,6 @@ flag_within flags f t =
 
 -- ---- callers are closed
 
-pub no_due : (closed : List Bool) (due : List ℕ) → AddsDue closed closed due due
-no_due closed due = record {
-  kept = λ g m. m;
-  added = λ g n t. absurd (both_ways (flag closed g) n t);
-  closed = λ g m. inl m;
-  as_many = refl;
-}
-
 pub one_due :
     (old now : List Bool) (before due : List ℕ) (f : ℕ) → AddsDue old now before due → f < length now → flag now f ≡ false
     → AddsDue old (set now f true) before (due ++ f ∷ [])

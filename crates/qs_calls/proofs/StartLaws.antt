@@ -1,6 +1,5 @@
 -- What a run may start from stays so in each memory that comes after.
-use Rattle.std.proofs.Common.{◌≡◌, ℕ, ◌<◌, List, [], ◌∷◌, length, Option, Some, None, ◌∙◌, arith}
-use Rattle.std.specs.List.{slice_get}
+use Rattle.std.proofs.Common.{◌<◌, List, [], ◌∷◌, length, Option, Some, None, ◌∙◌, arith}
 use Rattle.std.proofs.lemmas.Option.{slice_get_within}
 use Rattle.qs_memory.specs.Values.{Value}
 use Rattle.qs_memory.specs.Memory.{Memory}
@@ -8,7 +7,7 @@ use Rattle.qs_memory.specs.Soundness.{IsSound, ComesAfter}
 use Rattle.qs_memory.specs.declared.scalar.Scalar.{Scalar}
 use Rattle.qs_memory.proofs.SoundLaws.{value_kept}
 use Rattle.qs_calls.specs.World.{World, with_memory}
-use Rattle.qs_calls.specs.Starts.{DataExtent, Interface, IsOf, AreOf, ResultIsOf, IsDataExtent, BeginsWith, IsReady}
+use Rattle.qs_calls.specs.Starts.{DataExtent, Interface, IsOf, AreOf, ResultIsOf, BeginsWith, IsReady}
 
 pub is_of_later :
     (m later : Memory) (s : Scalar) (v : Value) → ComesAfter m later → IsOf m s v → IsOf later s v

@@ -17,13 +17,6 @@ some_nil : (k : ErrorKind) (ks : Kinds) → IsAmong k ks → is_nil ks ≡ false
 some_nil k [] e = absurd e
 some_nil k (x ∷ xs) e = refl
 
-pub items_none : (options : Options) (words : List Text) → is_some (items words) ≡ false → reading options words ≡ None
-items_none options words none = go (items words) none
-  where
-    go : (o : Option (List Item)) → is_some o ≡ false → option_and_then (λ is. if fits options is then Some (value_of is) else None) o ≡ None
-    go None e = refl
-    go (Some is) e = absurd (true≢false e)
-
 module _ (name : Text) (options : Options) (no_operand : among operand (names_of options) ≡ false) (a : App) (is_flat : a ≡ flat name options) (words : List Text) where
   free : is_simple_and_free a ≡ true
   free = ap is_simple_and_free is_flat ∙ flat_free name options no_operand

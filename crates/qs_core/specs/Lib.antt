@@ -12,6 +12,8 @@ pub mod TermTreeOf
 pub mod TermTexts
 pub mod TermLengths
 pub mod Outline
+pub mod Puts
+pub mod TextOf
 pub mod CallGraph
 pub mod Sizes
 pub mod Fits

@@ -1,4 +1,5 @@
 -- The terms and conditions that the program's values stand for.
+use Rattle.std.specs.Prelude.{◌≡◌, Option, Result, IfOk, option_map}
 use Rattle.qs_core.specs.TermTrees.{CoreTermTree, number, variable, temporary, combined, quotient, wrapped}
 use Rattle.qs_core.specs.TermTrees.{CoreConditionTree, compared, not, and, or}
 use Rattle.qs_core.specs.Terms.{remainder_of}
@@ -30,6 +31,9 @@ core_term = fold-CoreTerm CoreTermTree TermPairTree term_step pair_step
 abbrev pub core_pair : TermPair → TermPairTree
 core_pair = fold-TermPair CoreTermTree TermPairTree term_step pair_step
 
+abbrev pub option_term : Option CoreTerm → Option CoreTermTree
+option_term = option_map core_term
+
 -- two conditions
 pub record ConditionPairTree : Type 0 where
   pub left : CoreConditionTree
@@ -49,3 +53,16 @@ core_condition = fold-CoreCondition CoreConditionTree ConditionPairTree conditio
 
 abbrev pub core_conditions : ConditionPair → ConditionPairTree
 core_conditions = fold-ConditionPair CoreConditionTree ConditionPairTree condition_step conditions_step
+
+abbrev pub option_condition : Option CoreCondition → Option CoreConditionTree
+option_condition = option_map core_condition
+
+-- ---- answers
+
+-- the term that is due, where one is
+abbrev pub GivesTerm : {E : Type 0} → Option CoreTermTree → Result (Option CoreTerm) E → Type 0
+GivesTerm due result = IfOk result (λ t. option_term t ≡ due)
+
+-- the condition that is due, where one is
+abbrev pub GivesCondition : {E : Type 0} → Option CoreConditionTree → Result (Option CoreCondition) E → Type 0
+GivesCondition due result = IfOk result (λ c. option_condition c ≡ due)

@@ -1,8 +1,10 @@
 // The conditions of expressions.
-ghost use Rattle.std.specs.Prelude.{◌≡◌, IfOk, option_map};
+ghost use Rattle.std.specs.Prelude.{◌≡◌};
 ghost use Rattle.qs_core.specs.TreeOf.{core_expr};
-ghost use Rattle.qs_core.specs.TermTreeOf.{core_term, core_condition};
+ghost use Rattle.qs_core.specs.TermTreeOf.{GivesCondition, core_term, core_condition};
+ghost use Rattle.qs_core.specs.TermTreeOf.{option_term, option_condition};
 ghost use Rattle.qs_core.specs.TermTrees.{compared};
+ghost use Rattle.qs_core.specs.Terms.{comparison_of};
 ghost use Rattle.qs_core.specs.Terms as spec;
 
 use crate::expressions::CoreExpr;
@@ -20,7 +22,7 @@ fn compared(op: TermComparison, left: CoreTerm, right: CoreTerm) -> CoreConditio
 
 // A number that isn't 0.
 fn nonzero(whole: Option<CoreTerm>) -> Option<CoreCondition>
-    ensures { option_map core_condition result ≡ spec.nonzero (option_map core_term whole) }
+    ensures { option_condition result ≡ spec.nonzero (option_term whole) }
 {
     Some(compared(TermComparison::NotEqual, whole?, CoreTerm::Number(0)))
 }
@@ -43,8 +45,7 @@ fn comparison_of(
     left: Option<CoreTerm>,
     right: Option<CoreTerm>,
 ) -> Option<CoreCondition>
-    ensures { option_map core_condition result
-        ≡ spec.comparison_of op (option_map core_term left) (option_map core_term right) }
+    ensures { option_condition result ≡ comparison_of op (option_term left) (option_term right) }
 {
     let Some(t) = left else {
         return None;
@@ -59,8 +60,7 @@ fn negation(
     alloc: Global,
     operand: Option<CoreCondition>,
 ) -> Result<Option<CoreCondition>, NoMemory>
-    ensures { IfOk result (λ r. option_map core_condition r
-        ≡ spec.negation (option_map core_condition operand)) }
+    ensures { GivesCondition (spec.negation (option_condition operand)) result }
 {
     let Some(c) = operand else {
         return Ok(None);
@@ -73,8 +73,7 @@ fn both(
     left: Option<CoreCondition>,
     right: Option<CoreCondition>,
 ) -> Result<Option<CoreCondition>, NoMemory>
-    ensures { IfOk result (λ r. option_map core_condition r
-        ≡ spec.both (option_map core_condition left) (option_map core_condition right)) }
+    ensures { GivesCondition (spec.both (option_condition left) (option_condition right)) result }
 {
     let Some(left) = left else {
         return Ok(None);
@@ -91,8 +90,7 @@ fn either(
     left: Option<CoreCondition>,
     right: Option<CoreCondition>,
 ) -> Result<Option<CoreCondition>, NoMemory>
-    ensures { IfOk result (λ r. option_map core_condition r
-        ≡ spec.either (option_map core_condition left) (option_map core_condition right)) }
+    ensures { GivesCondition (spec.either (option_condition left) (option_condition right)) result }
 {
     let Some(left) = left else {
         return Ok(None);
@@ -106,15 +104,14 @@ fn either(
 
 // The condition that an expression which is no condition isn't 0.
 fn test(alloc: Global, e: &CoreExpr) -> Result<Option<CoreCondition>, NoMemory>
-    ensures { IfOk result (λ r. option_map core_condition r
-        ≡ spec.nonzero (spec.term_of (core_expr e.now))) }
+    ensures { GivesCondition (spec.nonzero (spec.term_of (core_expr e.now))) result }
 {
     Ok(nonzero(term_of(alloc, e)?))
 }
 
 /// The condition that an expression isn't 0, where there is one. It is as high as the expression.
 pub fn condition_of(alloc: Global, e: &CoreExpr) -> Result<Option<CoreCondition>, NoMemory>
-    ensures { IfOk result (λ r. option_map core_condition r ≡ spec.condition_of (core_expr e.now)) }
+    ensures { GivesCondition (spec.condition_of (core_expr e.now)) result }
 {
     match e {
         CoreExpr::Literal(_, _) => test(alloc, e),

@@ -1,9 +1,11 @@
 // The outline of a unit.
-ghost use Rattle.std.specs.Prelude.{◌≡◌, ◌++◌, IfOk, OnOk, flat_map, map};
-ghost use Rattle.qs_core.specs.Trees.{stmts_of, seq};
-ghost use Rattle.qs_core.specs.TreeOf.{core_expr, core_exprs, core_stmt, core_stmts, function_tree};
-ghost use Rattle.qs_core.specs.TreeOf.{option_expr, parameter_tree};
+ghost use Rattle.std.specs.Prelude.{◌≡◌, IfOk};
+ghost use Rattle.qs_core.specs.Trees.{stmts_of};
+ghost use Rattle.qs_core.specs.TreeOf.{core_stmts, function_tree, function_trees, parameter_tree};
 ghost use Rattle.qs_core.specs.UnitTrees.{unit_tree};
+ghost use Rattle.qs_core.specs.Puts.{Puts};
+ghost use Rattle.qs_core.specs.TextOf.{assign_line, call_line, if_line, return_line, seq_line};
+ghost use Rattle.qs_core.specs.TextOf as texts;
 ghost use Rattle.qs_core.specs.Outline as spec;
 
 use crate::expressions::CoreExpr;
@@ -20,7 +22,7 @@ use std::alloc::Global;
 // ---- lines
 
 fn put_path(out: &mut Vec<u8>, path: &[u8]) -> Result<(), NoMemory>
-    ensures { OnOk result (out.new.items ≡ out.old.items ++ spec.path_text path.now) }
+    ensures { Puts out.old (spec.path_text path.now) out.new result }
 {
     if path.is_empty() {
         put(out, b".")
@@ -30,7 +32,7 @@ fn put_path(out: &mut Vec<u8>, path: &[u8]) -> Result<(), NoMemory>
 }
 
 fn put_line(out: &mut Vec<u8>, path: &[u8], form: &[u8]) -> Result<(), NoMemory>
-    ensures { OnOk result (out.new.items ≡ out.old.items ++ spec.line path.now form.now) }
+    ensures { Puts out.old (spec.line path.now form.now) out.new result }
 {
     put_path(out, path)?;
     put(out, b" ")?;
@@ -51,8 +53,7 @@ fn part_path(alloc: Global, path: &[u8], part: usize) -> Result<Vec<u8>, NoMemor
 // ---- forms
 
 fn put_target(out: &mut Vec<u8>, f: &CoreFunction, x: Target) -> Result<(), NoMemory>
-    ensures { OnOk result (out.new.items
-        ≡ out.old.items ++ spec.target_text (function_tree f.now) x) }
+    ensures { Puts out.old (spec.target_text (function_tree f.now) x) out.new result }
 {
     match x {
         Target::Variable(x) => put_variable(out, f, x),
@@ -61,7 +62,7 @@ fn put_target(out: &mut Vec<u8>, f: &CoreFunction, x: Target) -> Result<(), NoMe
 }
 
 fn put_destination(out: &mut Vec<u8>, x: Option<u32>) -> Result<(), NoMemory>
-    ensures { OnOk result (out.new.items ≡ out.old.items ++ spec.destination_text x) }
+    ensures { Puts out.old (spec.destination_text x) out.new result }
 {
     match x {
         None => put(out, b"-"),
@@ -70,8 +71,7 @@ fn put_destination(out: &mut Vec<u8>, x: Option<u32>) -> Result<(), NoMemory>
 }
 
 fn put_function_name(out: &mut Vec<u8>, functions: &[CoreFunction], f: u32) -> Result<(), NoMemory>
-    ensures { OnOk result (out.new.items
-        ≡ out.old.items ++ spec.function_text (map function_tree functions.now) f) }
+    ensures { Puts out.old (spec.function_text (function_trees functions.now) f) out.new result }
 {
     match functions.get(f as usize) {
         None => Ok(()),
@@ -80,8 +80,7 @@ fn put_function_name(out: &mut Vec<u8>, functions: &[CoreFunction], f: u32) -> R
 }
 
 fn put_callee(out: &mut Vec<u8>, functions: &[CoreFunction], g: Callee) -> Result<(), NoMemory>
-    ensures { OnOk result (out.new.items
-        ≡ out.old.items ++ spec.callee_text (map function_tree functions.now) g) }
+    ensures { Puts out.old (spec.callee_text (function_trees functions.now) g) out.new result }
 {
     match g {
         Callee::Function(f) => put_function_name(out, functions, f.0),
@@ -96,8 +95,7 @@ fn put_argument(
     f: &CoreFunction,
     e: &CoreExpr,
 ) -> Result<(), NoMemory>
-    ensures { OnOk result (out.new.items
-        ≡ out.old.items ++ spec.argument_text (function_tree f.now) (core_expr e.now)) }
+    ensures { Puts out.old (texts.argument f.now e.now) out.new result }
 {
     put(out, b" ")?;
     put_expr(alloc, out, f, e)
@@ -109,9 +107,7 @@ fn put_arguments(
     f: &CoreFunction,
     es: &[CoreExpr],
 ) -> Result<(), NoMemory>
-    ensures { OnOk result (out.new.items
-        ≡ out.old.items ++ flat_map (spec.argument_text (function_tree f.now))
-        (core_exprs es.now)) }
+    ensures { Puts out.old (texts.arguments f.now es.now) out.new result }
 {
     for e in es {
         put_argument(alloc, out, f, e)?;
@@ -125,8 +121,7 @@ fn put_returned(
     f: &CoreFunction,
     e: &Option<CoreExpr>,
 ) -> Result<(), NoMemory>
-    ensures { OnOk result (out.new.items
-        ≡ out.old.items ++ spec.returned_text (function_tree f.now) (option_expr e.now)) }
+    ensures { Puts out.old (texts.returned f.now e.now) out.new result }
 {
     match e {
         None => Ok(()),
@@ -144,9 +139,7 @@ fn put_assign(
     x: Target,
     e: &CoreExpr,
 ) -> Result<(), NoMemory>
-    ensures { OnOk result (out.new.items
-        ≡ out.old.items ++ spec.line path.now
-        (spec.assign_form (function_tree f.now) x (core_expr e.now))) }
+    ensures { Puts out.old (assign_line f.now path.now x e.now) out.new result }
 {
     put_path(out, path)?;
     put(out, b" assign ")?;
@@ -166,10 +159,7 @@ fn put_call(
     g: Callee,
     es: &[CoreExpr],
 ) -> Result<(), NoMemory>
-    ensures { OnOk result (out.new.items
-        ≡ out.old.items ++ spec.line path.now
-        (spec.call_form (map function_tree functions.now) (function_tree f.now) x g
-        (core_exprs es.now))) }
+    ensures { Puts out.old (call_line functions.now f.now path.now x g es.now) out.new result }
 {
     put_path(out, path)?;
     put(out, b" call ")?;
@@ -187,9 +177,7 @@ fn put_if(
     path: &[u8],
     e: &CoreExpr,
 ) -> Result<(), NoMemory>
-    ensures { OnOk result (out.new.items
-        ≡ out.old.items ++ spec.line path.now
-        (spec.if_form (function_tree f.now) (core_expr e.now))) }
+    ensures { Puts out.old (if_line f.now path.now e.now) out.new result }
 {
     put_path(out, path)?;
     put(out, b" if ")?;
@@ -204,9 +192,7 @@ fn put_return(
     path: &[u8],
     e: &Option<CoreExpr>,
 ) -> Result<(), NoMemory>
-    ensures { OnOk result (out.new.items
-        ≡ out.old.items ++ spec.line path.now
-        (spec.return_form (function_tree f.now) (option_expr e.now))) }
+    ensures { Puts out.old (return_line f.now path.now e.now) out.new result }
 {
     put_path(out, path)?;
     put(out, b" return")?;
@@ -221,8 +207,7 @@ fn count_of(parts: &[CoreStmt]) -> usize
 }
 
 fn put_seq(out: &mut Vec<u8>, path: &[u8], parts: &[CoreStmt]) -> Result<(), NoMemory>
-    ensures { OnOk result (out.new.items
-        ≡ out.old.items ++ spec.line path.now (spec.seq_form (stmts_of (core_stmts parts.now)))) }
+    ensures { Puts out.old (seq_line path.now parts.now) out.new result }
 {
     put_path(out, path)?;
     put(out, b" seq ")?;
@@ -240,9 +225,7 @@ fn put_parts(
     path: &[u8],
     parts: &[CoreStmt],
 ) -> Result<(), NoMemory>
-    ensures { OnOk result (out.new.items
-        ≡ out.old.items ++ spec.outline_parts (map function_tree functions.now)
-        (function_tree f.now) path.now 0 (stmts_of (core_stmts parts.now))) }
+    ensures { Puts out.old (texts.parts functions.now f.now path.now parts.now) out.new result }
 {
     let mut part = 0;
     for s in parts {
@@ -263,9 +246,7 @@ fn put_part(
     part: usize,
     s: &CoreStmt,
 ) -> Result<(), NoMemory>
-    ensures { OnOk result (out.new.items
-        ≡ out.old.items ++ spec.outline_stmt (map function_tree functions.now)
-        (function_tree f.now) (spec.part_path path.now part) (core_stmt s.now)) }
+    ensures { Puts out.old (texts.part functions.now f.now path.now part s.now) out.new result }
 {
     let part_path = part_path(alloc, path, part)?;
     put_stmt(alloc, out, functions, f, &part_path, s)
@@ -280,9 +261,7 @@ fn put_stmt(
     path: &[u8],
     s: &CoreStmt,
 ) -> Result<(), NoMemory>
-    ensures { OnOk result (out.new.items
-        ≡ out.old.items ++ spec.outline_stmt (map function_tree functions.now)
-        (function_tree f.now) path.now (core_stmt s.now)) }
+    ensures { Puts out.old (texts.statement functions.now f.now path.now s.now) out.new result }
 {
     match s {
         CoreStmt::Skip => put_line(out, path, b"skip"),
@@ -314,16 +293,14 @@ fn put_stmt(
 // ---- functions
 
 fn put_parameter(out: &mut Vec<u8>, p: &CoreParameter) -> Result<(), NoMemory>
-    ensures { OnOk result (out.new.items
-        ≡ out.old.items ++ spec.parameter_text (parameter_tree p.now)) }
+    ensures { Puts out.old (spec.parameter_text (parameter_tree p.now)) out.new result }
 {
     put(out, b" ")?;
     put(out, p.name.bytes())
 }
 
 fn put_parameters(out: &mut Vec<u8>, ps: &[CoreParameter]) -> Result<(), NoMemory>
-    ensures { OnOk result (out.new.items
-        ≡ out.old.items ++ flat_map spec.parameter_text (map parameter_tree ps.now)) }
+    ensures { Puts out.old (texts.all_parameters ps.now) out.new result }
 {
     for p in ps {
         put_parameter(out, p)?;
@@ -332,7 +309,7 @@ fn put_parameters(out: &mut Vec<u8>, ps: &[CoreParameter]) -> Result<(), NoMemor
 }
 
 fn put_heading(out: &mut Vec<u8>, f: &CoreFunction) -> Result<(), NoMemory>
-    ensures { OnOk result (out.new.items ≡ out.old.items ++ spec.heading (function_tree f.now)) }
+    ensures { Puts out.old (spec.heading (function_tree f.now)) out.new result }
 {
     put(out, b"function ")?;
     put(out, f.name.bytes())?;
@@ -346,9 +323,7 @@ fn put_function(
     functions: &[CoreFunction],
     f: &CoreFunction,
 ) -> Result<(), NoMemory>
-    ensures { OnOk result (out.new.items
-        ≡ out.old.items ++ spec.outline_function (map function_tree functions.now)
-        (function_tree f.now)) }
+    ensures { Puts out.old (texts.function functions.now f.now) out.new result }
 {
     put_heading(out, f)?;
     put_seq(out, b"", &f.body)?;
@@ -360,9 +335,7 @@ fn put_functions(
     out: &mut Vec<u8>,
     functions: &[CoreFunction],
 ) -> Result<(), NoMemory>
-    ensures { OnOk result (out.new.items
-        ≡ out.old.items ++ flat_map (spec.outline_function (map function_tree functions.now))
-        (map function_tree functions.now)) }
+    ensures { Puts out.old (texts.all_functions functions.now) out.new result }
 {
     for f in functions {
         put_function(alloc, out, functions, f)?;

@@ -1,10 +1,8 @@
 // How long terms and conditions are as text. A number that passes usize stands still at its end.
-ghost use Rattle.std.specs.Prelude.{◌≡◌, ◌+◌, ◌≤◌, length, codes, decimal};
+ghost use Rattle.std.specs.Prelude.{◌≡◌, ◌+◌, ◌≤◌, length, decimal};
 ghost use Rattle.std.specs.Fmt.{signed_decimal};
 ghost use Rattle.qs_core.specs.TreeOf.{function_tree, variable_tree};
-ghost use Rattle.qs_core.specs.TermTreeOf.{core_term, core_pair, core_condition, core_conditions};
-ghost use Rattle.qs_core.specs.TermTrees.{combined, quotient, wrapped, compared};
-ghost use Rattle.qs_core.specs.Terms.{remainder_of};
+ghost use Rattle.qs_core.specs.TextOf as texts;
 ghost use Rattle.qs_core.specs.TermTexts as spec;
 ghost use Rattle.qs_core.specs.TermLengths.{saturated};
 
@@ -82,8 +80,7 @@ fn variable_length(f: &CoreFunction, x: u32) -> usize
 // The length of `(op t u)`.
 #[cycle(term_length)]
 fn combined_length(f: &CoreFunction, op: TermOperation, p: &TermPair) -> usize
-    ensures { result ≡ saturated (length (spec.term_text (function_tree f.now)
-        (combined op (core_pair p.now).left (core_pair p.now).right))) }
+    ensures { result ≡ saturated (length (texts.combined f.now op p.now)) }
 {
     both_length(3, term_length(f, &p.left), term_length(f, &p.right))
 }
@@ -91,8 +88,7 @@ fn combined_length(f: &CoreFunction, op: TermOperation, p: &TermPair) -> usize
 // The length of `(div t k)`.
 #[cycle(term_length)]
 fn quotient_length(f: &CoreFunction, t: &CoreTerm, k: u32) -> usize
-    ensures { result ≡ saturated
-        (length (spec.term_text (function_tree f.now) (quotient (core_term t.now) k))) }
+    ensures { result ≡ saturated (length (texts.quotient f.now t.now k)) }
 {
     both_length(3, term_length(f, t), number_length(k))
 }
@@ -100,8 +96,7 @@ fn quotient_length(f: &CoreFunction, t: &CoreTerm, k: u32) -> usize
 // The length of `(sub t (mul k (div t k)))`.
 #[cycle(term_length)]
 fn remainder_length(f: &CoreFunction, t: &CoreTerm, k: u32) -> usize
-    ensures { result ≡ saturated
-        (length (spec.term_text (function_tree f.now) (remainder_of (core_term t.now) k))) }
+    ensures { result ≡ saturated (length (texts.remainder f.now t.now k)) }
 {
     let t = term_length(f, t);
     let product = both_length(3, number_length(k), both_length(3, t, number_length(k)));
@@ -111,8 +106,7 @@ fn remainder_length(f: &CoreFunction, t: &CoreTerm, k: u32) -> usize
 // The length of `(wraps t)`.
 #[cycle(term_length)]
 fn wrapped_length(f: &CoreFunction, s: Signedness, t: &CoreTerm) -> usize
-    ensures { result ≡ saturated
-        (length (spec.term_text (function_tree f.now) (wrapped s (core_term t.now)))) }
+    ensures { result ≡ saturated (length (texts.wrapped f.now s t.now)) }
 {
     applied_length(5, term_length(f, t))
 }
@@ -120,7 +114,7 @@ fn wrapped_length(f: &CoreFunction, s: Signedness, t: &CoreTerm) -> usize
 /// The length of a term's text.
 #[cycle(term_length)]
 pub fn term_length(f: &CoreFunction, t: &CoreTerm) -> usize
-    ensures { result ≡ saturated (length (spec.term_text (function_tree f.now) (core_term t.now))) }
+    ensures { result ≡ saturated (length (texts.term f.now t.now)) }
 {
     match t {
         CoreTerm::Number(n) => whole_length(*n),
@@ -136,16 +130,14 @@ pub fn term_length(f: &CoreFunction, t: &CoreTerm) -> usize
 // ---- conditions
 
 fn compared_length(f: &CoreFunction, op: TermComparison, p: &TermPair) -> usize
-    ensures { result ≡ saturated (length (spec.condition_text (function_tree f.now)
-        (compared op (core_pair p.now).left (core_pair p.now).right))) }
+    ensures { result ≡ saturated (length (texts.compared f.now op p.now)) }
 {
     both_length(2, term_length(f, &p.left), term_length(f, &p.right))
 }
 
 #[cycle(condition_length)]
 fn negation_length(f: &CoreFunction, c: &CoreCondition) -> usize
-    ensures { result ≡ saturated (length (spec.applied (codes "not")
-        (spec.condition_text (function_tree f.now) (core_condition c.now)))) }
+    ensures { result ≡ saturated (length (texts.negation f.now c.now)) }
 {
     applied_length(3, condition_length(f, c))
 }
@@ -154,9 +146,7 @@ fn negation_length(f: &CoreFunction, c: &CoreCondition) -> usize
 #[cycle(condition_length)]
 fn conditions_length(f: &CoreFunction, head: usize, p: &ConditionPair) -> usize
     requires { head ≤ 5 }
-    ensures { result ≡ saturated (4 + head
-        + length (spec.condition_text (function_tree f.now) (core_conditions p.now).left)
-        + length (spec.condition_text (function_tree f.now) (core_conditions p.now).right)) }
+    ensures { result ≡ saturated (texts.both_length f.now head p.now) }
 {
     both_length(
         head,
@@ -168,8 +158,7 @@ fn conditions_length(f: &CoreFunction, head: usize, p: &ConditionPair) -> usize
 /// The length of a condition's text.
 #[cycle(condition_length)]
 pub fn condition_length(f: &CoreFunction, c: &CoreCondition) -> usize
-    ensures { result ≡ saturated
-        (length (spec.condition_text (function_tree f.now) (core_condition c.now))) }
+    ensures { result ≡ saturated (length (texts.condition f.now c.now)) }
 {
     match c {
         CoreCondition::Compared(op, p) => compared_length(f, *op, p),

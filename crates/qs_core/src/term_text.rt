@@ -1,9 +1,6 @@
 // Terms and conditions as text.
-ghost use Rattle.std.specs.Prelude.{◌≡◌, ◌++◌, OnOk, codes, option_map};
-ghost use Rattle.qs_core.specs.TreeOf.{core_expr, function_tree};
-ghost use Rattle.qs_core.specs.TermTreeOf.{core_term, core_pair, core_condition, core_conditions};
-ghost use Rattle.qs_core.specs.TermTrees.{combined, quotient, wrapped, compared};
-ghost use Rattle.qs_core.specs.Terms.{remainder_of};
+ghost use Rattle.qs_core.specs.Puts.{Puts};
+ghost use Rattle.qs_core.specs.TextOf as texts;
 ghost use Rattle.qs_core.specs.TermTexts as spec;
 
 use crate::conditions::condition_of;
@@ -22,7 +19,7 @@ use std::alloc::Global;
 // ---- heads
 
 fn put_operation(out: &mut Vec<u8>, op: TermOperation) -> Result<(), NoMemory>
-    ensures { OnOk result (out.new.items ≡ out.old.items ++ spec.operation_head op) }
+    ensures { Puts out.old (spec.operation_head op) out.new result }
 {
     match op {
         TermOperation::Add => put(out, b"add"),
@@ -32,7 +29,7 @@ fn put_operation(out: &mut Vec<u8>, op: TermOperation) -> Result<(), NoMemory>
 }
 
 fn put_wrap(out: &mut Vec<u8>, s: Signedness) -> Result<(), NoMemory>
-    ensures { OnOk result (out.new.items ≡ out.old.items ++ spec.wrap_head s) }
+    ensures { Puts out.old (spec.wrap_head s) out.new result }
 {
     match s {
         Signedness::Signed => put(out, b"wraps"),
@@ -41,7 +38,7 @@ fn put_wrap(out: &mut Vec<u8>, s: Signedness) -> Result<(), NoMemory>
 }
 
 fn put_comparison(out: &mut Vec<u8>, op: TermComparison) -> Result<(), NoMemory>
-    ensures { OnOk result (out.new.items ≡ out.old.items ++ spec.comparison_head op) }
+    ensures { Puts out.old (spec.comparison_head op) out.new result }
 {
     match op {
         TermComparison::LessOrEqual => put(out, b"le"),
@@ -56,9 +53,7 @@ fn put_comparison(out: &mut Vec<u8>, op: TermComparison) -> Result<(), NoMemory>
 // `t u`
 #[cycle(put_term)]
 fn put_pair(out: &mut Vec<u8>, f: &CoreFunction, p: &TermPair) -> Result<(), NoMemory>
-    ensures { OnOk result (out.new.items ≡ out.old.items
-        ++ spec.term_text (function_tree f.now) (core_pair p.now).left
-        ++ codes " " ++ spec.term_text (function_tree f.now) (core_pair p.now).right) }
+    ensures { Puts out.old (texts.pair f.now p.now) out.new result }
 {
     put_term(out, f, &p.left)?;
     put(out, b" ")?;
@@ -73,8 +68,7 @@ fn put_combined(
     op: TermOperation,
     p: &TermPair,
 ) -> Result<(), NoMemory>
-    ensures { OnOk result (out.new.items ≡ out.old.items ++ spec.term_text (function_tree f.now)
-        (combined op (core_pair p.now).left (core_pair p.now).right)) }
+    ensures { Puts out.old (texts.combined f.now op p.now) out.new result }
 {
     put(out, b"(")?;
     put_operation(out, op)?;
@@ -86,8 +80,7 @@ fn put_combined(
 // `(div t k)`
 #[cycle(put_term)]
 fn put_quotient(out: &mut Vec<u8>, f: &CoreFunction, t: &CoreTerm, k: u32) -> Result<(), NoMemory>
-    ensures { OnOk result (out.new.items
-        ≡ out.old.items ++ spec.term_text (function_tree f.now) (quotient (core_term t.now) k)) }
+    ensures { Puts out.old (texts.quotient f.now t.now k) out.new result }
 {
     put(out, b"(div ")?;
     put_term(out, f, t)?;
@@ -99,9 +92,7 @@ fn put_quotient(out: &mut Vec<u8>, f: &CoreFunction, t: &CoreTerm, k: u32) -> Re
 // `(sub t (mul k (div t k)))`
 #[cycle(put_term)]
 fn put_remainder(out: &mut Vec<u8>, f: &CoreFunction, t: &CoreTerm, k: u32) -> Result<(), NoMemory>
-    ensures { OnOk result (out.new.items
-        ≡ out.old.items ++ spec.term_text (function_tree f.now) (remainder_of
-        (core_term t.now) k)) }
+    ensures { Puts out.old (texts.remainder f.now t.now k) out.new result }
 {
     put(out, b"(sub ")?;
     put_term(out, f, t)?;
@@ -120,8 +111,7 @@ fn put_wrapped(
     s: Signedness,
     t: &CoreTerm,
 ) -> Result<(), NoMemory>
-    ensures { OnOk result (out.new.items
-        ≡ out.old.items ++ spec.term_text (function_tree f.now) (wrapped s (core_term t.now))) }
+    ensures { Puts out.old (texts.wrapped f.now s t.now) out.new result }
 {
     put(out, b"(")?;
     put_wrap(out, s)?;
@@ -134,8 +124,7 @@ fn put_wrapped(
 /// is high.
 #[cycle(put_term)]
 pub fn put_term(out: &mut Vec<u8>, f: &CoreFunction, t: &CoreTerm) -> Result<(), NoMemory>
-    ensures { OnOk result (out.new.items
-        ≡ out.old.items ++ spec.term_text (function_tree f.now) (core_term t.now)) }
+    ensures { Puts out.old (texts.term f.now t.now) out.new result }
 {
     match t {
         CoreTerm::Number(n) => put_whole(out, *n),
@@ -156,9 +145,7 @@ fn put_compared(
     op: TermComparison,
     p: &TermPair,
 ) -> Result<(), NoMemory>
-    ensures { OnOk result (out.new.items
-        ≡ out.old.items ++ spec.condition_text (function_tree f.now)
-        (compared op (core_pair p.now).left (core_pair p.now).right)) }
+    ensures { Puts out.old (texts.compared f.now op p.now) out.new result }
 {
     put(out, b"(")?;
     put_comparison(out, op)?;
@@ -169,8 +156,7 @@ fn put_compared(
 
 #[cycle(put_condition)]
 fn put_negation(out: &mut Vec<u8>, f: &CoreFunction, c: &CoreCondition) -> Result<(), NoMemory>
-    ensures { OnOk result (out.new.items ≡ out.old.items ++ spec.applied (codes "not")
-        (spec.condition_text (function_tree f.now) (core_condition c.now))) }
+    ensures { Puts out.old (texts.negation f.now c.now) out.new result }
 {
     put(out, b"(not ")?;
     put_condition(out, f, c)?;
@@ -185,9 +171,7 @@ fn put_both(
     head: &[u8],
     p: &ConditionPair,
 ) -> Result<(), NoMemory>
-    ensures { OnOk result (out.new.items ≡ out.old.items ++ spec.applied_to_both head.now
-        (spec.condition_text (function_tree f.now) (core_conditions p.now).left)
-        (spec.condition_text (function_tree f.now) (core_conditions p.now).right)) }
+    ensures { Puts out.old (texts.both f.now head.now p.now) out.new result }
 {
     put(out, b"(")?;
     put(out, head)?;
@@ -201,8 +185,7 @@ fn put_both(
 /// Writes a condition.
 #[cycle(put_condition)]
 pub fn put_condition(out: &mut Vec<u8>, f: &CoreFunction, c: &CoreCondition) -> Result<(), NoMemory>
-    ensures { OnOk result (out.new.items
-        ≡ out.old.items ++ spec.condition_text (function_tree f.now) (core_condition c.now)) }
+    ensures { Puts out.old (texts.condition f.now c.now) out.new result }
 {
     match c {
         CoreCondition::Compared(op, p) => put_compared(out, f, *op, p),
@@ -219,8 +202,7 @@ fn put_term_or_mark(
     f: &CoreFunction,
     t: &Option<CoreTerm>,
 ) -> Result<(), NoMemory>
-    ensures { OnOk result (out.new.items
-        ≡ out.old.items ++ spec.term_or_mark (function_tree f.now) (option_map core_term t.now)) }
+    ensures { Puts out.old (texts.term_or_mark f.now t.now) out.new result }
 {
     match t {
         None => put(out, b"?"),
@@ -236,9 +218,7 @@ fn put_condition_or_mark(
     f: &CoreFunction,
     c: &Option<CoreCondition>,
 ) -> Result<(), NoMemory>
-    ensures { OnOk result (out.new.items
-        ≡ out.old.items ++ spec.condition_or_mark (function_tree f.now)
-        (option_map core_condition c.now)) }
+    ensures { Puts out.old (texts.condition_or_mark f.now c.now) out.new result }
 {
     match c {
         None => put(out, b"?"),
@@ -257,8 +237,7 @@ pub fn put_expr(
     f: &CoreFunction,
     e: &CoreExpr,
 ) -> Result<(), NoMemory>
-    ensures { OnOk result (out.new.items
-        ≡ out.old.items ++ spec.expr_text (function_tree f.now) (core_expr e.now)) }
+    ensures { Puts out.old (texts.expression f.now e.now) out.new result }
 {
     let t = term_of(alloc, e)?;
     put_term_or_mark(out, f, &t)
@@ -271,8 +250,7 @@ pub fn put_test(
     f: &CoreFunction,
     e: &CoreExpr,
 ) -> Result<(), NoMemory>
-    ensures { OnOk result (out.new.items
-        ≡ out.old.items ++ spec.test_text (function_tree f.now) (core_expr e.now)) }
+    ensures { Puts out.old (texts.test f.now e.now) out.new result }
 {
     let c = condition_of(alloc, e)?;
     put_condition_or_mark(out, f, &c)

@@ -1,9 +1,10 @@
 // The terms and conditions of expressions.
-ghost use Rattle.std.specs.Prelude.{◌≡◌, IfOk, option_map};
+ghost use Rattle.std.specs.Prelude.{◌≡◌, IfOk};
 ghost use Rattle.qs_core.specs.Scalars.{is_integer};
 ghost use Rattle.qs_core.specs.TreeOf.{core_expr};
-ghost use Rattle.qs_core.specs.TermTreeOf.{core_term};
+ghost use Rattle.qs_core.specs.TermTreeOf.{GivesTerm, core_term, option_term};
 ghost use Rattle.qs_core.specs.TermTrees.{combined, wrapped};
+ghost use Rattle.qs_core.specs.Terms.{arithmetic_term};
 ghost use Rattle.qs_core.specs.Terms as spec;
 
 use crate::expressions::CoreExpr;
@@ -100,8 +101,7 @@ fn wrapped_both(
     left: Option<CoreTerm>,
     right: Option<CoreTerm>,
 ) -> Result<Option<CoreTerm>, NoMemory>
-    ensures { IfOk result (λ r. option_map core_term r
-        ≡ spec.wrapped_both op s (option_map core_term left) (option_map core_term right)) }
+    ensures { GivesTerm (spec.wrapped_both op s (option_term left) (option_term right)) result }
 {
     let Some(t) = left else {
         return Ok(None);
@@ -119,8 +119,7 @@ fn divided(
     left: Option<CoreTerm>,
     by: Option<u32>,
 ) -> Result<Option<CoreTerm>, NoMemory>
-    ensures { IfOk result (λ r. option_map core_term r
-        ≡ spec.divided s (option_map core_term left) by) }
+    ensures { GivesTerm (spec.divided s (option_term left) by) result }
 {
     if !is_unsigned(s) {
         return Ok(None);
@@ -140,8 +139,7 @@ fn remainder(
     left: Option<CoreTerm>,
     by: Option<u32>,
 ) -> Result<Option<CoreTerm>, NoMemory>
-    ensures { IfOk result (λ r. option_map core_term r
-        ≡ spec.remainder s (option_map core_term left) by) }
+    ensures { GivesTerm (spec.remainder s (option_term left) by) result }
 {
     if !is_unsigned(s) {
         return Ok(None);
@@ -171,8 +169,7 @@ fn multiple(
     left: Option<CoreTerm>,
     of: Option<u32>,
 ) -> Result<Option<CoreTerm>, NoMemory>
-    ensures { IfOk result (λ r. option_map core_term r
-        ≡ spec.multiple s (option_map core_term left) of) }
+    ensures { GivesTerm (spec.multiple s (option_term left) of) result }
 {
     let Some(t) = left else {
         return Ok(None);
@@ -193,8 +190,7 @@ fn arithmetic_term(
     right: Option<CoreTerm>,
     bits: Option<u32>,
 ) -> Result<Option<CoreTerm>, NoMemory>
-    ensures { IfOk result (λ r. option_map core_term r
-        ≡ spec.arithmetic_term op s (option_map core_term left) (option_map core_term right) bits) }
+    ensures { GivesTerm (arithmetic_term op s (option_term left) (option_term right) bits) result }
 {
     match op {
         Arithmetic::Add => wrapped_both(alloc, TermOperation::Add, s, left, right),
@@ -217,8 +213,7 @@ fn binary_term(
     right: Option<CoreTerm>,
     bits: Option<u32>,
 ) -> Result<Option<CoreTerm>, NoMemory>
-    ensures { IfOk result (λ r. option_map core_term r
-        ≡ spec.binary_term op (option_map core_term left) (option_map core_term right) bits) }
+    ensures { GivesTerm (spec.binary_term op (option_term left) (option_term right) bits) result }
 {
     match op {
         BinaryOperation::Arithmetic(op, s) => arithmetic_term(alloc, op, s, left, right, bits),
@@ -234,8 +229,7 @@ fn negative(
     s: Signedness,
     operand: Option<CoreTerm>,
 ) -> Result<Option<CoreTerm>, NoMemory>
-    ensures { IfOk result (λ r. option_map core_term r
-        ≡ spec.negative s (option_map core_term operand)) }
+    ensures { GivesTerm (spec.negative s (option_term operand)) result }
 {
     let Some(t) = operand else {
         return Ok(None);
@@ -250,8 +244,7 @@ fn unary_term(
     op: UnaryOperation,
     operand: Option<CoreTerm>,
 ) -> Result<Option<CoreTerm>, NoMemory>
-    ensures { IfOk result (λ r. option_map core_term r
-        ≡ spec.unary_term op (option_map core_term operand)) }
+    ensures { GivesTerm (spec.unary_term op (option_term operand)) result }
 {
     match op {
         UnaryOperation::Plus(_) => Ok(operand),
@@ -263,7 +256,7 @@ fn unary_term(
 }
 
 fn from_char(to: Scalar, t: CoreTerm) -> Option<CoreTerm>
-    ensures { option_map core_term result ≡ spec.from_char to (core_term t) }
+    ensures { option_term result ≡ spec.from_char to (core_term t) }
 {
     match to {
         Scalar::Char => Some(t),
@@ -274,7 +267,7 @@ fn from_char(to: Scalar, t: CoreTerm) -> Option<CoreTerm>
 }
 
 fn from_int(alloc: Global, to: Scalar, t: CoreTerm) -> Result<Option<CoreTerm>, NoMemory>
-    ensures { IfOk result (λ r. option_map core_term r ≡ spec.from_int to (core_term t)) }
+    ensures { GivesTerm (spec.from_int to (core_term t)) result }
 {
     match to {
         Scalar::Char => Ok(Some(CoreTerm::Remainder(Box::new(alloc, t)?, 256))),
@@ -285,7 +278,7 @@ fn from_int(alloc: Global, to: Scalar, t: CoreTerm) -> Result<Option<CoreTerm>, 
 }
 
 fn from_unsigned(alloc: Global, to: Scalar, t: CoreTerm) -> Result<Option<CoreTerm>, NoMemory>
-    ensures { IfOk result (λ r. option_map core_term r ≡ spec.from_unsigned to (core_term t)) }
+    ensures { GivesTerm (spec.from_unsigned to (core_term t)) result }
 {
     match to {
         Scalar::Char => Ok(Some(CoreTerm::Remainder(Box::new(alloc, t)?, 256))),
@@ -301,8 +294,7 @@ fn conversion_term(
     to: Scalar,
     operand: Option<CoreTerm>,
 ) -> Result<Option<CoreTerm>, NoMemory>
-    ensures { IfOk result (λ r. option_map core_term r
-        ≡ spec.conversion_term from to (option_map core_term operand)) }
+    ensures { GivesTerm (spec.conversion_term from to (option_term operand)) result }
 {
     let Some(t) = operand else {
         return Ok(None);
@@ -319,14 +311,14 @@ fn conversion_term(
 
 // The term of a literal, a variable or a temporary.
 fn if_integer(s: Scalar, t: CoreTerm) -> Option<CoreTerm>
-    ensures { option_map core_term result ≡ spec.if_integer s (core_term t) }
+    ensures { option_term result ≡ spec.if_integer s (core_term t) }
 {
     if is_integer(s) { Some(t) } else { None }
 }
 
 /// The term of an expression, where it has one. It is as high as the expression.
 pub fn term_of(alloc: Global, e: &CoreExpr) -> Result<Option<CoreTerm>, NoMemory>
-    ensures { IfOk result (λ r. option_map core_term r ≡ spec.term_of (core_expr e.now)) }
+    ensures { GivesTerm (spec.term_of (core_expr e.now)) result }
 {
     match e {
         CoreExpr::Literal(s, n) => { Ok(if_integer(*s, CoreTerm::Number(literal_value(*s, *n)))) }

@@ -1,6 +1,5 @@
 -- Arguments that are tested one after the other.
-use Rattle.std.proofs.Common.{◌≡◌, ℕ, ◌+◌, ◌<◌, ◌≤◌, ℤ, List, [], ◌∷◌, ◌++◌, length, take, drop, get_or, true, false, Some, None, if◌then◌else◌, refl, sym, ◌∙◌, ap, arith, add-one}
-use Rattle.std.proofs.lemmas.Grind.{common_steps}
+use Rattle.std.proofs.Common.{◌≡◌, ℕ, ◌+◌, ◌<◌, ℤ, List, [], ◌∷◌, ◌++◌, length, take, drop, get_or, true, false, Some, if◌then◌else◌, sym, ◌∙◌, ap, add-one}
 use Rattle.std.proofs.lemmas.List.{drop_more, map-append}
 use Rattle.std.proofs.Math.Seq.{take-suc}
 use Rattle.qs_base.specs.Words.{wrap}
@@ -21,9 +20,6 @@ next_words args i z d e h =
     ∙ map-append wrap (take i args) (get_or args i d ∷ [])
     ∙ ap (λ y. words_of (take i args) ++ wrap y ∷ []) (sym e)
 
-pub passed_none : (image : Image) (args : List ℤ) → Passed image args 0 []
-passed_none image args = record { words_are = refl; rest = refl }
-
 pub passed_more : (image : Image) (args : List ℤ) (i : ℕ) (words : List ℕ) (z d : ℤ) → z ≡ get_or args i d → i < length args → fits_parameter image i z ≡ true → Passed image args i words → Passed image args (i + 1) (words ++ wrap z ∷ [])
 passed_more image args i words z d e h fits p = record {
   words_are = ap (λ w. w ++ wrap z ∷ []) p.words_are ∙ sym (next_words args i z d e h);
@@ -33,9 +29,3 @@ passed_more image args i words z d e h fits p = record {
 pub misfit_at : (image : Image) (args : List ℤ) (i : ℕ) (words : List ℕ) (z d : ℤ) → z ≡ get_or args i d → i < length args → fits_parameter image i z ≡ false → Passed image args i words → first_misfit image 0 args ≡ Some i
 misfit_at image args i words z d e h misfit p =
     p.rest ∙ next_misfit image args i z d e h ∙ ap (λ b. if b then first_misfit image (i + 1) (drop (i + 1) args) else Some i) misfit
-
-pub none_misfits : (image : Image) (args : List ℤ) (i : ℕ) (words : List ℕ) → length args ≤ i → Passed image args i words → first_misfit image 0 args ≡ None
-none_misfits image args i words h p = let e : drop i args ≡ [] = grind (arith, common_steps) in p.rest ∙ ap (first_misfit image i) e
-
-pub all_words : (image : Image) (args : List ℤ) (i : ℕ) (words : List ℕ) → length args ≤ i → Passed image args i words → words ≡ words_of args
-all_words image args i words h p = let e : take i args ≡ args = grind (arith, common_steps) in p.words_are ∙ ap words_of e

@@ -1,5 +1,5 @@
 -- How a source and its proof file come to a unit with proofs.
-use Rattle.std.proofs.Common.{◌≡◌, ◌≤◌, ◌∙◌, ℕ, arith, List, length, Option, Some, None, Result, Ok, Err, refl, sym, ap, subst, inl, inr}
+use Rattle.std.proofs.Common.{◌≡◌, ◌∙◌, ℕ, List, Option, Some, None, Result, Ok, Err, refl, sym, ap, subst, inl, inr}
 use Rattle.std.specs.Prelude.{Vec}
 use Rattle.std.specs.declared.alloc.Global.{Global}
 use Rattle.std.proofs.lemmas.Option.{same_Some}
@@ -12,7 +12,6 @@ use Rattle.qs_elaborate.specs.FitLaws.{HasCore}
 use Rattle.qs_elaborate.proofs.FitCore.{units_have_cores}
 use Rattle.qs_triples.specs.TreeOf.{proofs_tree}
 use Rattle.qs_certify.specs.Certification.{CannotCertify}
-use Rattle.qs_certify.specs.Given.{IsShort}
 use Rattle.qs_certify.specs.declared.fault.CertifyFault.{CertifyFault}
 use Rattle.qs_ports.specs.StoreView.{StoreView}
 use Rattle.qs_driver.specs.Limits.{proof_limit}
@@ -63,12 +62,6 @@ holds_certified {unit = unit} file c typed_as read k =
     }
 
 -- ---- the proof file
-
-pub short_file : (v w : StoreView) (proof : Option (List ℕ)) (file : Option (Vec ℕ Global)) → ReadsProof v w proof (Ok file) → IsShort (file_of file)
-short_file v w None None r = tt
-short_file v w None (Some text) r = absurd r
-short_file v w (Some name) None r = absurd r
-short_file v w (Some name) (Some text) r = let within : length text.items ≤ proof_limit = r.read_as.within in omega (arith, within)
 
 -- what was read of the proof file behind the source
 pub proof_read : (v u w : StoreView) (proof : Option (List ℕ)) (file : Option (Vec ℕ Global)) → IsUntouched v u → ReadsProof u w proof (Ok file) → WasReadProof v proof (file_of file)

@@ -1,12 +1,8 @@
 -- How a file is read, with its limit.
-use Rattle.std.proofs.Common.{◌≡◌, ℕ, ◌+◌, ◌<◌, ◌≤◌, List, length, take, arith, ◌∙◌, IsTrue, Some}
+use Rattle.std.proofs.Common.{◌≡◌, ℕ, ◌+◌, ◌<◌, List, length, take, arith, IsTrue}
 use Rattle.std.proofs.lemmas.Grind.{common_steps}
 use Rattle.qs_ports.specs.StoreView.{StoreView, Keeps}
-use Rattle.qs_ports.specs.Whole.{IsWhole}
-use Rattle.qs_driver.specs.Files.{HoldsContent, HoldsWith, IsTooLong, WasReadAs, WasReadWith, WasRead, WasTooLong}
-
-short_content : (limit : ℕ) (content bytes : List ℕ) → bytes ≡ take (limit + 1) content → length bytes ≤ limit → content ≡ bytes
-short_content limit content bytes e h = grind (arith, common_steps)
+use Rattle.qs_driver.specs.Files.{HoldsContent, HoldsWith, IsTooLong, WasReadAs, WasReadWith, WasTooLong}
 
 long_content : (limit : ℕ) (content bytes : List ℕ) → bytes ≡ take (limit + 1) content → limit < length bytes → limit < length content
 long_content limit content bytes e h = grind (arith, common_steps)
@@ -14,26 +10,6 @@ long_content limit content bytes e h = grind (arith, common_steps)
 -- what a store tells before a file is read it tells after that
 pub told_after : {v w : StoreView} → Keeps v w → IsTrue v.told → IsTrue w.told
 told_after k t = (k.tells t (omega arith)).0
-
-pub was_read : {v w : StoreView} {name bytes : List ℕ} {limit : ℕ} → IsWhole v w name limit bytes → length bytes ≤ limit → WasRead v w name limit bytes
-was_read {v} {w} {name} {bytes} {limit} whole h = record {
-  untouched = record { only_reads = whole.only_reads; counts = whole.counts };
-  read_as = record {
-    within = h;
-    there = λ t.
-        let c = whole.content (told_after whole.only_reads.keeps t) in
-        let same = short_content limit c.content bytes c.read h in
-        c.there ∙ (let f : Some c.content ≡ Some bytes = cc in f);
-  };
-}
-
-pub was_too_long : {v w : StoreView} {name bytes : List ℕ} {limit : ℕ} → IsWhole v w name limit bytes → limit < length bytes → WasTooLong v w name limit
-was_too_long {v} {w} {name} {bytes} {limit} whole h = record {
-  untouched = record { only_reads = whole.only_reads; counts = whole.counts };
-  read = bytes;
-  more = h;
-  is_content = λ t. whole.content (told_after whole.only_reads.keeps t);
-}
 
 -- ---- what was read is the file's, where the store tells its files
 

@@ -36,7 +36,6 @@ pub mod SampleBounds
 pub mod SampleLaws
 mod SizesExamples
 pub mod SampleStacks
-pub mod SampleStackLaw
 pub mod SampleRefusals
 pub mod SampleCounts
 pub mod SampleStarts

@@ -1,5 +1,5 @@
 -- There is a stack for each image of a sample.
-use Rattle.std.proofs.Common.{◌≡◌, ℕ, zero, suc, ◌≤◌, ◌<◌, ◌^◌, true, List, [], ◌∷◌, length, None, refl, ap, sym, ◌∙◌, subst}
+use Rattle.std.proofs.Common.{◌≡◌, ℕ, zero, suc, ◌≤◌, ◌<◌, ◌^◌, true, List, [], ◌∷◌, length, None, refl, ap, sym, ◌∙◌, subst, arith}
 use Rattle.std.specs.List.{slice_get}
 use Rattle.qs_types.specs.Contexts.{start_context}
 use Rattle.qs_core.specs.Fits.{unit_fits}
@@ -13,15 +13,17 @@ use Rattle.qs_image.specs.Image.{Image}
 use Rattle.qs_machine.specs.Arguments.{AreArguments}
 use Rattle.qs_build.specs.Units.{types_of_main, main_types}
 use Rattle.qs_certify.specs.Bound.{costs_of}
+use Rattle.qs_certify.specs.Laws.{HasLongestBound}
+use Rattle.qs_certify.proofs.LongestLaws.{bounds_are_longest_paths}
 use Rattle.qs_driver.specs.Bounds.{IsImageOf, bound_by, costs_in}
 use Rattle.qs_driver.specs.Certified.{CertifiedSource, IsCertifiedAs}
 use Rattle.qs_driver.specs.SampleSource.{sample_text}
-use Rattle.qs_driver.specs.SampleLaws.{HasSmallBound}
+use Rattle.qs_driver.specs.SampleLaws.{HasSmallBound, SamplesHaveStacks}
 use Rattle.qs_driver.proofs.SourceLaws.{same_trees}
 use Rattle.qs_driver.proofs.SampleTrees.{IsTail}
 use Rattle.qs_driver.proofs.SampleMeaning.{typed_tail}
 use Rattle.qs_driver.proofs.SampleCore.{core_by}
-use Rattle.qs_driver.proofs.SampleBounds.{AreCheap, caps_are_cheap, cheap_below, cheap_at, few_functions, longest_path_is_small}
+use Rattle.qs_driver.proofs.SampleBounds.{AreCheap, all_cheap, caps_are_cheap, cheap_below, cheap_at, few_functions, longest_path_is_small}
 use Rattle.qs_driver.proofs.SampleGood.{IsTypedSample, sample_is_typed}
 use Rattle.qs_driver.proofs.SampleLaws.{sample_core}
 
@@ -81,3 +83,12 @@ small_bound n s image bound l h o is path =
       bound = is;
       small = longest_path_is_small names n (costs_of costs) bound l h (λ f. cheap_at costs f o.cheap) longest;
     }
+
+-- main's bound is the longest path of calls
+pub samples_have_stacks : SamplesHaveStacks
+samples_have_stacks n s image l h c made =
+    let below : n < 512 = omega arith in
+    let o : OfSample n s image = of_sample n s image l below c made in
+    let longest : HasLongestBound s.core s.proofs (costs_in image.functions) [] =
+    bounds_are_longest_paths s.core s.given s.proofs (costs_in image.functions) [] o.fits o.few (all_cheap (costs_in image.functions) o.cheap) c.certified in
+    small_bound n s image longest.bound l below o longest.is longest.longest

@@ -1,11 +1,10 @@
 -- A text that can be started is started, unless memory is wanting.
-use Rattle.std.proofs.Common.{◌≡◌, ◌∙◌, inl, inr, ℕ, ◌<◌, List, [], length, None, Ok, Err, subst, arith}
+use Rattle.std.proofs.Common.{◌≡◌, ◌∙◌, inl, inr, ℕ, List, [], None, Ok, Err, subst}
 use Rattle.qs_syntax.specs.Trees.{DeclTree}
 use Rattle.qs_syntax.specs.Units.{IsRead}
 use Rattle.qs_image.specs.Image.{Image}
 use Rattle.qs_driver.specs.Bounds.{IsImageOf}
 use Rattle.qs_driver.specs.Certified.{IsCertifiedUnit, LacksCertificate, cannot_certify, lacks_memory}
-use Rattle.qs_driver.specs.Limits.{source_limit}
 use Rattle.qs_driver.specs.Made.{IsMadeOf, CannotMakeOf}
 use Rattle.qs_driver.specs.Made as made
 use Rattle.qs_driver.specs.SampleLaws.{HasSmallBound, IsSampleCount}
@@ -19,13 +18,10 @@ use Rattle.qs_driver.specs.declared.status.Status.{Status}
 use Rattle.qs_driver.specs.declared.status.Status.TheVariants.{NoMemory}
 use Rattle.qs_driver.proofs.CertifiedLaws.{HoldsCertified, holds_certified}
 use Rattle.qs_driver.proofs.SampleLaws.{samples_are_good}
-use Rattle.qs_driver.proofs.SampleStackLaw.{samples_have_stacks}
+use Rattle.qs_driver.proofs.SampleStacks.{samples_have_stacks}
 use Rattle.qs_driver.proofs.SampleRefusals.{good_text_is_typed, good_core, good_core_is_certified, stack_is_there}
 use Rattle.qs_driver.proofs.rooms.Exec.{lacks_none, no_load}
 use Rattle.qs_driver.proofs.rooms.Sample.{image_of, bound_of_held}
-
-pub not_too_long : (text : List ℕ) (status : Status) → source_limit < length text → CanStart text → status ≡ NoMemory
-not_too_long text status long can = let short = can.good.short in absurd (omega (arith, short, long))
 
 pub not_refused : (text : List ℕ) (status : Status) → RefusesText text status → CanStart text → status ≡ NoMemory
 not_refused text status r can = good_text_is_typed text status can.good r

@@ -7,16 +7,12 @@ use Rattle.qs_lexer.proofs.TerminalLaws.{are_well_formed}
 use Rattle.qs_lexer.specs.Terminals.{terminals}
 use Rattle.qs_types.specs.Limits.{IsWithinLimits}
 use Rattle.qs_types.specs.WellTyped.{WellTyped}
-use Rattle.qs_typing.specs.TypedOf.{typed_tree}
 use Rattle.qs_compile.specs.Names.{HasRoomForNames}
 use Rattle.qs_compile.proofs.Compiled.{units_pass_no_size}
 use Rattle.qs_compile.proofs.SourceNames.{names_are_of_the_text}
-use Rattle.qs_ports.specs.StoreView.{StoreView}
-use Rattle.qs_driver.specs.Certified.{CertifyWords, HasCertified}
 use Rattle.qs_driver.specs.Limits.{source_limit}
 use Rattle.qs_driver.specs.Sizes.{SourcesPassNoSize}
 use Rattle.qs_driver.specs.Source.{IsTypedAs}
-use Rattle.qs_driver.specs.declared.certified.CertifiedUnit.{CertifiedUnit}
 
 -- a source that is no longer than its limit
 text_has_room : (text : List ℕ) (unit : UnitTree) → length text ≤ source_limit → IsTypedAs text unit → HasRoomForNames unit
@@ -24,10 +20,6 @@ text_has_room text unit within read =
     let u = read.typed.unit in
     let names = names_are_of_the_text text u.tokens u.reads.height u.reads.unnumbered u.are_tokens u.reads.reads in
     subst HasRoomForNames (sym u.reads.are_numbered ∙ read.trees_are) (omega (arith, names, within))
-
--- what is certified was read from such a source
-pub certified_has_room : (w : CertifyWords) (v u : StoreView) (c : CertifiedUnit) → HasCertified w v u c → HasRoomForNames (typed_tree c.typed)
-certified_has_room w v u c h = subst HasRoomForNames (sym h.holds.unit) (text_has_room h.reads.text h.source.unit h.reads.text_read.within h.reads.is.typed_as)
 
 -- bytes that are a unit are read as it
 is_read : (text : List ℕ) (unit : UnitTree) → list_all is_byte text ≡ true → IsTypedAs text unit → IsRead unit

@@ -14,10 +14,6 @@ due_of status steps = record { status = status; steps = steps }
 
 -- ---- how what is due comes to be written
 
--- nothing is left to put
-pub put_ends : (status : Status) (s : Streams) → IsWritten (due_of status []) s s status
-put_ends status s = inl (refl, refl)
-
 -- a step was put, and then the others
 pub put_goes_on : (status : Status) (step : Step) (steps : List Step) (u v w : Streams) (result : Status) → IsPut step u v → IsWritten (due_of status steps) v w result → IsWritten (due_of status (step ∷ steps)) u w result
 put_goes_on status step steps u v w result p (inl (e, h)) = inl (e, (v, p, h))

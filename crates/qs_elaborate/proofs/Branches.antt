@@ -10,7 +10,7 @@ use Rattle.qs_memory.specs.declared.scalar.Scalar.TheVariants as scalars
 use Rattle.qs_memory.specs.declared.operation.UnaryOperation.TheVariants.{Truth}
 use Rattle.qs_events.specs.Runs.{given}
 use Rattle.qs_calls.specs.World.{World, RootRun, Environment, with_value}
-use Rattle.qs_core.specs.Trees.{CoreExprTree, literal, temporary, CoreStmtTree}
+use Rattle.qs_core.specs.Trees.{CoreExprTree, temporary, CoreStmtTree}
 use Rattle.qs_core.specs.Trees as core
 use Rattle.qs_core.specs.Statements.{Continuations, runs}
 use Rattle.qs_meaning.specs.Typed.{Conversion}

@@ -20,12 +20,12 @@ use Rattle.qs_types.specs.Expressions.{is_assignable, may_cast, may_choose, Judg
 use Rattle.qs_types.specs.GivenFunctions.{Signature}
 use Rattle.qs_calls.specs.declared.callee.Callee.{Callee}
 use Rattle.qs_meaning.specs.Typed.{variable, object, pointer_to, local, Arguments}
-use Rattle.qs_meaning.specs.Forms.{Form, lvalue, call, TypedExpr, type_in_use, value_in_use}
+use Rattle.qs_meaning.specs.Forms.{Form, lvalue, call, TypedExpr, type_in_use}
 use Rattle.qs_meaning.specs.Names.{Scope, Locals, local_lvalue, place_among, entity_lvalue, Designator, entity_designated}
-use Rattle.qs_meaning.specs.Expressions.{arguments_of, call_form, typed, form_of, all_typed}
-use Rattle.qs_meaning.proofs.Options.{never, left, right, nothing, same, went}
-use Rattle.qs_elaborate.specs.Counts.{nodes, lvalue_nodes, arguments_nodes}
-use Rattle.qs_elaborate.proofs.CountedTypes.{kept, not_true, first_unbroken, second_unbroken, unless, tests_kept, gave_at, typed_type, HasValue, HaveValues, NullHasValue, null_value, scalar_value, assignable_value, cast_value, alike_values, operand_values}
+use Rattle.qs_meaning.specs.Expressions.{arguments_of, typed, form_of, all_typed}
+use Rattle.qs_meaning.proofs.Options.{left, right, nothing, same, went}
+use Rattle.qs_elaborate.specs.Counts.{lvalue_nodes, arguments_nodes}
+use Rattle.qs_elaborate.proofs.CountedTypes.{kept, not_true, first_unbroken, second_unbroken, unless, tests_kept, gave_at, typed_type, NullHasValue, null_value, scalar_value, assignable_value, cast_value, alike_values, operand_values}
 use Rattle.qs_elaborate.proofs.CountedForms.{Counted, CountedIn, counted_as, lvalue_counted, result_counted, call_counted, comma_counted, subscript_counted, binary_counted, unary_counted, member_counted, size_counted, cast_counted, conditional_counted, step_form_counted, assign_counted}
 
 -- ---- names

@@ -1,9 +1,8 @@
 -- What initialises a local counts at most the nodes of the initialiser and one.
-use Rattle.std.proofs.Common.{◌≡◌, ◌≤◌, ◌⊎◌, inl, inr, ℕ, ◌+◌, Bool, true, false, not, ◌&&◌, ◌||◌, List, [], ◌∷◌, ◌++◌, Option, Some, None, is_some, refl, sym, ap, ◌∙◌, subst, arith, if◌then◌else◌}
-use Rattle.qs_syntax.specs.Trees.{ExprTree, expr, ShapeTree, InitialiserTree, Initialisers, no_initialisers, initialiser_and}
+use Rattle.std.proofs.Common.{◌≡◌, ◌≤◌, ℕ, ◌+◌, Bool, true, false, ◌&&◌, ◌||◌, List, [], ◌∷◌, ◌++◌, Some, is_some, refl, sym, ap, subst, arith, if◌then◌else◌}
+use Rattle.qs_syntax.specs.Trees.{ExprTree, InitialiserTree, Initialisers, no_initialisers, initialiser_and}
 use Rattle.qs_syntax.specs.Trees as trees
 use Rattle.qs_syntax.specs.Nodes.{expr_count, initialiser_count, initialisers_count}
-use Rattle.qs_memory.specs.Partial.{◌>>=◌}
 use Rattle.qs_memory.proofs.Options.{followed}
 use Rattle.qs_types.specs.Types.{TypeTree, int, unsigned, char, void, pointer, array, struct, is_array, is_struct, same_type, Structs}
 use Rattle.qs_types.specs.Conversions.{decayed}
@@ -14,9 +13,8 @@ use Rattle.qs_types.specs.Expressions.{type_of, is_lvalue, is_assignable}
 use Rattle.qs_types.specs.Declarations.{text_of}
 use Rattle.qs_types.specs.InitialiserRules.{part_type, fits_variable, fits_typed, takes_list, element_fits, elements_fit, elements_typed, list_tests, is_typed, initialiser_tests, initialiser_faults, elements_faults}
 use Rattle.qs_types.specs.InitialiserRules as initialising
-use Rattle.qs_types.specs.StatementRules.{option_initialiser_faults}
 use Rattle.qs_meaning.specs.Typed.{Expr, pointer_to, member, Lvalue, variable, object, Object, local, Effect}
-use Rattle.qs_meaning.specs.Forms.{lvalue, TypedExpr, address_in, address_of}
+use Rattle.qs_meaning.specs.Forms.{lvalue, TypedExpr, address_of}
 use Rattle.qs_meaning.specs.Names.{Scope, local_lvalue, place_among}
 use Rattle.qs_types.specs.Placed.{is_one_of}
 use Rattle.qs_meaning.specs.Expressions.{typed, plain_form}
@@ -24,11 +22,11 @@ use Rattle.qs_meaning.specs.Blanks.{blank_of}
 use Rattle.qs_meaning.specs.Initialisers.{part_offset, Piece, pieces, pieces_from, text_set, assigned_set, piece_set, pieces_set, object_set, local_set}
 use Rattle.qs_meaning.proofs.Options.{never, left, right, nothing, same, Known}
 use Rattle.qs_meaning.proofs.Faultless.{none_left, none_right, unbroken}
-use Rattle.qs_elaborate.specs.Counts.{indirection, is_object, is_fixed, nodes, effect_nodes}
+use Rattle.qs_elaborate.specs.Counts.{is_object, is_fixed, effect_nodes}
 use Rattle.qs_elaborate.specs.ExpressionCounts.{initialiser_expressions, initialisers_expressions}
 use Rattle.qs_elaborate.proofs.CountedLess.{effect_less}
 use Rattle.qs_elaborate.proofs.CountedTypes.{kept, typed_type, null_value}
-use Rattle.qs_elaborate.proofs.CountedForms.{CountedIn, address_counted, is_settled, is_declared, declared_settled, initial_counted}
+use Rattle.qs_elaborate.proofs.CountedForms.{address_counted, is_settled, is_declared, declared_settled, initial_counted}
 use Rattle.qs_elaborate.proofs.CountedExpressions.{expression_counted}
 
 both : (x y : Bool) → x ≡ true → y ≡ true → (x && y) ≡ true

@@ -11,9 +11,9 @@ use Rattle.qs_types.specs.Contexts.{inner_scope, inside_loop}
 use Rattle.qs_types.specs.Expressions.{type_of}
 use Rattle.qs_types.specs.Declarations.{variable_declared}
 use Rattle.qs_types.specs.InitialiserRules.{initialiser_tests}
-use Rattle.qs_types.specs.StatementRules.{after_variable, again_tests, variable_tests, variable_faults, option_initialiser_faults, variables_faults, condition_tests, condition_faults, option_condition_tests, option_typed, return_tests, returns, start_faults, after_statement, for_context, for_tests, for_faults, statement_faults, statements_faults, else_faults}
+use Rattle.qs_types.specs.StatementRules.{after_variable, variable_faults, option_initialiser_faults, variables_faults, condition_tests, condition_faults, option_condition_tests, option_typed, return_tests, start_faults, after_statement, for_tests, for_faults, statement_faults, statements_faults, else_faults}
 use Rattle.qs_types.specs.StatementRules as rule_starts
-use Rattle.qs_meaning.specs.Typed.{Expr, pointer_to, Lvalue, variable, object, local, Effect, Stmt}
+use Rattle.qs_meaning.specs.Typed.{Expr, Effect, Stmt}
 use Rattle.qs_meaning.specs.Typed as typed_trees
 use Rattle.qs_meaning.specs.Forms.{value_in_use}
 use Rattle.qs_meaning.specs.Names.{Scope, within, local_lvalue}

@@ -3,8 +3,7 @@ use Rattle.std.proofs.Common.{◌≡◌, ◌≤◌, ℕ, ◌+◌, Bool, true, fa
 use Rattle.qs_syntax.specs.declared.nodes.Node.{Node}
 use Rattle.qs_syntax.specs.declared.types.Base.{Base}
 use Rattle.qs_syntax.specs.Trees.{ExprTree, InitialiserTree, VariableTree, StartTree, no_start, start_expression, start_declaration, StmtTree, empty, expression, declaration, block, branch, while_loop, do_loop, for_loop, break, continue, return, Stmts, no_stmts, stmt_and, Else, no_else, else_by}
-use Rattle.qs_syntax.specs.Nodes.{all_count, option_count, expr_count, initialiser_count, lengths_count, variable_count, start_count, stmt_count, stmts_count, else_count}
-use Rattle.qs_memory.specs.Partial.{◌>>=◌}
+use Rattle.qs_syntax.specs.Nodes.{all_count, option_count, expr_count, initialiser_count, variable_count, start_count, stmt_count, stmts_count, else_count}
 use Rattle.qs_memory.proofs.Options.{followed}
 use Rattle.qs_types.specs.Types.{TypeTree, is_void}
 use Rattle.qs_types.specs.Rules.{Test, breaks_one, faults_of}
@@ -15,13 +14,13 @@ use Rattle.qs_types.specs.InitialiserRules.{initialiser_tests}
 use Rattle.qs_types.specs.Placed.{is_one_of}
 use Rattle.qs_types.specs.StatementRules.{after_variable, again_tests, variable_tests, variable_faults, option_initialiser_faults, variables_faults, condition_tests, condition_faults, option_condition_tests, option_typed, return_tests, returns, start_faults, after_statement, for_context, for_tests, for_faults, statement_faults, statements_faults, else_faults}
 use Rattle.qs_types.specs.StatementRules as rule_starts
-use Rattle.qs_meaning.specs.Typed.{Expr, pointer_to, Lvalue, variable, object, local, Effect, Stmt}
+use Rattle.qs_meaning.specs.Typed.{Expr, pointer_to, variable, object, local, Effect, Stmt}
 use Rattle.qs_meaning.specs.Typed as typed_trees
-use Rattle.qs_meaning.specs.Forms.{TypedExpr, type_in_use, value_in_use, effect_in_use}
+use Rattle.qs_meaning.specs.Forms.{type_in_use}
 use Rattle.qs_meaning.specs.Names.{Scope, Locals, within, place_among, local_lvalue}
 use Rattle.qs_meaning.specs.Expressions.{typed}
 use Rattle.qs_meaning.specs.Statements.{initialised, behind_variable, variable_typed, variables_typed, effect_typed, option_effect, condition_typed, option_condition, start_typed, return_typed, inner, loop_body, in_for, statement_typed, statements_typed, else_typed}
-use Rattle.qs_meaning.proofs.Options.{never, left, right, same}
+use Rattle.qs_meaning.proofs.Options.{never, right, same}
 use Rattle.qs_meaning.proofs.Faultless.{none_left, none_right, unbroken, second_unbroken}
 use Rattle.qs_meaning.proofs.Bodies.{not_held_back}
 use Rattle.qs_elaborate.specs.Counts.{nodes, effect_nodes, option_nodes, statement_nodes, statements_nodes}

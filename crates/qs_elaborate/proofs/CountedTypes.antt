@@ -10,7 +10,7 @@ use Rattle.qs_types.specs.Layout.{and_then}
 use Rattle.qs_types.specs.Conversions.{decayed}
 use Rattle.qs_types.specs.Rules.{Test, breaks_one, type_unless}
 use Rattle.qs_types.specs.Contexts.{Context}
-use Rattle.qs_types.specs.Expressions.{is_null_constant, both_integers, same_pointers, is_object_pointer, is_assignable, alike_pointers, may_cast, may_add, may_subtract, may_order, may_equal, may_choose, Judged, binary_judged, type_of}
+use Rattle.qs_types.specs.Expressions.{is_null_constant, both_integers, same_pointers, is_object_pointer, is_assignable, alike_pointers, may_cast, may_add, may_subtract, may_order, may_equal, Judged, binary_judged, type_of}
 use Rattle.qs_meaning.specs.Forms.{TypedExpr}
 use Rattle.qs_meaning.specs.Names.{Scope}
 use Rattle.qs_meaning.specs.Expressions.{typed, form_of}

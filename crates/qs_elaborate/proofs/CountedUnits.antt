@@ -1,32 +1,29 @@
 -- The typed tree of a unit counts at most the nodes of the unit, and so the words of its core are few.
-use Rattle.std.proofs.Common.{◌≡◌, ◌≤◌, ℕ, ◌+◌, ◌*◌, Bool, true, false, List, [], ◌∷◌, ◌++◌, Option, Some, None, is_some, length, refl, sym, ap, ◌∙◌, subst, arith}
+use Rattle.std.proofs.Common.{◌≡◌, ◌≤◌, ℕ, ◌+◌, ◌*◌, List, [], ◌∷◌, ◌++◌, Option, Some, None, is_some, length, refl, subst, arith}
 use Rattle.std.specs.Prelude.{sum_by}
 use Rattle.std.proofs.lemmas.List.{length-append}
 use Rattle.std.proofs.lemmas.List.Sums.{sum_by-cons, sum_by-append}
 use Rattle.qs_syntax.specs.Trees.{ParameterTree, FunctionTree, DeclTree, structure, forward, function, variables, UnitTree}
 use Rattle.qs_syntax.specs.Trees as trees
 use Rattle.qs_syntax.specs.Nodes.{all_count, option_count, parameter_count, stmts_count, decl_count, unit_count}
-use Rattle.qs_memory.specs.Partial.{◌>>=◌}
 use Rattle.qs_memory.proofs.Options.{followed}
 use Rattle.qs_calls.specs.declared.parameter.Parameter.{Parameter}
-use Rattle.qs_core.specs.Trees.{CoreUnitTree}
 use Rattle.qs_core.specs.Sizes.{unit_words}
 use Rattle.qs_types.specs.Types.{TypeTree}
 use Rattle.qs_types.specs.Rules.{faults_of}
-use Rattle.qs_types.specs.Contexts.{inner_scope, start_context}
+use Rattle.qs_types.specs.Contexts.{inner_scope}
 use Rattle.qs_types.specs.Placed.{Local, addressed_in, statements_locals}
-use Rattle.qs_types.specs.UnitRules.{parameter_types, header_tests, parameters_faults, body_context, body_faults, function_faults, after_declaration, declaration_faults, declarations_faults}
+use Rattle.qs_types.specs.UnitRules.{parameter_types, header_tests, parameters_faults, body_context, body_faults, after_declaration, declaration_faults, declarations_faults}
 use Rattle.qs_types.specs.WellTyped.{WellTyped}
-use Rattle.qs_meaning.specs.Typed.{Function, StaticBlock, TypedProgram}
+use Rattle.qs_meaning.specs.Typed.{Function, TypedProgram}
 use Rattle.qs_meaning.specs.Runs.{main_from}
 use Rattle.qs_meaning.specs.Names.{Locals, Scope, within}
 use Rattle.qs_meaning.specs.Statements.{statements_typed}
 use Rattle.qs_meaning.specs.Units.{placed_among, variables_among, locals_of, parameters_in, scalars_of, sizes_of, parameter_typed, parameters_typed, in_body, function_with, function_typed, file_variables_typed, declaration_typed, declarations_typed, name_with_body, functions_in, start_scope, typed_of}
 use Rattle.qs_meaning.proofs.Options.{nothing, same}
 use Rattle.qs_meaning.proofs.Faultless.{none_left, none_right}
-use Rattle.qs_elaborate.specs.Counts.{statements_nodes, nodes_in}
+use Rattle.qs_elaborate.specs.Counts.{nodes_in}
 use Rattle.qs_elaborate.specs.Names.{names_in}
-use Rattle.qs_elaborate.specs.Units.{unit_core, core_of}
 use Rattle.qs_elaborate.specs.SizeLaws.{NodesAreOfSource, SourceWordsAreFew}
 use Rattle.qs_elaborate.proofs.WordFunctions.{unit_words_are_few}
 use Rattle.qs_elaborate.proofs.CountedStatements.{statements_counted}

@@ -3,7 +3,7 @@ use Rattle.std.proofs.Common.{◌≡◌, ℕ, ◌||◌, Bool, true, false, List,
 use Rattle.std.proofs.Math.Path.{fun_ext}
 use Rattle.qs_memory.specs.Partial.{◌>>=◌}
 use Rattle.qs_memory.specs.Values.{Value, address, as_pointer}
-use Rattle.qs_memory.specs.Memory.{Memory, BlankTree}
+use Rattle.qs_memory.specs.Memory.{BlankTree}
 use Rattle.qs_memory.specs.Memory as memory
 use Rattle.qs_memory.specs.Pointers.{member_of}
 use Rattle.qs_memory.specs.Operations.{apply_unary}

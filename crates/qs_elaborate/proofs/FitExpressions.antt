@@ -23,7 +23,7 @@ use Rattle.qs_core.specs.Fits as fits
 use Rattle.qs_core.proofs.FitLaws.{both, all_at}
 use Rattle.qs_meaning.specs.Typed.{Conversion, unchanged, Object, local, static, Expr, constant, value, pointer_to, member, called, stepped_after, unary, cast, binary, logical_and, logical_or, conditional, assigned, sequence, Lvalue, variable, object, Arguments, no_arguments, argument_and, Assignment, set, update, Effect, nothing, discard, assign, perform, copy, fill, in_order, Function}
 use Rattle.qs_meaning.specs.Conversions as meaning
-use Rattle.qs_meaning.specs.Fits.{type_after, assigned_type, type_of, is_null, takes_operands, amount_type, object_there, expr_fits, lvalue_fits, arguments_fit, assignment_fits, effect_fits, conversion_fits, becomes, result_fits, taken, is_whole_local}
+use Rattle.qs_meaning.specs.Fits.{type_after, assigned_type, type_of, is_null, takes_operands, amount_type, object_there, expr_fits, lvalue_fits, arguments_fit, assignment_fits, effect_fits, conversion_fits, becomes, taken, is_whole_local}
 use Rattle.qs_meaning.specs.Fits as source
 use Rattle.qs_elaborate.specs.Literals.{literal_value}
 use Rattle.qs_elaborate.specs.Acting.{acts, arguments_act}

@@ -13,7 +13,7 @@ use Rattle.qs_core.specs.Scalars.{is_type, is_promoted}
 use Rattle.qs_core.proofs.FitLaws.{both}
 use Rattle.qs_types.specs.Types.{TypeTree, int, unsigned, char, void, pointer, array, struct, same_type, MemberTree, Structs}
 use Rattle.qs_types.specs.GivenFunctions.{Signature, main_name}
-use Rattle.qs_types.specs.Contexts.{Entity, local_variable, file_variable, given, Binding, Context, lookup, start_context, entity_of}
+use Rattle.qs_types.specs.Contexts.{Entity, local_variable, file_variable, given, Binding, Context, lookup, start_context}
 use Rattle.qs_types.specs.Contexts as contexts
 use Rattle.qs_types.specs.StatementRules.{after_variable, after_variables}
 use Rattle.qs_types.specs.UnitRules.{is_name_in, parameter_types, after_parameter, may_be, is_main_parameter, declared_function, signature_by, header_of, after_function, with_tag, no_members, after_members, define_at, after_struct, after_declaration, context_after}

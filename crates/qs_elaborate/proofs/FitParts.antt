@@ -196,9 +196,6 @@ module _ (u : CoreUnitTree) (f : CoreFunctionTree) where
   pub none_fit : (ts : Temporaries) → AllFit ts []
   none_fit ts = record { fit = λ b c later e. refl }
 
-  pub later_fit : (ts us : Temporaries) (ss : List CoreStmtTree) → Extends ts us → AllFit ts ss → AllFit us ss
-  later_fit ts us ss e h = record { fit = λ b c later k. h.fit b c later (extends_then e k) }
-
   -- one list after another
   pub both_fit : (ts us : Temporaries) (xs ys : List CoreStmtTree) → AllFit ts xs → Extends ts us → AllFit us ys → AllFit us (xs ++ ys)
   both_fit ts us xs ys h e k =

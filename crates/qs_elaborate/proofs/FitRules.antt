@@ -13,7 +13,7 @@ use Rattle.qs_types.specs.Types.{TypeTree, is_scalar, MemberTree, Structs}
 use Rattle.qs_types.specs.declared.rules.Rule.{Rule}
 use Rattle.qs_types.specs.declared.rules.Rule.TheVariants as rules
 use Rattle.qs_types.specs.Rules.{test, keeps, breaks_one, faults_of}
-use Rattle.qs_types.specs.Contexts.{Entity, local_variable, file_variable, given, Binding, Context, lookup, is_declared_here, with_name, inner_scope}
+use Rattle.qs_types.specs.Contexts.{Entity, local_variable, file_variable, given, Binding, Context, lookup, is_declared_here}
 use Rattle.qs_types.specs.Contexts as contexts
 use Rattle.qs_types.specs.GivenFunctions.{Signature}
 use Rattle.qs_types.specs.Declarations.{all_typed, lengths_faults, variable_declared, parameter_declared}

@@ -9,7 +9,7 @@ use Rattle.qs_core.specs.Scalars.{is_type}
 use Rattle.qs_core.specs.Fits as fits
 use Rattle.qs_core.proofs.FitLaws.{both}
 use Rattle.qs_meaning.specs.Typed.{Conversion, Expr, Stmt, evaluate, block, branch, while_loop, do_loop, for_loop, break, continue, return, return_nothing, Stmts, no_stmts, stmt_and, Function}
-use Rattle.qs_meaning.specs.Fits.{type_of, is_null, becomes, expr_fits, effect_fits, option_fits, stmt_fits, stmts_fit}
+use Rattle.qs_meaning.specs.Fits.{type_of, is_null, becomes, expr_fits, effect_fits, stmt_fits, stmts_fit}
 use Rattle.qs_meaning.specs.Fits as source
 use Rattle.qs_elaborate.specs.Literals.{converted_core}
 use Rattle.qs_elaborate.specs.Parts.{Temporaries, Valued, Listed, in_turn, one_statement}

@@ -1,7 +1,7 @@
 -- Pieces by whole runs of bytes and of null pointers.
 use Rattle.std.proofs.Common.{◌≡◌, ℕ, zero, suc, ◌+◌, ◌<◌, ◌==◌, true, length, List, [], ◌∷◌, ◌++◌, map, refl, sym, ap, ◌∙◌, arith, append_assoc}
 use Rattle.std.proofs.lemmas.Bool.Decides.{nat_tests}
-use Rattle.std.proofs.lemmas.List.{append-nil, nil_from_length}
+use Rattle.std.proofs.lemmas.List.{append-nil}
 use Rattle.qs_memory.specs.Values.{null}
 use Rattle.qs_memory.specs.Memory.{Cell, byte, parts_of, times, zeros, nulls, repeated, nothing, joined}
 use Rattle.qs_core.specs.Trees.{PieceTree, blank, bytes, pointer}
@@ -51,11 +51,6 @@ nulls_add (suc m) n ps = let e : suc m + n ≡ suc (m + n) = omega arith in ap (
 
 is_zero : (n : ℕ) → (n == 0) ≡ true → n ≡ 0
 is_zero n h = grind (arith, nat_tests)
-
--- ---- whole runs
-
-pub no_bytes : (bs : List ℕ) → length bs ≡ 0 → bytes_piece bs ≡ []
-no_bytes bs h = ap bytes_piece (nil_from_length bs h)
 
 -- ---- one more datum
 

@@ -11,7 +11,7 @@ use Rattle.qs_memory.specs.declared.operation.BinaryOperation.TheVariants.{Arith
 use Rattle.qs_calls.specs.declared.callee.Callee.{Callee}
 use Rattle.qs_calls.specs.declared.callee.Callee.TheVariants.{Function, PutChar}
 use Rattle.qs_core.specs.declared.numbers.BlockId.TheVariants.{Local, Data}
-use Rattle.qs_core.specs.Trees.{CoreExprTree, literal, null_pointer, temporary, address_of, load, conversion, CoreStmtTree, skip, store, stmts_of}
+use Rattle.qs_core.specs.Trees.{CoreExprTree, literal, null_pointer, temporary, address_of, load, conversion, CoreStmtTree, store, stmts_of}
 use Rattle.qs_core.specs.Trees as core
 use Rattle.qs_meaning.specs.Typed.{unchanged, converted, as_written, exchanged, local, static, Expr, constant, value, pointer_to, member, called, stepped_after, unary, cast, binary, logical_and, logical_or, conditional, assigned, sequence, variable, object, no_arguments, argument_and, set, update, nothing, discard, assign, perform, copy, fill, in_order}
 use Rattle.qs_elaborate.specs.Parts.{Temporaries, keep, written, Valued, Listed, plain}

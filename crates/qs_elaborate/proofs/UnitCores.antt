@@ -1,5 +1,5 @@
 -- The core of a unit from its typed tree and its main.
-use Rattle.std.proofs.Common.{◌≡◌, ℕ, true, Some, None, sym, ap, ◌∙◌, unwrap_or}
+use Rattle.std.proofs.Common.{◌≡◌, ℕ, true, Some, sym, ap, ◌∙◌, unwrap_or}
 use Rattle.qs_syntax.specs.Trees.{UnitTree}
 use Rattle.qs_memory.specs.Partial.{◌>>=◌}
 use Rattle.qs_core.specs.Fits.{unit_fits}
@@ -21,8 +21,3 @@ pub fits_at : (unit : UnitTree) (u : TypedProgram) (main : ℕ) → typed_of uni
 fits_at unit u main h k c =
     let e : Some (unit_core (names_in unit) u main) ≡ Some c.core = sym (core_at unit u main h k) ∙ c.is in
     ap unit_fits (ap (λ o. unwrap_or o c.core) e) ∙ c.fits
-
-pub has_main : (unit : UnitTree) (u : TypedProgram) → typed_of unit ≡ Some u → main_from 0 u.functions ≡ None → HasCore unit → ⊥
-has_main unit u h k c =
-    let e : None ≡ Some c.core = sym (with_main unit u h ∙ ap (λ o. o >>= λ main. Some (unit_core (names_in unit) u main)) k) ∙ c.is in
-    cc

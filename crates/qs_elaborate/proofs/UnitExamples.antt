@@ -20,7 +20,7 @@ use Rattle.qs_core.specs.Trees.{CoreExprTree, literal, temporary, address_of, me
 use Rattle.qs_core.specs.Trees as core
 use Rattle.qs_elaborate.specs.Parts.{keep, written, plain}
 use Rattle.qs_elaborate.specs.Units.{core_of}
-use Rattle.qs_meaning.proofs.Samples.{number, numbers, named, a, b, op, address, at, call as source_call, text, one, many, local, int_, array_, s_base, struct_s, eval, block, parameter, defined, main_name, main_, valued, listed}
+use Rattle.qs_meaning.proofs.Samples.{number, numbers, named, a, address, at, call as source_call, text, one, many, local, int_, array_, s_base, struct_s, eval, block, parameter, defined, main_name, main_, valued, listed}
 use Rattle.qs_meaning.proofs.Samples as c
 
 -- the function with this number

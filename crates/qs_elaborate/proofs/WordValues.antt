@@ -31,9 +31,6 @@ by_itself v n m h k e = record {
   reached = record { saved_once = omega (arith, k.saved_once); once = omega (arith, k.once); twice = omega (arith, k.twice) };
 }
 
-grown : (v : Valued) (m n : ℕ) → Few v m → m ≤ n → Few v n
-grown v m n h e = record { once = omega (arith, h.once); twice = omega (arith, h.twice) }
-
 -- another value, with the same statements, for one node more
 with_words : (f : CoreExprTree → CoreExprTree) (v : Valued) (n : ℕ) → computed (f v.value) ≤ computed v.value + 7 → Few v n → Few (record v { value = f v.value }) (1 + n)
 with_words f v n e h = record { once = omega (arith, e, h.once); twice = omega (arith, e, h.twice) }

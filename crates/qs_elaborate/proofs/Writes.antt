@@ -17,7 +17,7 @@ use Rattle.qs_meaning.specs.States.{Place, in_variable, in_object, read, write}
 use Rattle.qs_meaning.specs.Meaning.{updated_value, step_amount}
 use Rattle.qs_elaborate.specs.Literals.{literal_value, is_literal, converted_core}
 use Rattle.qs_elaborate.specs.Parts.{Temporaries, next_number, keep, Valued, in_temporary, saved, saved_if, Location, plain, pointed, Located, at_address, with_saved_address, address_saved_if, value_at, value_read, written}
-use Rattle.qs_elaborate.specs.Expressions.{updated_core, Written, set_core, update_core, write_discarded, write_at, write_valued, step_valued}
+use Rattle.qs_elaborate.specs.Expressions.{updated_core, write_at, step_valued}
 use Rattle.qs_elaborate.specs.Expressions as elaborated
 use Rattle.qs_elaborate.proofs.Options.{given_and, given_same, and_assoc, and_same, given_twice, given_swap, given_pair, given_through, pair_twice, pair_shuffle}
 use Rattle.qs_elaborate.proofs.Lists.{run_list, then_next, run-append, with-same, Kept, kept_same, kept_with, kept_then, next_is}

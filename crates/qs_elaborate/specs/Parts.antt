@@ -38,9 +38,6 @@ pure a ts = record { statements = []; value = a; temporaries = ts }
 abbrev pub with_value : (CoreExprTree → CoreExprTree) → Valued → Valued
 with_value f a = record a { value = f a.value }
 
-abbrev pub followed_by : Listed → List CoreStmtTree → Listed
-followed_by a ss = record a { statements = a.statements ++ ss }
-
 -- one list after the other
 abbrev pub in_turn : Listed → Listed → Listed
 in_turn a b = record { statements = a.statements ++ b.statements; temporaries = b.temporaries }

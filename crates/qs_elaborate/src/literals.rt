@@ -119,10 +119,7 @@ fn convert_by(c: Conversion, x: Literal) -> Option<Literal>
 pub fn converted_value(c: Conversion, x: Option<Literal>) -> Option<Literal>
     ensures { option_value result ≡ option_converted (conversion_tree c) (option_value x) }
 {
-    match x {
-        None => None,
-        Some(x) => convert_by(c, x),
-    }
+    convert_by(c, x?)
 }
 
 // ---- conversions

@@ -4,7 +4,7 @@ use Rattle.std.specs.Prelude.{if◌then◌else◌}
 use Rattle.std.proofs.Math.Nat.{mul_comm}
 use Rattle.std.proofs.lemmas.Bool.Decides.{nat_tests}
 use Rattle.qs_base.specs.Words as words
-use Rattle.qs_base.specs.Words.{sub, sltu, xor, mul, div, all_ones}
+use Rattle.qs_base.specs.Words.{sub, sltu, xor, mul, all_ones}
 use Rattle.qs_memory.specs.Partial.{◌>>=◌}
 use Rattle.qs_memory.specs.Values.{Value, integer}
 use Rattle.qs_memory.specs.Memory.{Memory}
@@ -30,7 +30,7 @@ use Rattle.qs_tac.specs.Holders.{File}
 use Rattle.qs_tac.specs.Fits.{operand_fits}
 use Rattle.qs_tac.specs.Values.{Activation, operand}
 use Rattle.qs_tac.specs.Steps.{Waiting}
-use Rattle.qs_select.specs.Pieces.{a0, a1, a2, a3, is_small, constant, slli, shift_among, shift_of, product_by, product}
+use Rattle.qs_select.specs.Pieces.{constant, shift_among, shift_of, product_by, product}
 use Rattle.qs_select.specs.Pieces as pieces
 use Rattle.qs_select.specs.Operands.{Context, operand_code, operand_register}
 use Rattle.qs_select.specs.Operations.{constant_of, negated, with_constant, or_code, kind_of, both, on_both, arithmetic, less_than, less_than_constant, less, turned, apart, compare, unary_instruction}

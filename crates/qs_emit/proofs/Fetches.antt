@@ -4,7 +4,7 @@ use Rattle.std.proofs.lemmas.Bool.{cases_lt}
 use Rattle.qs_base.specs.Words as words
 use Rattle.qs_memory.specs.Values.{Pointer, Value, width}
 use Rattle.qs_memory.specs.Memory as memory
-use Rattle.qs_memory.specs.Memory.{Cell, Memory, block_at, Target, with_cells, cells_of}
+use Rattle.qs_memory.specs.Memory.{Cell, Memory, block_at, Target, with_cells}
 use Rattle.qs_memory.specs.declared.scalar.Scalar.{Scalar}
 use Rattle.qs_memory.specs.declared.scalar.Scalar.TheVariants as scalars
 use Rattle.qs_memory.proofs.BlockLaws.{IsRange}

@@ -9,7 +9,7 @@ use Rattle.qs_isa.specs.declared.instruction.BranchKind.{BranchKind}
 use Rattle.qs_isa.specs.declared.instruction.BranchKind.TheVariants.{Bne}
 use Rattle.qs_machine.specs.State.{State, register, with_value}
 use Rattle.qs_machine.specs.Step as machine
-use Rattle.qs_machine.specs.Step.{StepResult, Next, Traps, act, is_taken, go_to, write_and_go}
+use Rattle.qs_machine.specs.Step.{Next, Traps, act, is_taken, go_to, write_and_go}
 use Rattle.qs_machine.specs.declared.answers.Cause.TheVariants.{JumpMisaligned}
 use Rattle.qs_select.specs.Pieces.{bne}
 use Rattle.qs_emit.specs.Machine.{Watched, instruction_at, keeps_to}
@@ -121,9 +121,6 @@ module _ (s : Setup) where
             is = d.is;
           },
         )
-
-    reads : (state : State) → register state 15 ≡ state.registers 15
-    reads state = refl
 
     ends : (m m1 : Watched) → Turned m 0 m1 → Done s m (length whole) (P 0)
     ends m m1 t =

@@ -35,7 +35,7 @@ use Rattle.qs_select.specs.Pieces.{store_kind, store_to}
 use Rattle.qs_select.specs.Operands.{Context, local_offset}
 use Rattle.qs_select.specs.Operands.{into as operand_into}
 use Rattle.qs_select.specs.Emission as emission
-use Rattle.qs_select.specs.Emission.{take_parameter, take_parameters}
+use Rattle.qs_select.specs.Emission.{take_parameters}
 use Rattle.qs_emit.specs.Machine.{Watched}
 use Rattle.qs_emit.specs.Lies.{StandsFor, IsInReach, SameOwn}
 use Rattle.qs_emit.specs.Surroundings.{Lay}

@@ -7,7 +7,7 @@ use Rattle.std.proofs.lemmas.Option.{slice_get_within, get_or_from_slice_get}
 use Rattle.std.proofs.lemmas.Bool.Decides.{nat_tests}
 use Rattle.qs_memory.specs.Partial.{◌>>=◌}
 use Rattle.qs_memory.specs.Values as values
-use Rattle.qs_memory.specs.Values.{Pointer, Value, integer, address}
+use Rattle.qs_memory.specs.Values.{Value, integer, address}
 use Rattle.qs_memory.specs.Memory as memory
 use Rattle.qs_memory.specs.Memory.{Memory, make, release}
 use Rattle.qs_memory.specs.Operations.{apply_unary, apply_binary}
@@ -40,7 +40,7 @@ use Rattle.qs_tac.specs.Steps.{instruction_at as linear_at}
 use Rattle.qs_select.specs.Operands.{Context}
 use Rattle.qs_select.specs.Operands.{into as operand_into}
 use Rattle.qs_select.specs.Emission as emission
-use Rattle.qs_select.specs.Emission.{Labels, labels_of, first_label, instruction_items, leave}
+use Rattle.qs_select.specs.Emission.{Labels, labels_of, first_label, instruction_items}
 use Rattle.qs_emit.specs.Machine.{Watched, instruction_at}
 use Rattle.qs_emit.specs.Lies.{AreBytes, number_at, StandsFor}
 use Rattle.qs_emit.specs.Surroundings.{HasBlocks, Lay, ground}

@@ -90,9 +90,6 @@ module _ (s : Setup) (arguments : List Value) (w : World) (l : Lay) (m : Watched
       let t : main ≡ true = both_right functions main (both_left (functions && main) (list_all data_fits s.unit.data_blocks) s.emittable.fits) in
       grind (arith, nat_tests, t)
 
-  abbrev to : ℕ
-  to = entry s s.unit.main
-
   -- JAL, and what stands behind it
   record Stub : Type 0 where
     jump : instruction_at s.image code_start ≡ Some (instructions.Jal 1 (words.sub (entry s s.unit.main) code_start))

@@ -5,7 +5,7 @@ use Rattle.std.proofs.lemmas.Bool.Decides.{nat_tests}
 use Rattle.std.proofs.Math.Nat.{mul-mod_left, mul_assoc, mul_comm, mod-add-div}
 use Rattle.qs_memory.specs.Values.{Pointer}
 use Rattle.qs_memory.specs.Memory as memory
-use Rattle.qs_memory.specs.Memory.{Cell, Memory, block_at, Target, cells_at, BlankTree, blank_cells}
+use Rattle.qs_memory.specs.Memory.{Memory, block_at, Target, cells_at, BlankTree, blank_cells}
 use Rattle.qs_memory.proofs.BlockLaws.{IsRange}
 use Rattle.qs_memory.proofs.CellLaws.{length-cells_from}
 use Rattle.qs_memory.proofs.StepLaws.{copied, filled}

@@ -8,6 +8,7 @@ use Rattle.qs_events.specs.Weights.{Costs}
 use Rattle.qs_asm.specs.declared.item.Item.{Item}
 use Rattle.qs_asm.specs.Assembly.{label_at, IsAssembly}
 use Rattle.qs_image.specs.Image.{Image, FunctionRecord}
+use Rattle.qs_image.specs.Limits.{most_code_words, most_data_bytes}
 use Rattle.qs_machine.specs.State.{code_start}
 use Rattle.qs_tac.specs.Trees.{TacUnitTree}
 use Rattle.qs_tac.specs.Places.{PlacesTree}
@@ -87,5 +88,5 @@ pub record IsImageOf (u : TacUnitTree) (ps : List PlacesTree) (m : Memory) (imag
 
 -- its code and its data have room
 pub record IsWithinLimits (image : Image) : Type 0 where
-  pub code : length image.code ≤ 2 ^ 18
-  pub bytes : length image.bytes ≤ 16777216
+  pub code : length image.code ≤ most_code_words
+  pub bytes : length image.bytes ≤ most_data_bytes

@@ -8,6 +8,7 @@ use Rattle.qs_calls.specs.World.{World}
 use Rattle.qs_calls.specs.declared.callee.Callee.{Callee}
 use Rattle.qs_tac.specs.declared.operands.Operand.{Operand}
 use Rattle.qs_image.specs.Image.{Image}
+use Rattle.qs_image.specs.Limits.{most_code_words, most_data_bytes}
 use Rattle.qs_machine.specs.State.{stack_pointer, code_start, data_start, stack_top, stack_limit}
 use Rattle.qs_asm.specs.Items.{Lays, plain}
 use Rattle.qs_tac.specs.Trees.{InstructionTree, call, TacFunctionTree, TacUnitTree}
@@ -78,9 +79,9 @@ pub record Setup : Type 0 where
   pub label_at : ℕ → ℕ
   pub code_end : ℕ
   pub laid : Lays (instruction_at image) label_at code_start (unit_items unit places (data_address unit.data_blocks)) code_end
-  pub short : code_end ≤ code_start + 4 * 2 ^ 18
+  pub short : code_end ≤ code_start + 4 * most_code_words
   pub data_fits : data_end unit.data_blocks ≤ length image.bytes
-  pub data_limit : length image.bytes ≤ 16777216
+  pub data_limit : length image.bytes ≤ most_data_bytes
   pub room : Room
   pub others_bytes :
       (time : ℕ) (flat : ℕ → ℕ) → AreBytes flat → AreBytes (room.others time flat)

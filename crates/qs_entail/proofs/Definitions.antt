@@ -152,9 +152,6 @@ one_more d g known k m h = by (known m) (same_name m d.name) (g.state.names m) r
     by false true None e k h t = (value d.body g.state, undefined_takes d g m e ∙ ap (λ b. if b then Some (value d.body g.state) else None) (sym t))
     by false false None e k h t = cc
 
-abbrev GivesNames : List Define → State → Type 0
-GivesNames ds s = (n : List ℕ) (body : AssertionTree) → definition ds n ≡ Ok body → or_infinite (s.names n) ≡ value body s
-
 given : (ds : List Define) (g : Setting) (known : List ℕ → Bool) → in_order ds known ≡ true → AllValued known g → (n : List ℕ) (body : AssertionTree) → definition ds n ≡ Ok body → g.state.names n ≡ None → or_infinite ((with_definitions ds g).state.names n) ≡ value body (with_definitions ds g).state
 given [] g known o k n body h none = cc
 given (d ∷ ds) g known o k n body h none =

@@ -1,25 +1,16 @@
 -- Counts, members by number, and the numbers of items.
 use Rattle.std.proofs.Common.{◌≡◌, ◌≤◌, ◌<◌, ℕ, zero, suc, List, [], ◌∷◌, get_or, length, refl, sym, ap, arith}
 use Rattle.std.specs.Prelude.{Ok, Err}
-use Rattle.qs_assert.specs.Trees.{CondTree, AssertionTree, assertions_of}
+use Rattle.qs_assert.specs.Trees.{CondTree}
 use Rattle.qs_entail.specs.declared.certificate.Certificate.{Certificate}
 use Rattle.qs_entail.specs.Building.{breaks}
 use Rattle.qs_entail.specs.Facts.{condition_at}
-use Rattle.qs_entail.specs.Faults.{member, count, count_certs}
+use Rattle.qs_entail.specs.Faults.{count_certs}
 use Rattle.qs_entail.specs.View.{certs_tree}
 
 pub certs_number : (cs : List Certificate) → count_certs (certs_tree cs) ≡ length cs
 certs_number [] = refl
 certs_number (c ∷ cs) = ap suc (certs_number cs)
-
-pub trees_number : (ms : List AssertionTree) → count (assertions_of ms) ≡ length ms
-trees_number [] = refl
-trees_number (m ∷ ms) = ap suc (trees_number ms)
-
-pub member_in : (ms : List AssertionTree) (i : ℕ) (d : AssertionTree) → i < length ms → d ≡ get_or ms i d → member (assertions_of ms) i ≡ Ok d
-member_in [] i d h e = absurd (omega arith)
-member_in (m ∷ ms) zero d h e = ap Ok (sym e)
-member_in (m ∷ ms) (suc i) d h e = member_in ms i d (omega arith) e
 
 pub condition_in : (cs : List CondTree) (i : ℕ) (d : CondTree) → i < length cs → d ≡ get_or cs i d → condition_at cs i ≡ Ok d
 condition_in [] i d h e = absurd (omega arith)
@@ -30,8 +21,3 @@ pub condition_out : (cs : List CondTree) (i : ℕ) → length cs ≤ i → condi
 condition_out [] i h = refl
 condition_out (c ∷ cs) zero h = absurd (omega arith)
 condition_out (c ∷ cs) (suc i) h = condition_out cs i (omega arith)
-
-pub member_out : (ms : List AssertionTree) (i : ℕ) → length ms ≤ i → member (assertions_of ms) i ≡ Err breaks
-member_out [] i h = refl
-member_out (m ∷ ms) zero h = absurd (omega arith)
-member_out (m ∷ ms) (suc i) h = member_out ms i (omega arith)

@@ -9,7 +9,7 @@ use Rattle.qs_assert.specs.declared.variable.Var.{Var}
 use Rattle.qs_assert.specs.Trees.{TermTree, CondTree, le, lt, eq, ne, not, and, or}
 use Rattle.qs_assert.specs.Values.{State, term_value, holds, bit_length}
 use Rattle.qs_poly.specs.Polynomials as poly
-use Rattle.qs_poly.specs.Polynomials.{Polynomial, nothing}
+use Rattle.qs_poly.specs.Polynomials.{Polynomial}
 use Rattle.qs_poly.specs.Operations.{sum, multiple, number, lessened, single}
 use Rattle.qs_poly.specs.Terms.{polynomial_eq}
 use Rattle.qs_poly.specs.Values.{polynomial_value}

@@ -1,13 +1,11 @@
 -- The conditions that are pushed for a condition, from its nodes.
 use Rattle.std.proofs.Common.{◌≡◌, ◌<◌, drop, refl, ap, ◌∙◌, sym, subst, Bool, true, false, List, [], ◌∷◌, ◌++◌, length, replicate, append-nil, arith}
 use Rattle.std.specs.Prelude.{not as flip}
-use Rattle.qs_assert.specs.declared.node.CondNode.TheVariants.{Le, Lt, Ne}
 use Rattle.qs_assert.specs.declared.node.Node.{Node}
-use Rattle.qs_assert.specs.declared.node.Node.TheVariants.{Condition}
 use Rattle.qs_assert.specs.Reading.{others}
 use Rattle.qs_assert.specs.Trees.{CondTree, le, lt, eq, ne, not, and, or, CondTrees, no_conds, cond_and, cond_list}
 use Rattle.qs_assert.specs.Listing.{cond_nodes, conds_nodes}
-use Rattle.qs_assert.specs.Views.{front_length, begins, head_arity}
+use Rattle.qs_assert.specs.Views.{front_length, head_arity}
 use Rattle.qs_entail.specs.Flattening.{whole, flat, flats, opens, parts_negated}
 use Rattle.qs_entail.proofs.Waiting.{task, task_nodes, results, all_of, all_marks, InPlace}
 use Rattle.qs_assert.proofs.Fronted.{cond_front, others_are}
@@ -84,13 +82,3 @@ more_nodes (ne t u) = omega arith
 more_nodes (not c) = omega arith
 more_nodes (and cs) = omega arith
 more_nodes (or cs) = omega arith
-
--- a condition whose negation is no comparison
-pub not_whole : (c : CondTree) → begins (cond_nodes c) (Condition Le) ≡ false → begins (cond_nodes c) (Condition Lt) ≡ false → begins (cond_nodes c) (Condition Ne) ≡ false → whole true c ≡ not c
-not_whole (le t u) a b d = absurd (cc)
-not_whole (lt t u) a b d = absurd (cc)
-not_whole (eq t u) a b d = refl
-not_whole (ne t u) a b d = absurd (cc)
-not_whole (not c) a b d = refl
-not_whole (and cs) a b d = refl
-not_whole (or cs) a b d = refl

@@ -1,9 +1,9 @@
 -- Answers of the walk, one after another.
-use Rattle.std.proofs.Common.{◌≡◌, ◌<◌, ◌+◌, ◌++◌, ℕ, suc, drop, length, get_or, add-one, Bool, true, false, List, [], ◌∷◌, refl, sym, ap, ◌∙◌, subst, append_assoc, append-nil}
+use Rattle.std.proofs.Common.{◌≡◌, ◌<◌, ◌+◌, ℕ, suc, drop, length, get_or, add-one, List, ◌∷◌, refl, sym, ap, ◌∙◌, subst, append-nil}
 use Rattle.std.specs.Option.{option_or}
 use Rattle.std.proofs.Math.Seq.{drop-cons}
 use Rattle.qs_poly.specs.Polynomials.{Polynomial}
-use Rattle.std.specs.Prelude.{if◌then◌else◌, Box, Option, Some, None, Result, Ok, Err}
+use Rattle.std.specs.Prelude.{Box, Option, Some, None, Result, Ok, Err}
 use Rattle.std.specs.declared.alloc.Global.{Global}
 use Rattle.qs_assert.specs.declared.tree.Assertion.{Assertion}
 use Rattle.qs_entail.specs.declared.certificate.Certificate.{Certificate, Certificate-F, fold-roll-Certificate}
@@ -20,13 +20,13 @@ use Rattle.qs_entail.specs.declared.stop.Stop.{Stop}
 use Rattle.qs_entail.specs.declared.stop.Stop.TheVariants.{NoMemory, Breaks, Passes}
 use Rattle.qs_entail.specs.declared.failed.Failed.{Failed}
 use Rattle.qs_entail.specs.declared.failed.Failed.TheVariants as failures
-use Rattle.qs_entail.specs.Answers.{Follows, FollowsAs}
+use Rattle.qs_entail.specs.Answers.{Follows}
 use Rattle.qs_base.specs.Results.{bind}
 use Rattle.qs_entail.specs.Building.{Failure}
 use Rattle.qs_entail.specs.Faults.{Fault, step, limit, node, part, Guarded}
 use Rattle.qs_entail.specs.Verdicts.{fault, faults_all, faults_parts}
 use Rattle.qs_entail.specs.Pushing.{Known, with_polynomials}
-use Rattle.qs_entail.specs.Walking.{Place, Says, failure_of, settled}
+use Rattle.qs_entail.specs.Walking.{Place, Says, settled}
 
 -- a node without parts
 pub says_settled : (w : Place) (rule : Rule) (r : Result (Unit {0}) Stop) (attempt : Result (Unit {0}) Failure) → Follows r attempt → Says w w (settled rule r) (node rule attempt (λ _. None))
@@ -36,18 +36,6 @@ says_settled w rule (Err Breaks) attempt h =
     subst (λ a. Says w w (Err (failures.Step rule)) (node rule a (λ _. None))) (sym h) (refl, sym (append-nil w.path))
 says_settled w rule (Err (Passes l)) attempt h =
     subst (λ a. Says w w (Err (failures.Limit l)) (node rule a (λ _. None))) (sym h) (refl, sym (append-nil w.path))
-
--- a step of a node that gives nothing
-pub says_stopped : {A B : Type 0} (old new : Place) (rule : Rule) (stop : Stop) (view : A → B) (attempt : Result B Failure) (others : B → Option Fault) → new.path ≡ old.path → FollowsAs view (Err stop) attempt → Says old new (Err (failure_of rule stop)) (node rule attempt others)
-says_stopped old new rule NoMemory view attempt others e h = tt
-says_stopped old new rule Breaks view attempt others e h =
-    subst (λ a. Says old new (Err (failures.Step rule)) (node rule a others)) (sym h) (refl, e ∙ sym (append-nil old.path))
-says_stopped old new rule (Passes l) view attempt others e h =
-    subst (λ a. Says old new (Err (failures.Limit l)) (node rule a others)) (sym h) (refl, e ∙ sym (append-nil old.path))
-
--- and one that gives something
-pub says_given : {B : Type 0} (old new : Place) (rule : Rule) (r : Result (Unit {0}) Failed) (b : B) (attempt : Result B Failure) (others : B → Option Fault) → attempt ≡ Ok b → Says old new r (others b) → Says old new r (node rule attempt others)
-says_given old new rule r b attempt others e h = subst (λ a. Says old new r (node rule a others)) (sym e) h
 
 pub both_err : (old new : Place) (f : Failed) (v u : Option Fault) → Says old new (Err f) v → Says old new (Err f) (option_or v u)
 both_err old new failures.NoMemory v u h = tt
@@ -62,48 +50,11 @@ pub both_ok : (old mid new : Place) (x : Unit {0}) (r : Result (Unit {0}) Failed
 both_ok old mid new x r None u h k = subst (λ o. Says o new r u) h k
 both_ok old mid new x r (Some f) u h k = absurd h
 
-pub part_err : (old start new : Place) (i : ℕ) (f : Failed) (v : Option Fault) → start.path ≡ old.path ++ i ∷ [] → Says start new (Err f) v → Says old new (Err f) (part i v)
-part_err old start new i failures.NoMemory v e h = tt
-part_err old start new i (failures.Step r) None e h = absurd h
-part_err old start new i (failures.Step r) (Some (step p q)) e h = (h.0, h.1 ∙ (ap (λ path. path ++ p) e ∙ append_assoc old.path (i ∷ []) p))
-part_err old start new i (failures.Step r) (Some (limit p q)) e h = absurd h
-part_err old start new i (failures.Limit r) None e h = absurd h
-part_err old start new i (failures.Limit r) (Some (step p q)) e h = absurd h
-part_err old start new i (failures.Limit r) (Some (limit p q)) e h = (h.0, h.1 ∙ (ap (λ path. path ++ p) e ∙ append_assoc old.path (i ∷ []) p))
-
--- where a part ends well, so does the node, from where it is again as before
-pub part_ok : (old start mid new : Place) (i : ℕ) (x y : Unit {0}) (v : Option Fault) → (mid ≡ start → new ≡ old) → Says start mid (Ok x) v → Says old new (Ok y) (part i v)
-part_ok old start mid new i x y None k h = k h
-part_ok old start mid new i x y (Some f) k h = absurd h
-
--- where a walk ends well, it may go back
-pub says_back : (old mid new after : Place) (x y : Unit {0}) (v : Option Fault) → (mid ≡ old → new ≡ after) → Says old mid (Ok x) v → Says after new (Ok y) v
-says_back old mid new after x y None k h = k h
-says_back old mid new after x y (Some f) k h = absurd h
-
-pub says_elsewhere : (old after new : Place) (f : Failed) (v : Option Fault) → after.path ≡ old.path → Says old new (Err f) v → Says after new (Err f) v
-says_elsewhere old after new failures.NoMemory v e h = tt
-says_elsewhere old after new (failures.Step r) None e h = absurd h
-says_elsewhere old after new (failures.Step r) (Some (step p q)) e h = (h.0, h.1 ∙ ap (λ path. path ++ p) (sym e))
-says_elsewhere old after new (failures.Step r) (Some (limit p q)) e h = absurd h
-says_elsewhere old after new (failures.Limit r) None e h = absurd h
-says_elsewhere old after new (failures.Limit r) (Some (step p q)) e h = absurd h
-says_elsewhere old after new (failures.Limit r) (Some (limit p q)) e h = (h.0, h.1 ∙ ap (λ path. path ++ p) (sym e))
-
 -- a condition with its negation: both are pushed before either part
 pub split_ok : (old mid new : Place) (x : Unit {0}) (r : Result (Unit {0}) Failed) (rule : Rule) (a b : Result Known Failure) (f g : Known → Option Fault) → Says old mid (Ok x) (node rule a (λ k. node rule b (λ _. f k))) → Says mid new r (node rule b g) → Says old new r (node rule a (λ k. node rule b (λ l. option_or (f k) (g l))))
 split_ok old mid new x r rule (Ok k) (Ok l) f g h j = both_ok old mid new x r (f k) (g l) h j
 split_ok old mid new x r rule (Ok k) (Err e) f g h j = absurd h
 split_ok old mid new x r rule (Err e) b f g h j = absurd h
-
--- a node whose conditions hold, and one whose conditions do not
-pub says_begun : (s b : Bool) (old new : Place) (r : Result (Unit {0}) Failed) (v : Option Fault) (broken : Rule) → b ≡ s → b ≡ true → Says old new r v → Says old new r (if s then v else Some (step [] broken))
-says_begun true b old new r v broken e t h = h
-says_begun false b old new r v broken e t h = absurd (let k : true ≡ false = sym t ∙ e in cc)
-
-pub says_unbegun : (s b : Bool) (w : Place) (rule broken : Rule) (v : Option Fault) → b ≡ s → b ≡ false → rule ≡ broken → Says w w (Err (failures.Step rule)) (if s then v else Some (step [] broken))
-says_unbegun true b w rule broken v e t h = absurd (let k : false ≡ true = sym t ∙ e in cc)
-says_unbegun false b w rule broken v e t h = (h, sym (append-nil w.path))
 
 said_none : (old new : Place) (x : Unit {0}) (v : Option Fault) → Says old new (Ok x) v → new ≡ old
 said_none old new x None h = h

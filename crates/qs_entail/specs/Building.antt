@@ -17,9 +17,6 @@ pub data Failure : Type 0 where
   breaks : Failure
   passes : PolyFault → Failure
 
-abbrev pub Attempt : Type 0 → Type 0
-Attempt A = Result A Failure
-
 abbrev pub limits : Result Polynomial PolyFault → Result Polynomial Failure
 limits = result_map_both (λ p. p) passes
 

@@ -1,5 +1,5 @@
 // Operations on polynomials under the limits.
-ghost use Rattle.std.specs.Prelude.{◌≡◌, pos, Ok, Result};
+ghost use Rattle.std.specs.Prelude.{pos, Ok};
 ghost use Rattle.qs_poly.specs.Atoms.{tree_of};
 ghost use Rattle.qs_poly.specs.Limits.{Gives};
 ghost use Rattle.qs_poly.specs.Operations as operations;

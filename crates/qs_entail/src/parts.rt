@@ -159,10 +159,7 @@ fn member_at<'a>(members: AssertionViews<'a>, number: i64) -> Option<AssertionVi
 pub fn picked<'a>(p: &AssertionView<'a>, number: i64) -> Option<AssertionView<'a>>
     ensures { Finds result (faults.member_of p.now number) }
 {
-    match members(p) {
-        Some(members) => member_at(members, number),
-        None => None,
-    }
+    member_at(members(p)?, number)
 }
 
 /// The condition and the assertion of a guard, if the assertion is one.

@@ -1,5 +1,5 @@
 // The conditions without polynomials of a node, under what is known.
-ghost use Rattle.std.specs.Prelude.{◌≡◌, ◌==◌, nat_le};
+ghost use Rattle.std.specs.Prelude.{◌≡◌, nat_le};
 ghost use Rattle.qs_base.specs.Results.{bind};
 ghost use Rattle.qs_entail.specs.Faults as faults;
 ghost use Rattle.qs_entail.specs.Faults.{definition, count_certs};

@@ -21,13 +21,6 @@ pub is_rounded : (size : ℕ) → IsRounded size
 unfolding rounded
 is_rounded size = record { aligned = omega arith; enough = omega arith; least = omega arith }
 
-pub total_aligned : (sizes : List ℕ) → total sizes % 4 ≡ 0
-total_aligned [] = refl
-total_aligned (size ∷ sizes) =
-    let a : rounded size % 4 ≡ 0 = (is_rounded size).aligned in
-    let b : total sizes % 4 ≡ 0 = total_aligned sizes in
-    omega (arith, a, b)
-
 pub offset_aligned : (sizes : List ℕ) (i : ℕ) → offset sizes i % 4 ≡ 0
 offset_aligned [] i = refl
 offset_aligned (size ∷ sizes) zero = refl

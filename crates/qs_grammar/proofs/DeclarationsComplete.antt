@@ -146,9 +146,6 @@ mutual
 
 -- ---- variables
 
-abbrev VariableOut : Type 0
-VariableOut = Result ((VariableTree × ℕ) × List Terminal) Stop
-
 pub finds_variable : {h : ℕ} {ts : List Terminal} {v : VariableTree} → ReadsVariable h ts v → (m : ℕ) → h ≤ suc m → (rest : List Terminal) → Stops Assignment rest → variable m (ts ++ rest) ≡ Ok ((v, h), rest)
 unfolding variable
 finds_variable (an_unset_variable {h = h} {ts = ts} {d = d} r) m le rest stop =

@@ -18,7 +18,7 @@ use Rattle.qs_syntax.specs.Operators.{unary_of, binary_of, assign_of, access_of,
 use Rattle.qs_syntax.specs.Reads.{Form, Postfix, Unary, Level, Conditional, Assignment, Expression, place}
 use Rattle.qs_grammar.specs.Heads.{is_punctuator, is_keyword, starts, operator_at}
 use Rattle.qs_grammar.specs.Parse as parse
-use Rattle.qs_grammar.specs.Parse.{Stop, Unexpected, Deep, Parse, bind, E, unexpected, deep, begins_one, begins_cast, beyond, starts_suffix, expect}
+use Rattle.qs_grammar.specs.Parse.{Parse, bind, E, unexpected, deep, begins_one, begins_cast, starts_suffix, expect}
 use Rattle.qs_grammar.proofs.HeadsLaws.{punctuator_is}
 use Rattle.qs_grammar.proofs.Grown.{Grown, Grown-refl, Grown-deep, Grown-bind, Grown-then, Grown-last, Grown-above, Grown-some, Grown-cond}
 

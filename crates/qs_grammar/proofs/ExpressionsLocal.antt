@@ -19,7 +19,7 @@ use Rattle.qs_syntax.specs.Operators.{unary_of, binary_of, assign_of, access_of,
 use Rattle.qs_syntax.specs.Reads.{Form, Postfix, Unary, Level, Conditional, Assignment, Expression, place}
 use Rattle.qs_grammar.specs.Heads.{is_punctuator, is_keyword, starts, operator_at, begins_type}
 use Rattle.qs_grammar.specs.Parse as parse
-use Rattle.qs_grammar.specs.Parse.{Stop, Unexpected, Deep, Parse, bind, E, unexpected, deep, skip_consts, after_unsigned, after_signed, tagged, base, type, stars_from, stars, type_name, begins_one, begins_cast, beyond, starts_suffix, texts_from, expect}
+use Rattle.qs_grammar.specs.Parse.{Stop, Parse, bind, E, unexpected, deep, skip_consts, after_unsigned, after_signed, tagged, base, type, stars_from, stars, type_name, begins_one, begins_cast, beyond, starts_suffix, texts_from, expect}
 use Rattle.qs_grammar.proofs.HeadsLaws.{punctuator_is}
 use Rattle.qs_grammar.proofs.Local.{left, Local, bind-left, Local-bind, Local-look, Local-weak, Local-cons, Local-cond, Local-ok, Local-here, Local-unexpected, Local-deep, Local-unexpected-all, Local-deep-all, Local-above, Local-if, Local-starts, Local-operator, Local-place, Local-punctuator, Local-name, Looks, cond-left, Local-two, bind_same, bind_nothing, cond_same, expect_takes, leaves_less, Turns, Local-turns, Local-same, Local-after, after_same}
 

@@ -17,7 +17,7 @@ use Rattle.qs_syntax.specs.Operators.{punctuator_of_unary, punctuator_of_binary,
 use Rattle.qs_syntax.specs.Reads.{Form, Postfix, Unary, Level, Conditional, Assignment, Expression, place, at_first, ReadsTexts, no_text, a_further_text, Reads, ReadsArguments, a_name, an_empty_call, a_call, a_constant, a_text, in_parentheses, an_index, a_member, an_increment_after, a_decrement_after, a_postfix, an_increment, a_decrement, an_operator, a_size_of_type, a_size_of_value, a_cast, an_operand, stronger, an_operation, a_plain_level, a_choice, a_plain_conditional, an_assignment, a_plain_assignment, a_comma, a_last_argument, an_argument}
 use Rattle.qs_grammar.specs.Heads.{is_punctuator, is_keyword, starts, operator_at}
 use Rattle.qs_grammar.specs.Parse as parse
-use Rattle.qs_grammar.specs.Parse.{Stop, Parse, bind, E, begins_one, begins_cast, texts_from}
+use Rattle.qs_grammar.specs.Parse.{Stop, Parse, E, begins_one, begins_cast, texts_from}
 use Rattle.qs_grammar.proofs.HeadsLaws.{punctuator_is, keyword_is, unary_is, binary_is, assign_is, access_is, operator_is}
 use Rattle.qs_grammar.proofs.Sound.{Sound, Sound-ok, Sound-err, at_end, Sound-token, Sound-mono, Sound-bind, Sound-then}
 use Rattle.qs_grammar.proofs.SoundSteps.{Sound-if, Sound-above, Sound-ends, Sound-from, Sound-punctuator, sound_expect, sound_expect_name}

@@ -18,7 +18,7 @@ use Rattle.qs_syntax.specs.ReadsTypes.{ReadsConsts, no_const, ReadsBase, an_int,
 use Rattle.qs_syntax.specs.Reads.{Form, Postfix, Unary, Level, Conditional, Assignment, Expression, place, Reads, ReadsArguments, a_name, an_empty_call, a_call, a_constant, a_text, no_text, in_parentheses, an_index, a_member, an_increment_after, a_decrement_after, a_postfix, an_increment, a_decrement, an_operator, a_size_of_type, a_size_of_value, a_cast, an_operand, stronger, an_operation, a_plain_level, a_choice, a_plain_conditional, an_assignment, a_plain_assignment, a_comma, a_last_argument, an_argument}
 use Rattle.qs_grammar.specs.Heads.{is_punctuator, is_keyword, starts, operator_at, begins_type}
 use Rattle.qs_grammar.specs.Parse as parse
-use Rattle.qs_grammar.specs.Parse.{Stop, Unexpected, Deep, Parse, bind, E, unexpected, deep, skip_consts, after_unsigned, after_signed, tagged, base, type, type_name, begins_one, begins_cast, beyond, starts_suffix, expect}
+use Rattle.qs_grammar.specs.Parse.{Deep, Parse, bind, E, skip_consts, after_unsigned, after_signed, tagged, base, type, type_name, begins_one, begins_cast, beyond, starts_suffix}
 use Rattle.qs_grammar.proofs.HeadsLaws.{punctuator_is, keyword_is, unary_is, binary_is, assign_is, access_is, operator_is}
 use Rattle.qs_grammar.proofs.Sound.{Sound}
 use Rattle.qs_grammar.proofs.TypesSound.{Taken, taken_consts, sound_type_name}

@@ -8,7 +8,7 @@ use Rattle.qs_syntax.specs.declared.punctuator.Punctuator as punctuator
 use Rattle.qs_syntax.specs.declared.punctuator.Punctuator.TheVariants as punctuators
 use Rattle.qs_syntax.specs.declared.types.Base.{Base}
 use Rattle.qs_syntax.specs.declared.types.Base.TheVariants as bases
-use Rattle.qs_syntax.specs.Trees.{unnumbered, ExprTree, ParameterTree, DeclarationTree, StmtTree, expression, DeclTree}
+use Rattle.qs_syntax.specs.Trees.{unnumbered, ParameterTree, DeclarationTree, StmtTree, expression, DeclTree}
 use Rattle.qs_syntax.specs.Trees as trees
 use Rattle.qs_syntax.specs.Operators.{number_of}
 use Rattle.qs_syntax.specs.Reads.{Expression}

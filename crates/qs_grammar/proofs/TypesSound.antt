@@ -133,9 +133,6 @@ stars_from_taken n (t ∷ ts) =
     stars_if (t ∷ ts) n (stars_from (n + 1) ts) _ (is_punctuator punctuators.Star t) (λ e. star_first t ts n _ e (stars_from_taken (n + 1) ts))
     (λ _. stars_if (t ∷ ts) n (stars_from n ts) (n, t ∷ ts) (is_keyword keywords.Const t) (λ e. const_first t ts n _ e (stars_from_taken n ts)) (λ _. no_stars (t ∷ ts) n))
 
-abbrev pub AreStars : ℕ → List Terminal → Type 0
-AreStars n ts = ReadsStars ts n
-
 -- the stars at the front, and what is left
 pub record StarsRead (ts : List Terminal) (x : ℕ × List Terminal) : Type 0 where
   pub front : List Terminal

@@ -127,9 +127,6 @@ variables_declare (a_variable {xs = xs} {ys = ys} at r s) rest e = rw (append_as
 
 -- ---- externals
 
-abbrev Out : Type 0
-Out = Result ((DeclTree × ℕ) × List Terminal) Stop
-
 all_groups : {h : ℕ} {ts : List Terminal} {ms : List MembersTree} → ReadsAllMembers h ts ms → (k : ℕ) → h ≤ suc k → (c : ℕ) (rest : List Terminal)
     → groups k (length (ts ++ Punctuator c punctuators.CloseBrace ∷ rest)) [] 0 (ts ++ Punctuator c punctuators.CloseBrace ∷ rest) ≡ Items ms h rest
 all_groups {h} {ts} {ms} r k le c rest = finds_groups r k (length (ts ++ Punctuator c punctuators.CloseBrace ∷ rest)) le (omega (arith, length-append ts (Punctuator c punctuators.CloseBrace ∷ rest))) [] 0 c rest ∙ ap (λ (j : ℕ). Items ms j rest) (from_zero h)

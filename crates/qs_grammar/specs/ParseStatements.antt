@@ -6,7 +6,7 @@ use Rattle.qs_base.specs.declared.keyword.Keyword.TheVariants as keywords
 use Rattle.qs_syntax.specs.declared.punctuator.Punctuator as punctuator
 use Rattle.qs_syntax.specs.declared.punctuator.Punctuator.TheVariants as punctuators
 use Rattle.qs_syntax.specs.declared.types.Base.{Base}
-use Rattle.qs_syntax.specs.Trees.{unnumbered, ExprTree, DeclarationTree, ParameterTree, StartTree, no_start, start_expression, start_declaration, StmtTree, empty, expression, block, branch, while_loop, do_loop, for_loop, break, continue, return, stmts_of, no_else, else_by, DeclTree, structure, forward, function}
+use Rattle.qs_syntax.specs.Trees.{unnumbered, ExprTree, ParameterTree, StartTree, no_start, start_expression, start_declaration, StmtTree, empty, expression, block, branch, while_loop, do_loop, for_loop, break, continue, return, stmts_of, no_else, else_by, DeclTree, structure, forward, function}
 use Rattle.qs_syntax.specs.Trees as trees
 use Rattle.qs_syntax.specs.Reads.{Expression, place}
 use Rattle.qs_grammar.specs.Heads.{is_keyword, is_punctuator, starts, starts_with, begins_type}

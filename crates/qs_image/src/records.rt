@@ -1,5 +1,5 @@
 // Records of functions in a table, and their names.
-ghost use Rattle.std.specs.Prelude.{[], ◌∷◌, MatchOption, ◌≡◌, ◌≤◌, ◌==◌, length, sum, bytes_eq};
+ghost use Rattle.std.specs.Prelude.{[], MatchOption, ◌≡◌, ◌≤◌, ◌==◌, length, sum, bytes_eq};
 ghost use Rattle.std.specs.List.{list_all, list_any};
 ghost use Rattle.qs_base.specs.Names.{is_name};
 ghost use Rattle.qs_image.specs.Limits.{most_code_words, most_functions};

@@ -15,7 +15,7 @@ pub struct ImageView<'a> {
 }
 
 impl<'a> Model for ImageView<'a> {
-    ghost use Rattle.std.specs.Prelude.{◌≡◌, sum, length};
+    ghost use Rattle.std.specs.Prelude.{◌≡◌, length};
     ghost use Rattle.qs_image.specs.Image.{Image, IsWellFormed};
     ghost use Rattle.qs_image.specs.View.{image_in};
 

@@ -1,7 +1,6 @@
 // From instructions to words.
-ghost use Rattle.std.specs.Prelude.{◌≡◌, ◌<◌, ◌^◌, Some};
+ghost use Rattle.std.specs.Prelude.{◌≡◌, ◌<◌, Some};
 ghost use Rattle.qs_isa.specs.Ranges.{IsSigned, IsOffset, IsUpper};
-ghost use Rattle.qs_isa.specs.Fields as fields;
 ghost use Rattle.qs_isa.specs.Table.{decode_of};
 ghost use Rattle.qs_isa.specs.Encoding as words;
 

@@ -77,21 +77,6 @@ text_goes_on body rest at n first wide still h r e f b s =
     ∙ good_first wide first (elements_behind 0 (drop (at + n) body)) b
     ∙ ap (λ x. text_after x (elements_behind 0 (drop (at + n) body))) (sym s)
 
-pub text_fails : (body rest : List ℕ) (at : ℕ) (first : Element) (wide : Bool) → at < length body → rest ≡ drop at body → first ≡ first_element rest → is_bad first ≡ true → text_after wide (elements_behind 0 (drop at body)) ≡ Err faults.BadLiteral
-text_fails body rest at first wide h r f b =
-    ap (text_after wide) (next_elements body rest at (element_length rest) h r refl ∙ ap (λ x. x ∷ elements_behind 0 (drop (at + element_length rest) body)) (sym f))
-    ∙ bad_first first (elements_behind 0 (drop (at + element_length rest) body)) b
-  where
-    bad_first : (first : Element) (others : List Element) → is_bad first ≡ true → text_after wide (first ∷ others) ≡ Err faults.BadLiteral
-    bad_first first others h = rw h refl
-
-pub text_ends : (body : List ℕ) (at : ℕ) (wide : Bool) → length body ≤ at → text_after wide (elements_behind 0 (drop at body)) ≡ cond wide (Err faults.WideLiteral) (Ok kinds.Text)
-text_ends body at wide h = ap (λ bs. text_after wide (elements_behind 0 bs)) (drop_past at body h) ∙ by wide
-  where
-    by : (x : Bool) → text_after x [] ≡ cond x (Err faults.WideLiteral) (Ok kinds.Text)
-    by true = refl
-    by false = refl
-
 -- ---- their bytes
 
 values_first : (first : Element) (others : List Element) → byte_values (first ∷ others) ≡ byte_values (first ∷ []) ++ byte_values others

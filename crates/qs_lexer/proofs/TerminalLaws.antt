@@ -1,9 +1,9 @@
 -- The terminals of a text.
-use Rattle.std.proofs.Common.{◌≡◌, ℕ, ◌+◌, ◌-◌, ◌<◌, ◌≤◌, zero, suc, Bool, true, ◌&&◌, List, [], ◌∷◌, ◌++◌, length, drop, get_or, All, refl, ap, sym, ◌∙◌, arith, add-one, drop-cons, Fits, w8}
+use Rattle.std.proofs.Common.{◌≡◌, ℕ, ◌+◌, ◌-◌, ◌<◌, ◌≤◌, zero, suc, Bool, true, ◌&&◌, List, [], ◌∷◌, ◌++◌, length, drop, get_or, All, refl, ap, sym, ◌∙◌, arith, Fits, w8}
 use Rattle.std.proofs.lemmas.Bool.Decides.{nat_tests}
 use Rattle.std.specs.Cmp.{first_so, second_so}
 use Rattle.std.specs.List.{list_all}
-use Rattle.std.proofs.lemmas.List.{append_assoc, append-nil, drop_all}
+use Rattle.std.proofs.lemmas.List.{append-nil, drop_all}
 use Rattle.std.proofs.lemmas.List.Elements.{All-head, All-tail}
 use Rattle.qs_base.specs.Names.{is_name}
 use Rattle.qs_lexer.specs.Laws.{InOrder, IsTokenOf, spelling}
@@ -84,13 +84,6 @@ slice_bytes [] f = refl
 slice_bytes (x ∷ xs) f = and_true (is_byte x) (list_all is_byte xs) (fits_byte x (f 0)) (slice_bytes xs (λ i. f (suc i)))
 
 -- ---- the loop
-
-pub goes_on : (text : List ℕ) (tokens : List Token) (done more : List Terminal) (at : ℕ) (d : Token) (one : Terminal) → at < length tokens → done ++ terminals text at (drop at tokens) ≡ terminals text 0 tokens
-    → one ≡ terminal text at (get_or tokens at d) → more ≡ done ++ one ∷ [] → more ++ terminals text (at + 1) (drop (at + 1) tokens) ≡ terminals text 0 tokens
-goes_on text tokens done more at d one l i e m =
-    let others : List Terminal = terminals text (at + 1) (drop (at + 1) tokens) in
-    let split : drop at tokens ≡ get_or tokens at d ∷ drop (at + 1) tokens = rw add-one (drop-cons tokens at d l) in
-    ap (λ list. list ++ others) m ∙ append_assoc done (one ∷ []) others ∙ ap (λ x. done ++ x ∷ others) e ∙ sym (ap (λ list. done ++ terminals text at list) split) ∙ i
 
 pub ended : (text : List ℕ) (tokens : List Token) (done : List Terminal) (at : ℕ) → length tokens ≤ at → done ++ terminals text at (drop at tokens) ≡ terminals text 0 tokens → done ≡ terminals text 0 tokens
 ended text tokens done at l i = sym (append-nil done) ∙ sym (ap (λ list. done ++ terminals text at list) (drop_all at tokens l)) ∙ i

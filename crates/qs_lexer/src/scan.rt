@@ -1,5 +1,5 @@
 // What stands first in the rest of a text, class by class.
-ghost use Rattle.std.specs.Prelude.{◌≡◌, ◌<◌, ◌^◌, Bool, [], ◌∷◌, true, length};
+ghost use Rattle.std.specs.Prelude.{◌≡◌, Bool, [], ◌∷◌, true};
 ghost use Rattle.qs_base.specs.Bytes.{is_digit, is_letter};
 ghost use Rattle.qs_lexer.specs.Bytes.{is_space, starts, starts_with};
 ghost use Rattle.qs_lexer.specs.Scan.{Opens, punctuator_front};

@@ -1,7 +1,6 @@
 -- What an expression of the typed tree gives in core holds at most 1 more than its height.
 use Rattle.std.proofs.Common.{◌||◌, [], ◌∷◌, arith}
 use Rattle.qs_memory.specs.declared.scalar.Scalar.TheVariants as scalars
-use Rattle.qs_core.specs.Trees.{CoreExprTree}
 use Rattle.qs_core.specs.Trees as core
 use Rattle.qs_meaning.specs.Typed.{Expr, constant, value, pointer_to, member, called, stepped_after, unary, cast, binary, logical_and, logical_or, conditional, assigned, sequence, Lvalue, variable, object, Arguments, no_arguments, argument_and, Assignment, set, update, Effect, nothing, discard, assign, perform, copy, fill, in_order}
 use Rattle.qs_elaborate.specs.Literals.{converted_core}

@@ -1,6 +1,6 @@
 -- The bodies of core hold few values at once.
 use Rattle.std.proofs.Common.{◌≡◌, ◌≤◌, ℕ, ◌+◌, max, Bool, true, false, List, [], ◌∷◌, Some, None, refl, arith}
-use Rattle.qs_core.specs.Trees.{CoreStmtTree, CoreFunctionTree, CoreUnitTree}
+use Rattle.qs_core.specs.Trees.{CoreStmtTree, CoreFunctionTree}
 use Rattle.qs_core.specs.Trees as core
 use Rattle.qs_meaning.specs.Typed.{Stmt, evaluate, block, branch, while_loop, do_loop, for_loop, break, continue, return, return_nothing, Stmts, no_stmts, stmt_and, Function}
 use Rattle.qs_elaborate.specs.Literals.{converted_core}

@@ -8,7 +8,7 @@ use Rattle.qs_types.specs.Types.{TypeTree, is_array, Structs}
 use Rattle.qs_types.specs.Declarations.{text_of, variable_declared}
 use Rattle.qs_types.specs.InitialiserRules.{part_type}
 use Rattle.qs_types.specs.StatementRules.{after_statement}
-use Rattle.qs_meaning.specs.Typed.{Expr, member, Lvalue, object, Effect, Stmt}
+use Rattle.qs_meaning.specs.Typed.{Expr, member, object, Effect, Stmt}
 use Rattle.qs_meaning.specs.Typed as typed_trees
 use Rattle.qs_meaning.specs.Forms.{lvalue, TypedExpr, address_of}
 use Rattle.qs_meaning.specs.Names.{Scope, within, local_lvalue}

@@ -1,7 +1,7 @@
 -- The code of addresses: members and elements, one behind another.
 use Rattle.std.proofs.Common.{◌≡◌, ℕ, ◌+◌, Bool, true, false, if◌then◌else◌, List, Option, Some, None, refl, sym, ap, ◌∙◌, subst, arith}
 use Rattle.qs_memory.specs.Partial.{◌>>=◌}
-use Rattle.qs_memory.specs.Values.{Pointer, Value, address, as_pointer}
+use Rattle.qs_memory.specs.Values.{Pointer, address, as_pointer}
 use Rattle.qs_memory.specs.Memory.{Memory}
 use Rattle.qs_memory.specs.Pointers.{member_of}
 use Rattle.qs_memory.specs.declared.operation.Signedness.{Signedness}
@@ -24,8 +24,8 @@ use Rattle.qs_lower.specs.Expressions.{IndexCode, ExprCode, size_of, operand_of,
 use Rattle.qs_lower.proofs.SizeLaws.{one_more, Sized, address_sized}
 use Rattle.qs_lower.proofs.OperandLaws.{gives_pointer_is}
 use Rattle.qs_lower.proofs.AddressLaws.{bind_some, bind_bind, bind_same, pointer_value, further_member, element_same}
-use Rattle.qs_lower.proofs.Real.{Model, Act, Stack, has_left, has_right, kept_all, kept_then, kept_below, Real, moment, IsCode, Agree, free, IntoReal, SimpleReal, OperandReal, BaseReal, Goes, TestReal, KnownReal}
-use Rattle.qs_lower.proofs.ValueReal.{none_bind, no_pointer, negated}
+use Rattle.qs_lower.proofs.Real.{Model, Act, Stack, has_left, has_right, kept_all, kept_then, kept_below, Real, moment, IsCode, Agree, BaseReal, Goes}
+use Rattle.qs_lower.proofs.ValueReal.{none_bind, no_pointer}
 use Rattle.qs_lower.proofs.ValueReal as value_real
 
 module _ (u : Model) (f : CoreFunctionTree) (code : List InstructionTree) (function : ℕ) (stack : Stack) (is_code : IsCode u f code function stack) where
@@ -38,32 +38,11 @@ module _ (u : Model) (f : CoreFunctionTree) (code : List InstructionTree) (funct
   abbrev pub Agrees : Locals → Environment → Type 0
   Agrees l e = Agree u f code function stack l e
 
-  abbrev pub first_free : ℕ
-  first_free = free u f code function stack
-
-  abbrev pub Gives : (i : InstructionTree) → (x : ℕ) → (at first : ℕ) → Environment → World → Option Value → Type 0
-  Gives i x at first e w o = value_real.Gives u f code function stack is_code i x at first e w o
-
   abbrev pub Ends : (d : ℕ) → Exit → (end first : ℕ) → Environment → World → RootRun → Type 0
   Ends d x end first e w r = Goes u f code function stack (λ c p. Makes c p first e w r) d x end
 
-  abbrev pub Into : CoreExprTree → ExprCode → Type 0
-  Into s c = IntoReal u f code function stack s c
-
-  abbrev pub Simple : CoreExprTree → ExprCode → Type 0
-  Simple s c = SimpleReal u f code function stack s c
-
-  abbrev pub AsOperand : CoreExprTree → ExprCode → Type 0
-  AsOperand s c = OperandReal u f code function stack s c
-
   abbrev pub AsBase : CoreExprTree → ExprCode → Type 0
   AsBase s c = BaseReal u f code function stack s c
-
-  abbrev pub AsTest : CoreExprTree → ExprCode → Type 0
-  AsTest s c = TestReal u f code function stack s c
-
-  abbrev pub AsKnown : CoreExprTree → ExprCode → Type 0
-  AsKnown s c = KnownReal u f code function stack s c
 
   abbrev pub Correct : CoreExprTree → ExprCode → Type 0
   Correct s c = value_real.Correct u f code function stack is_code s c

@@ -13,7 +13,7 @@ use Rattle.qs_core.specs.Trees as core
 use Rattle.qs_core.specs.Trees.{CoreExprTree, CoreFunctionTree}
 use Rattle.qs_core.specs.declared.numbers.Target.TheVariants as targets
 use Rattle.qs_core.specs.Expressions.{Locals, value, values}
-use Rattle.qs_core.specs.Statements.{Continuation, Continuations, Context, assigned, runs}
+use Rattle.qs_core.specs.Statements.{Continuation, Continuations, Context, assigned}
 use Rattle.qs_core.specs.Statements as statements
 use Rattle.qs_tac.specs.Trees.{InstructionTree, call}
 use Rattle.qs_tac.specs.Holders.{temporaries}

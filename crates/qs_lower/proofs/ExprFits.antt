@@ -50,9 +50,6 @@ module _ (u : TacUnitTree) (f : TacFunctionTree) where
   fit_both (i ∷ a) b h k =
       let two = both (instruction_fits u f i) (list_all (instruction_fits u f) a) h in fit_cons i (a ++ b) two.0 (fit_both a b two.1 k)
 
-  abbrev pub length_of_code : ℕ
-  length_of_code = length f.code
-
   -- ---- exits
 
   -- an exit of code that ends here leads into the code, and where it falls something stands behind

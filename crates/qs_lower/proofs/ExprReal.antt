@@ -2,7 +2,7 @@
 use Rattle.std.proofs.Common.{◌≡◌, ℕ, ◌+◌, ◌-◌, ◌<◌, ◌≤◌, Bool, true, false, if◌then◌else◌, List, [], ◌∷◌, ◌++◌, length, Option, Some, None, refl, sym, ap, ◌∙◌, arith}
 use Rattle.std.specs.List.{slice_get}
 use Rattle.qs_memory.specs.Partial.{◌>>=◌}
-use Rattle.qs_memory.specs.Values.{Pointer, Value, integer, address, as_pointer}
+use Rattle.qs_memory.specs.Values.{Value, integer, address, as_pointer}
 use Rattle.qs_memory.specs.Memory.{Memory}
 use Rattle.qs_core.specs.declared.numbers.BlockId.{BlockId}
 use Rattle.qs_core.specs.declared.numbers.BlockId.TheVariants as ids
@@ -18,19 +18,17 @@ use Rattle.qs_memory.specs.declared.operation.UnaryOperation.{UnaryOperation}
 use Rattle.qs_memory.specs.declared.operation.UnaryOperation.TheVariants as unaries
 use Rattle.qs_tac.specs.Trees.{InstructionTree, move, jump}
 use Rattle.qs_tac.specs.Holders.{temporaries}
-use Rattle.qs_tac.specs.Values.{operand, pointer, member_at, indexed, holds}
+use Rattle.qs_tac.specs.Values.{operand, holds}
 use Rattle.qs_tac.specs.Steps.{gives}
-use Rattle.qs_tac.specs.declared.operands.Index.{Index}
-use Rattle.qs_tac.specs.declared.operands.Operand.{Operand}
 use Rattle.qs_tac.specs.declared.operands.Operand.TheVariants.{Temporary, Constant, Null}
 use Rattle.qs_lower.specs.Exits.{Exit, falls, goes, is_fall, place_of, settled}
 use Rattle.qs_lower.specs.Operands.{gives_truth, block_operand}
-use Rattle.qs_lower.specs.Expressions.{ExprCode, no_code, address_at, behind, number_of, by_test, both_size, of_both_tests, either_size, of_either_test, of_choice, of_and, of_or, of_conditional, lowered}
+use Rattle.qs_lower.specs.Expressions.{ExprCode, no_code, behind, number_of, by_test, both_size, of_both_tests, either_size, of_either_test, of_choice, of_and, of_or, of_conditional, lowered}
 use Rattle.qs_lower.proofs.SizeLaws.{behind_sized, by_test_sized, choice_sized, both, TestSized}
 use Rattle.qs_lower.proofs.OperandLaws.{TruthOrNone, gives_truth_is, truth_again}
 use Rattle.qs_lower.proofs.AddressLaws.{bind_some, bind_bind, bind_same}
-use Rattle.qs_lower.proofs.Real.{Model, Act, Stack, HasAt, has_left, has_right, Kept, KeptBut, kept_then, Real, real_less, moment, IsCode, Agree, free, IntoReal, SimpleReal, OperandReal, BaseReal, Goes, by_answer, TestReal, KnownReal}
-use Rattle.qs_lower.proofs.ValueReal.{none_bind, no_pointer, negated}
+use Rattle.qs_lower.proofs.Real.{Model, Act, Stack, HasAt, has_left, has_right, Kept, KeptBut, kept_then, Real, real_less, moment, IsCode, Agree, free, IntoReal, Goes, by_answer, TestReal}
+use Rattle.qs_lower.proofs.ValueReal.{none_bind}
 use Rattle.qs_lower.proofs.ValueReal as value_real
 use Rattle.qs_lower.proofs.AddressReal as address_real
 use Rattle.qs_lower.proofs.OperandReal as operands_real
@@ -48,45 +46,17 @@ module _ (u : Model) (f : CoreFunctionTree) (code : List InstructionTree) (funct
   abbrev pub first_free : ℕ
   first_free = free u f code function stack
 
-  abbrev pub Gives : (i : InstructionTree) → (x : ℕ) → (at first : ℕ) → Environment → World → Option Value → Type 0
-  Gives i x at first e w o = value_real.Gives u f code function stack is_code i x at first e w o
-
   abbrev pub Ends : (d : ℕ) → Exit → (end first : ℕ) → Environment → World → RootRun → Type 0
   Ends d x end first e w r = Goes u f code function stack (λ c p. Makes c p first e w r) d x end
 
   abbrev pub Into : CoreExprTree → ExprCode → Type 0
   Into s c = IntoReal u f code function stack s c
 
-  abbrev pub Simple : CoreExprTree → ExprCode → Type 0
-  Simple s c = SimpleReal u f code function stack s c
-
-  abbrev pub AsOperand : CoreExprTree → ExprCode → Type 0
-  AsOperand s c = OperandReal u f code function stack s c
-
-  abbrev pub AsBase : CoreExprTree → ExprCode → Type 0
-  AsBase s c = BaseReal u f code function stack s c
-
   abbrev pub AsTest : CoreExprTree → ExprCode → Type 0
   AsTest s c = TestReal u f code function stack s c
 
-  abbrev pub AsKnown : CoreExprTree → ExprCode → Type 0
-  AsKnown s c = KnownReal u f code function stack s c
-
   abbrev pub Correct : CoreExprTree → ExprCode → Type 0
   Correct s c = value_real.Correct u f code function stack is_code s c
-
-  abbrev pub Pointed : ExprCode → (t i : ℕ) → Locals → Environment → Memory → Option Pointer
-  Pointed p t i l e m = pointer temporaries (address_at p t) (at_moment i l.first_block e) m
-
-  abbrev pub IsBehind : (s behind_it : CoreExprTree) → (bytes : ℕ) → Type 0
-  IsBehind s r bytes =
-      (at : ℕ) (l : Locals) (e : Environment) (m : Memory) → Agrees l e
-      → (value r l m >>= as_pointer) ≡ ((value s l m >>= as_pointer) >>= λ q. member_of m q bytes)
-
-  abbrev pub parts : Operand → Option ℕ → Option Index → (i : ℕ) → Locals → Environment → Memory → Option Pointer
-  parts o off ix i l e m =
-      operand temporaries o (at_moment i l.first_block e)
-      >>= λ v. as_pointer v >>= λ q. member_at m off q >>= λ r. indexed temporaries ix r (at_moment i l.first_block e) m
 
   abbrev pub Unary : UnaryOperation → CoreExprTree → CoreExprTree
   Unary op a = core.unary op a

@@ -277,10 +277,6 @@ module _ (u : Model) (f : CoreFunctionTree) (code : List InstructionTree) (funct
   both_exits to_continue to_break x e = refl
   both_exits to_continue to_continue x e = refl
 
-  -- one of two meanings, whatever follows
-  chosen_alike : (s : CoreExprTree) (m n : Meaning) (k : Continuations) → Alike (chosen s (λ j. m k) (λ j. n k) k) (chosen s m n k)
-  chosen_alike s m n k l w = refl
-
   pub branch_real :
       (s : CoreExprTree) (e : ExprCode) (m n : Meaning) (v q : Option Way) (a b : Part) → Correct s e → PartReal m a → PartReal n b → PartSized a → WayIs v m → WayIs q n
       → PartReal (chosen s m n) (branch_part first_free e v q a b)

@@ -19,7 +19,7 @@ use Rattle.qs_calls.specs.declared.parameter.Parameter.{Parameter}
 use Rattle.qs_calls.specs.declared.parameter.Parameter.TheVariants.{Plain, Placed}
 use Rattle.qs_core.specs.Trees.{CoreFunctionTree, CoreUnitTree}
 use Rattle.qs_core.specs.Statements.{Context}
-use Rattle.qs_core.specs.Units.{after_function, body_of, calls_within, core_run}
+use Rattle.qs_core.specs.Units.{body_of, calls_within, core_run}
 use Rattle.qs_core.specs.Units as units
 use Rattle.qs_core.proofs.RelationLaws as laws
 use Rattle.qs_tac.specs.Trees.{TacUnitTree}

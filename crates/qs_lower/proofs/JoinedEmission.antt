@@ -1,5 +1,5 @@
 -- The code of several statements, one put behind the other.
-use Rattle.std.proofs.Common.{◌≡◌, ℕ, ◌+◌, List, [], ◌∷◌, ◌++◌, length, map, Some, sym, ap, ◌∙◌, append_assoc, arith}
+use Rattle.std.proofs.Common.{◌≡◌, ℕ, ◌+◌, List, [], ◌∷◌, ◌++◌, length, map, Some, sym, ap, ◌∙◌, arith}
 use Rattle.std.proofs.lemmas.Result.{on_ok_weaker}
 use Rattle.std.specs.Prelude.{Box, Result, OnOk}
 use Rattle.std.specs.declared.alloc.Global.{Global}
@@ -13,36 +13,11 @@ use Rattle.qs_lower.specs.Plans.{expr_code, Emitted}
 use Rattle.qs_lower.specs.declared.plans.ExprPlan.{ExprPlan}
 use Rattle.qs_lower.specs.declared.stmt_plans.StmtPlan.{StmtPlan}
 use Rattle.qs_lower.specs.declared.stmt_plans.StmtPlan.TheVariants as plans
-use Rattle.qs_lower.specs.Statements.{StmtCode, Exits, before, falls_of, next_falls}
+use Rattle.qs_lower.specs.Statements.{StmtCode, Exits, before, falls_of}
 use Rattle.qs_lower.specs.StmtPlans.{stmt_part, joined_before, sizes_before, code_before}
 use Rattle.qs_lower.proofs.Emitting.{emitted_then}
 use Rattle.qs_lower.proofs.PlanTrees.{joined_is, return_is}
 use Rattle.qs_lower.proofs.JoinedLaws.{joined_size, joined_code}
-
--- one of them, and what the rest gives
-module _ (c d : List Instruction) (s last : StmtCode) (ss : List StmtCode) (x y : Exits) (next : ℕ)
-    (exits : y ≡ before next x) (is : next ≡ (joined_before ss last).part.entry (length c + s.part.size next_falls))
-    (code : Emitted c d (s.part.code y (length c))) (size : length d ≡ length c + s.part.size (falls_of y))
-  where
-    second : ℕ
-    second = length c + s.part.size next_falls
-
-    length_is : length d ≡ length c + s.part.size next_falls
-    length_is = size ∙ ap (λ (e : Exits). length c + s.part.size (falls_of e)) exits
-
-    pub first_emitted : map instruction_tree d ++ code_before ss last x (length d) ≡ map instruction_tree c ++ code_before (s ∷ ss) last x (length c)
-    first_emitted =
-        ap (λ (n : ℕ). map instruction_tree d ++ code_before ss last x n) length_is
-        ∙ ap (λ (l : List InstructionTree). l ++ code_before ss last x (length c + s.part.size next_falls)) code
-        ∙ append_assoc (map instruction_tree c) (s.part.code y (length c)) (code_before ss last x (length c + s.part.size next_falls))
-        ∙ ap
-        (λ (e : Exits). map instruction_tree c ++ (s.part.code e (length c) ++ code_before ss last x (length c + s.part.size next_falls)))
-        (exits ∙ ap (λ (n : ℕ). before n x) is)
-
-    pub first_size : length d + sizes_before ss ≡ length c + sizes_before (s ∷ ss)
-    first_size =
-        let l = length_is in
-        omega arith
 
 -- all of them, and then the last
 pub joined_emitted :

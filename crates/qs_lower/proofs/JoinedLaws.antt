@@ -85,10 +85,6 @@ last_apart (s ∷ r ∷ ss) last = ap (of_both s) (last_apart (r ∷ ss) last)
 pub ends_there : (s rest : StmtCode) → s.ends ≡ true → of_both s rest ≡ s
 ends_there s rest h = ap (λ (b : Bool). if b then s else of_ways s.way s rest) h
 
--- one that only goes on
-pub goes_on : (s rest : StmtCode) (w : Way) → s.ends ≡ false → s.way ≡ Some w → of_both s rest ≡ rest
-goes_on s rest w h e = ap (λ (b : Bool). if b then s else of_ways s.way s rest) h ∙ ap (λ (o : Option Way). of_ways o s rest) e
-
 before_same : (s rest : StmtCode) (o : Option Way) → s.way ≡ None → of_before s o rest ≡ put_before s o rest
 before_same s rest None h = refl
 before_same s rest (Some w) h =

@@ -85,11 +85,6 @@ module _ (f : TacFunctionTree) where
   converted_less scalars.Unsigned k o p h = integer_less o p h
   converted_less scalars.Pointer k o p h = absurd (cc)
 
--- what is an operand in core has an operand, and any other value is read from where it is held
-read_by : (z : Bool) (e : CoreExprTree) → is_operand e ≡ z → (if z then 1 else read_words e) ≡ 1
-read_by true e h = refl
-read_by false e h = held_read e h
-
 blocks_are : (e : CoreExprTree) → is_block e ≡ true → (b : BlockId) × (e ≡ core.address_of b)
 blocks_are (core.address_of b) h = (b, refl)
 blocks_are _ h = absurd (cc)
@@ -195,9 +190,6 @@ module _ (c : CoreUnitTree) (g : CoreFunctionTree) (v : ℕ) (f : TacFunctionTre
       let made : In (taken_words a + 5) (taken_words a + 2) (taken_words a + 7) (taken_words a + 6) (by_address (behind d bytes)) =
       member_within f free near (taken_words a + 2) d bytes (taken_words a) (address_words a) h.taken_fits h.address_fits (omega arith) (omega arith) (omega arith) (omega arith) (omega arith) in
       widened f free near (by_address (behind d bytes)) (omega arith) (omega arith) (omega arith) (omega arith) made
-
-  compared_words : (w : Operand → Operand → _) → ((o p : Operand) → sizes.condition_words f (w o p) ≡ operand_words f o + operand_words f p + 2) → (o p : Operand) → sizes.condition_words f (w o p) ≤ operand_words f o + operand_words f p + 2
-  compared_words w e o p = let h = e o p in omega arith
 
   value_in : (op : BinaryOperation) (a b : CoreExprTree) (d e : ExprCode) → sizes.operation_words op ≤ counts.operation_words op → Good a d → Good b e → Good (core.binary op a b) (of_binary_value op d e)
   value_in op a b d e less h k =

@@ -12,7 +12,7 @@ use Rattle.qs_calls.specs.declared.callee.Callee.TheVariants.{Function, PutChar,
 use Rattle.qs_calls.specs.declared.parameter.Parameter.{Parameter}
 use Rattle.qs_calls.specs.declared.parameter.Parameter.TheVariants.{Plain, Placed}
 use Rattle.qs_tac.specs.Trees as tac
-use Rattle.qs_tac.specs.Trees.{InstructionTree, move, unary, binary, convert, address_of, load, copy, fill, call, jump, branch, return, TacFunctionTree, TacUnitTree}
+use Rattle.qs_tac.specs.Trees.{InstructionTree, move, unary, binary, convert, address_of, load, copy, fill, call, jump, branch, return, TacUnitTree}
 use Rattle.qs_tac.specs.Holders.{Holder}
 use Rattle.qs_tac.specs.Values.{Activation, operand, operands, holds}
 use Rattle.qs_tac.specs.Steps.{Waiting, Next, going_to, onward, written, gives, leaves_memory, take_result, resume, enters, ends, waits, step}

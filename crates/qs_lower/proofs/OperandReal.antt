@@ -1,14 +1,14 @@
 -- The code of operations on one and on two operands.
 use Rattle.std.proofs.Common.{◌≡◌, ℕ, ◌+◌, ◌*◌, ◌≤◌, Bool, true, false, not, if◌then◌else◌, List, Option, Some, None, refl, sym, ap, ◌∙◌, subst, arith}
 use Rattle.qs_memory.specs.Partial.{◌>>=◌}
-use Rattle.qs_memory.specs.Values.{Pointer, Value, integer, address, as_integer, as_pointer}
+use Rattle.qs_memory.specs.Values.{Value, integer, address, as_pointer}
 use Rattle.qs_memory.specs.Memory.{Memory}
 use Rattle.std.specs.Prelude.{◌&&◌, ◌^◌, pos, ◌-ℤ◌, ◌*ℤ◌}
 use Rattle.std.proofs.Math.IntN.{pos-*ℤ-pos}
 use Rattle.qs_memory.specs.declared.operation.Signedness.TheVariants.{Signed, Unsigned}
 use Rattle.qs_memory.specs.Pointers as pointers
 use Rattle.qs_memory.specs.Partial.{only_if}
-use Rattle.qs_memory.specs.Pointers.{member_of, truth, in_one_block, equal, compares_pointers}
+use Rattle.qs_memory.specs.Pointers.{member_of, truth, compares_pointers}
 use Rattle.qs_memory.specs.Integers.{reading, compares}
 use Rattle.qs_memory.specs.declared.operation.Signedness.{Signedness}
 use Rattle.qs_memory.specs.Operations.{apply_unary, apply_binary, of_truth, on_integers, on_pointers}
@@ -28,9 +28,8 @@ use Rattle.qs_memory.specs.declared.operation.UnaryOperation.{UnaryOperation}
 use Rattle.qs_memory.specs.declared.operation.UnaryOperation.TheVariants as unaries
 use Rattle.qs_tac.specs.Trees.{InstructionTree, move, unary, binary}
 use Rattle.qs_tac.specs.Holders.{temporaries}
-use Rattle.qs_tac.specs.Values.{operand, pointer, member_at, indexed, holds}
+use Rattle.qs_tac.specs.Values.{operand, holds}
 use Rattle.qs_tac.specs.Steps.{gives, step}
-use Rattle.qs_tac.specs.declared.operands.Index.{Index}
 use Rattle.qs_tac.specs.Fits.{is_word}
 use Rattle.qs_tac.specs.declared.operands.Operand.{Operand}
 use Rattle.qs_tac.specs.declared.operands.Operand.TheVariants.{Temporary, Integer, Byte, Constant, Null, Local, Data}
@@ -38,13 +37,13 @@ use Rattle.qs_tac.specs.declared.operands.Condition.{Condition}
 use Rattle.qs_tac.specs.declared.operands.Condition.TheVariants.{Compare, ComparePointers}
 use Rattle.qs_lower.specs.Exits.{Exit}
 use Rattle.qs_lower.specs.Operands.{converted, unary_of, gives_integer, gives_truth, is_idle, is_upward, constant_step, folded, swaps}
-use Rattle.qs_lower.specs.Expressions.{converting, converting_instruction, IndexCode, ExprCode, simple_size, size_of, simple_code, code_of, simple_operand, operand_of, own, based, known_size, known_code, tested, no_code, by_operand, by_value, index_at, address_at, of_load, further, behind_parts, behind, indexed_by, by_address, used_by, of_unary_value, with_test, of_plus, of_compound, simple_or, of_unary, of_conversion, unindexed, pair_size, pair_code, pair_used, binary_instruction, of_binary_value, with_condition, of_element, of_operation, number_of, by_test, both_size, of_both_tests, either_size, of_either_test, of_choice, of_and, of_or, of_conditional, stepped_or, of_binary, lowered}
+use Rattle.qs_lower.specs.Expressions.{converting, converting_instruction, IndexCode, ExprCode, size_of, code_of, operand_of, own, based, behind, indexed_by, by_address, used_by, of_unary_value, with_test, of_plus, of_compound, simple_or, of_unary, of_conversion, unindexed, pair_size, pair_code, pair_used, binary_instruction, of_binary_value, with_condition, of_element, of_operation, stepped_or, of_binary}
 use Rattle.qs_lower.specs.Expressions as lower
 use Rattle.qs_lower.proofs.SizeLaws.{behind_sized, both, one_more, branch_length, pair_length, based_sized, unindexed_sized, indexed_sized, code_length, TestSized, with_test_sized}
 use Rattle.qs_lower.proofs.OperandLaws.{and_left, folded_right, swapped, converted_right, unary_right, gives_truth_is, truth_again, idle_stays, plus_stays}
 use Rattle.qs_lower.proofs.AddressLaws.{bind_some, bind_bind}
-use Rattle.qs_lower.proofs.Real.{Model, Act, Stack, HasAt, has_left, has_right, Kept, kept_all, kept_then, Real, moment, IsCode, Agree, free, IntoReal, SimpleReal, OperandReal, BaseReal, Goes, by_answer, TestReal, KnownReal}
-use Rattle.qs_lower.proofs.ValueReal.{none_bind, no_pointer, negated}
+use Rattle.qs_lower.proofs.Real.{Model, Act, Stack, HasAt, has_left, has_right, Kept, kept_all, kept_then, Real, moment, IsCode, Agree, free, SimpleReal, BaseReal, Goes, by_answer, TestReal}
+use Rattle.qs_lower.proofs.ValueReal.{none_bind, negated}
 use Rattle.qs_lower.proofs.ValueReal as value_real
 use Rattle.qs_lower.proofs.AddressReal as address_real
 
@@ -67,14 +66,8 @@ module _ (u : Model) (f : CoreFunctionTree) (code : List InstructionTree) (funct
   abbrev pub Ends : (d : ℕ) → Exit → (end first : ℕ) → Environment → World → RootRun → Type 0
   Ends d x end first e w r = Goes u f code function stack (λ c p. Makes c p first e w r) d x end
 
-  abbrev pub Into : CoreExprTree → ExprCode → Type 0
-  Into s c = IntoReal u f code function stack s c
-
   abbrev pub Simple : CoreExprTree → ExprCode → Type 0
   Simple s c = SimpleReal u f code function stack s c
-
-  abbrev pub AsOperand : CoreExprTree → ExprCode → Type 0
-  AsOperand s c = OperandReal u f code function stack s c
 
   abbrev pub AsBase : CoreExprTree → ExprCode → Type 0
   AsBase s c = BaseReal u f code function stack s c
@@ -82,24 +75,8 @@ module _ (u : Model) (f : CoreFunctionTree) (code : List InstructionTree) (funct
   abbrev pub AsTest : CoreExprTree → ExprCode → Type 0
   AsTest s c = TestReal u f code function stack s c
 
-  abbrev pub AsKnown : CoreExprTree → ExprCode → Type 0
-  AsKnown s c = KnownReal u f code function stack s c
-
   abbrev pub Correct : CoreExprTree → ExprCode → Type 0
   Correct s c = value_real.Correct u f code function stack is_code s c
-
-  abbrev pub Pointed : ExprCode → (t i : ℕ) → Locals → Environment → Memory → Option Pointer
-  Pointed p t i l e m = pointer temporaries (address_at p t) (at_moment i l.first_block e) m
-
-  abbrev pub IsBehind : (s behind_it : CoreExprTree) → (bytes : ℕ) → Type 0
-  IsBehind s r bytes =
-      (at : ℕ) (l : Locals) (e : Environment) (m : Memory) → Agrees l e
-      → (value r l m >>= as_pointer) ≡ ((value s l m >>= as_pointer) >>= λ q. member_of m q bytes)
-
-  abbrev pub parts : Operand → Option ℕ → Option Index → (i : ℕ) → Locals → Environment → Memory → Option Pointer
-  parts o off ix i l e m =
-      operand temporaries o (at_moment i l.first_block e)
-      >>= λ v. as_pointer v >>= λ q. member_at m off q >>= λ r. indexed temporaries ix r (at_moment i l.first_block e) m
 
   -- ---- expressions of the same value
 

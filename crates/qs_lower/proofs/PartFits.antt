@@ -100,12 +100,6 @@ module _ (u : TacUnitTree) (f : TacFunctionTree) where
   follows_second false true x end h = tt
   follows_second false false x end h = h
 
-  reaches_at : (b : Bool) (x : Exit) (m n : ℕ) → m ≡ n → Reaches b x m → Reaches b x n
-  reaches_at b x m n e h = subst (λ (k : ℕ). Reaches b x k) e h
-
-  follows_at : (b : Bool) (x : Exit) (m n : ℕ) → m ≡ n → Follows b x m → Follows b x n
-  follows_at b x m n e h = subst (λ (k : ℕ). Follows b x k) e h
-
   pub reaches_settled : (b : Bool) (x : Exit) (m n : ℕ) → Reaches b x m → Reaches b (settled x) n
   reaches_settled true x m n h = settled_lands u f x m n h
   reaches_settled false x m n h = tt

@@ -360,10 +360,6 @@ module _ (u : Model) where
   pub instruction_is : (a : Act) (o : Option InstructionTree) → slice_get (tac_code_of u.unit a.function) a.at ≡ o → IsPlain o → instruction_at moves a ≡ o
   instruction_is a o is plain = instruction_by u.unit u.tally a o is plain
 
-  -- a return goes on with the run that k says
-  abbrev pub Resumes : (d : ℕ) → Stack → Return → Type 0
-  Resumes d stack k = (result : Option Value) (w : World) → Comes d (λ j. resume temporaries (steps temporaries moves j) stack result w) (k result w)
-
   abbrev pub CallsReal : (depth : ℕ) → CallsOf → Type 0
   CallsReal depth c = CallsMade u.unit depth c
 

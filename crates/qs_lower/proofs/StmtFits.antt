@@ -463,10 +463,6 @@ module _ (c : CoreUnitTree) (g : CoreFunctionTree) (u : TacUnitTree) (f : TacFun
 
 -- ---- no break stands outside every loop
 
-if_false : (b : Bool) {x y : Bool} → x ≡ false → y ≡ false → (if b then x else y) ≡ false
-if_false true h k = h
-if_false false h k = k
-
 branch_breaks : (known : Option Bool) (t : ℕ) (e : ExprCode) (a b : StmtCode) → a.breaks ≡ false → b.breaks ≡ false → (of_branch known t e a b).breaks ≡ false
 branch_breaks None t e a b h k = neither h k
 branch_breaks (Some true) t e a b h k = h

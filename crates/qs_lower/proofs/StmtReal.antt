@@ -10,7 +10,6 @@ use Rattle.qs_calls.specs.Relations.{Relation, Keeps}
 use Rattle.qs_core.specs.Trees.{CoreExprTree, CoreFunctionTree}
 use Rattle.qs_core.specs.Expressions.{Locals, value}
 use Rattle.qs_core.specs.Statements.{Continuation, Continuations, Context, repeated, after_step, after_body}
-use Rattle.qs_core.proofs.RelationLaws as laws
 use Rattle.qs_tac.specs.Trees.{InstructionTree}
 use Rattle.qs_lower.specs.Expressions.{ExprCode}
 use Rattle.qs_lower.specs.Statements.{Part, Way, to_next, to_break, to_continue, Tested, StmtCode, straight, leaves, is_break, by_way, tested_behind, of_joined, of_before, of_ways, of_both, test_of, is_next, of_test, of_branch, body_alone, body_first, test_last, loop_part, of_loop}
@@ -72,12 +71,6 @@ module _ (u : Model) (f : CoreFunctionTree) (code : List InstructionTree) (funct
     pub on_break : breaks ≡ true → Alike k.on_break j.on_break
     pub on_continue : Alike k.on_continue j.on_continue
     pub on_return : (result : Option Value) (w : World) → k.on_return result w ≡ j.on_return result w
-
-  abbrev pub AllAlike : Continuations → Continuations → Type 0
-  AllAlike k j = laws.AllRelated Equal k j
-
-  same_all : (e b : Bool) (k j : Continuations) → AllAlike k j → SameBut e b k j
-  same_all e b k j h = record { next = λ no. h.next; on_break = λ so. h.on_break; on_continue = h.on_continue; on_return = h.on_return }
 
   nothing_next : (b : Bool) (k : Continuations) (n : Continuation) → SameBut true b k (with_next k n)
   nothing_next b k n = record { next = λ no. absurd (cc); on_break = λ so l w. refl; on_continue = λ l w. refl; on_return = λ result w. refl }

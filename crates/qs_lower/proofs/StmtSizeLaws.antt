@@ -3,7 +3,7 @@ use Rattle.std.proofs.Common.{◌≡◌, ℕ, ◌+◌, Bool, true, false, List, 
 use Rattle.std.specs.Prelude.{◌&&◌, if◌then◌else◌}
 use Rattle.qs_memory.specs.declared.scalar.Scalar.{Scalar}
 use Rattle.qs_core.specs.Trees as core
-use Rattle.qs_core.specs.Trees.{CoreExprTree, CoreStmtTree, CoreStmts, no_stmts, stmt_and}
+use Rattle.qs_core.specs.Trees.{CoreStmtTree, CoreStmts, no_stmts, stmt_and}
 use Rattle.qs_tac.specs.Trees.{InstructionTree, jump}
 use Rattle.qs_lower.specs.Expressions.{ExprCode, size_of, lowered}
 use Rattle.qs_lower.specs.Statements.{Exits, falls_of, next_falls, none_falls, body_falls, Way, to_next, to_break, to_continue, Part, Tested, StmtCode, going, joined, redirected, straight, target_of, of_store, of_copy, tested_behind, of_joined, of_before, of_ways, branch_part, test_of, is_next, of_branch, test_last, body_first, body_alone, plain_loop, loop_part, stmt_code, stmts_code}

@@ -36,9 +36,6 @@ jumps_small (falls p) y = omega arith
 jumps_small (goes p) (falls q) = omega arith
 jumps_small (goes p) (goes q) = omega arith
 
-falls_first : (p : ℕ) (y : Exit) → jumps (falls p) y ≡ 0
-falls_first p y = refl
-
 falls_second : (x : Exit) (q : ℕ) → jumps x (falls q) ≡ 0
 falls_second (falls p) q = refl
 falls_second (goes p) q = refl
@@ -118,11 +115,6 @@ module _ (c : CoreUnitTree) (g : CoreFunctionTree) (v : ℕ) (f : TacFunctionTre
   }
 
   -- ---- ways, straight code
-
-  way_words : (w : Way) → WayWords 1 (Some w)
-  way_words to_next = tt
-  way_words to_break = omega arith
-  way_words to_continue = omega arith
 
   next_words : StmtWords 0 (by_way to_next)
   next_words = record { part = λ x at. let e = exit_words x.next in omega arith; way = tt; tested = tt }

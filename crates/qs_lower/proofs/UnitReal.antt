@@ -4,7 +4,7 @@ use Rattle.std.specs.List.{slice_get}
 use Rattle.qs_memory.specs.Values.{Value}
 use Rattle.qs_calls.specs.World.{World, Return, no_values}
 use Rattle.qs_core.specs.Trees as core
-use Rattle.qs_core.specs.Trees.{CoreExprTree, CoreStmtTree, CoreStmts, no_stmts, stmt_and, CoreFunctionTree, CoreUnitTree}
+use Rattle.qs_core.specs.Trees.{CoreExprTree, CoreStmtTree, CoreStmts, no_stmts, stmt_and, CoreFunctionTree}
 use Rattle.qs_core.specs.declared.numbers.Target.{Target}
 use Rattle.qs_core.specs.Expressions.{Locals, value}
 use Rattle.qs_core.specs.Statements.{Continuation, Continuations, Context, runs, runs_all}
@@ -15,7 +15,7 @@ use Rattle.qs_tac.specs.Holders.{temporaries}
 use Rattle.qs_tac.specs.Steps.{ends, step, steps}
 use Rattle.qs_lower.specs.Exits.{falls, goes}
 use Rattle.qs_lower.specs.Expressions.{lowered}
-use Rattle.qs_lower.specs.Statements.{Exits, Part, StmtCode, next_falls, target_of, taken_by, to_next, to_break, to_continue, by_way, of_both, stmt_code, stmts_code}
+use Rattle.qs_lower.specs.Statements.{Exits, StmtCode, next_falls, to_next, to_break, to_continue, stmt_code, stmts_code}
 use Rattle.qs_lower.specs.Statements as lower
 use Rattle.qs_lower.specs.Units.{free_from, body_code, end_code, function_code}
 use Rattle.qs_lower.proofs.StmtSizeLaws.{StmtSized, stmt_sized, stmts_sized}

@@ -73,15 +73,13 @@ fn element(
 fn with_offset(index: Option<Index>, n: u32) -> Option<Index>
     ensures { result ≡ with_offset_at index n }
 {
-    match index {
-        None => None,
-        Some(index) => Some(Index {
-            count: index.count,
-            signedness: index.signedness,
-            element: index.element,
-            offset: Some(n),
-        }),
-    }
+    let index = index?;
+    Some(Index {
+        count: index.count,
+        signedness: index.signedness,
+        element: index.element,
+        offset: Some(n),
+    })
 }
 
 /// The element of the address, where there is one.

@@ -127,46 +127,31 @@ pub fn truth_operand(b: bool) -> Operand
 fn on_constant(n: Option<u32>) -> Option<Operand>
     ensures { result ≡ spec.constant_of n }
 {
-    match n {
-        None => None,
-        Some(n) => Some(Operand::Constant(n)),
-    }
+    Some(Operand::Constant(n?))
 }
 
 fn minus(o: Operand) -> Option<Operand>
     ensures { result ≡ spec.on_constant integers.minus o }
 {
-    match constant(o) {
-        None => None,
-        Some(n) => Some(Operand::Constant(sub32(0, n))),
-    }
+    Some(Operand::Constant(sub32(0, constant(o)?)))
 }
 
 fn complement(o: Operand) -> Option<Operand>
     ensures { result ≡ spec.on_constant integers.complement o }
 {
-    match constant(o) {
-        None => None,
-        Some(n) => Some(Operand::Constant(n ^ u32::MAX)),
-    }
+    Some(Operand::Constant(constant(o)? ^ u32::MAX))
 }
 
 fn opposite_truth(o: Operand) -> Option<Operand>
     ensures { result ≡ spec.unary_of UnaryOperation.Not o }
 {
-    match truth_of(o) {
-        None => None,
-        Some(b) => Some(truth_operand(!b)),
-    }
+    Some(truth_operand(!truth_of(o)?))
 }
 
 fn known_truth(o: Operand) -> Option<Operand>
     ensures { result ≡ spec.unary_of UnaryOperation.Truth o }
 {
-    match truth_of(o) {
-        None => None,
-        Some(b) => Some(truth_operand(b)),
-    }
+    Some(truth_operand(truth_of(o)?))
 }
 
 /// The result of the operation, where it is an operand (C11 6.5.3.3).
@@ -298,39 +283,23 @@ fn binary_of(op: BinaryOperation, m: u32, n: u32) -> Option<Operand>
 pub fn folded(op: BinaryOperation, a: Option<Operand>, b: Option<Operand>) -> Option<Operand>
     ensures { result ≡ spec.folded op a b }
 {
-    let Some(o) = a else {
-        return None;
-    };
-    let Some(p) = b else {
-        return None;
-    };
-    let Some(m) = constant(o) else {
-        return None;
-    };
-    let Some(n) = constant(p) else {
-        return None;
-    };
-    binary_of(op, m, n)
+    let o = a?;
+    let p = b?;
+    binary_of(op, constant(o)?, constant(p)?)
 }
 
 /// The result of the operation on an operand, where there is one and it is an operand.
 pub fn unary_of_option(op: UnaryOperation, o: Option<Operand>) -> Option<Operand>
     ensures { result ≡ spec.unary_of_option op o }
 {
-    match o {
-        None => None,
-        Some(o) => unary_of(op, o),
-    }
+    unary_of(op, o?)
 }
 
 /// An operand as a value of the type, where there is one and that takes no instruction.
 pub fn converted_option(s: Scalar, o: Option<Operand>) -> Option<Operand>
     ensures { result ≡ spec.converted_option s o }
 {
-    match o {
-        None => None,
-        Some(o) => converted(s, o),
-    }
+    converted(s, o?)
 }
 
 /// The start of the block.
@@ -367,13 +336,7 @@ fn bytes_of(s: Signedness, n: u32, element: u32) -> Option<u32>
 fn upward_step(s: Signedness, element: u32, right: Option<Operand>) -> Option<u32>
     ensures { result ≡ spec.upward_step s element right }
 {
-    let Some(o) = right else {
-        return None;
-    };
-    let Some(n) = constant(o) else {
-        return None;
-    };
-    bytes_of(s, n, element)
+    bytes_of(s, constant(right?)?, element)
 }
 
 /// The bytes by which the operation moves its left operand up, where these are a constant.

@@ -45,10 +45,7 @@ fn leads_of(alloc: Global, code: &[Instruction]) -> Result<Vec<Option<u32>>, NoM
 fn lead_in(leads: &[Option<u32>], index: u32) -> Option<u32>
     ensures { result ≡ lead_in (slice_get leads.now index) }
 {
-    match leads.get(index as usize) {
-        None => None,
-        Some(lead) => *lead,
-    }
+    *leads.get(index as usize)?
 }
 
 // Where jumps to the index lead in the end, unless they lead round in a circle.

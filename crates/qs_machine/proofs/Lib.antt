@@ -4,6 +4,5 @@ pub mod Doing
 pub mod Starts
 pub mod Growth
 pub mod Runs
-pub mod FromStart
 pub mod Puts
 mod RunExamples

@@ -24,11 +24,6 @@ inside start bytes otherwise address low high =
     let f : nat_le (address + 1) (start + length bytes) ≡ true = le-leb (address + 1) (start + length bytes) high in
     rw (e, f) refl
 
-pub below : (start : ℕ) (bytes : List ℕ) (otherwise : ℕ → ℕ) (address : ℕ) → address < start → byte_in start bytes otherwise address ≡ otherwise address
-below start bytes otherwise address low =
-    let e : nat_le start address ≡ false = grind (arith, nat_tests) in
-    rw e refl
-
 pub behind : (start : ℕ) (bytes : List ℕ) (otherwise : ℕ → ℕ) (address : ℕ) → start + length bytes ≤ address → byte_in start bytes otherwise address ≡ otherwise address
 behind start bytes otherwise address high =
     let e : nat_le start address ≡ true = le-leb start address (omega arith) in
@@ -44,11 +39,6 @@ bytes_from-inside start bytes otherwise (suc width) address low high =
     let rest = bytes_from-inside start bytes otherwise width (address + 1) (omega arith) (omega arith) in
     let next : address + 1 - start ≡ suc (address - start) = omega arith in
     rw (inside start bytes otherwise address low (omega arith), rest, next, drop-cons bytes (address - start) 0 lt) refl
-
-pub bytes_from-below : (start : ℕ) (bytes : List ℕ) (otherwise : ℕ → ℕ) (width address : ℕ) → address + width ≤ start → bytes_from (byte_in start bytes otherwise) address width ≡ bytes_from otherwise address width
-bytes_from-below start bytes otherwise zero address low = refl
-bytes_from-below start bytes otherwise (suc width) address low =
-    rw (below start bytes otherwise address (omega arith), bytes_from-below start bytes otherwise width (address + 1) (omega arith)) refl
 
 pub bytes_from-behind : (start : ℕ) (bytes : List ℕ) (otherwise : ℕ → ℕ) (width address : ℕ) → start + length bytes ≤ address → bytes_from (byte_in start bytes otherwise) address width ≡ bytes_from otherwise address width
 bytes_from-behind start bytes otherwise zero address high = refl

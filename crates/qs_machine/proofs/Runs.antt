@@ -10,12 +10,14 @@ use Rattle.qs_ports.specs.SinkView.{SinkView, Appends, IsCut, PutsAll}
 use Rattle.qs_ports.proofs.Sinks.{appends_more, cut_later, cut_sooner}
 use Rattle.qs_machine.specs.declared.answers.Cause.{Cause}
 use Rattle.qs_machine.specs.declared.answers.End.TheVariants as end
+use Rattle.qs_machine.specs.declared.answers.RunEnd.{RunEnd}
+use Rattle.qs_machine.specs.declared.answers.RunEnd.TheVariants as run_end
 use Rattle.qs_machine.specs.declared.machine.Machine.{Machine}
 use Rattle.qs_machine.specs.State.{State}
 use Rattle.qs_machine.specs.Step.{StepResult, Next, Exits, Traps, step}
-use Rattle.qs_machine.specs.Run.{Outcome, Exited, Trapped, Going, run, outcome_after, output_so_far}
+use Rattle.qs_machine.specs.Run.{Outcome, Exited, Trapped, Going, machine, run, start, outcome_after, output_so_far}
 use Rattle.qs_machine.specs.Standing.{GoesOn, end_of, ended}
-use Rattle.qs_machine.specs.Running.{Reached, HasExited, HasTrapped, IsGoing, IsCutOff}
+use Rattle.qs_machine.specs.Running.{Reached, HasExited, HasTrapped, IsGoing, IsCutOff, RunsTo, Shows}
 use Rattle.qs_machine.proofs.Growth.{IsFront, grows-run}
 
 -- runs, by their first step
@@ -133,3 +135,10 @@ put_failed m n image size input s taken steps u v w byte (Err fault) h lt g e p 
 pub put_whole : (v w : SinkView) (text : List ℕ) (r : Result Unit SinkFault) → is_err r ≡ false → PutsAll v w text r → Appends v w text
 put_whole v w text (Ok t) e p = p
 put_whole v w text (Err fault) e p = absurd cc
+
+-- the outcome of a machine that was just loaded is that of the definition
+pub shows_machine : (n : Machine) (image : Image) (size : ℕ) (args input : List ℕ) (steps : ℕ) (v w : SinkView) (r : RunEnd) → RunsTo n image size input (start image args input) steps v w r → Shows (machine image size args input steps) v w r
+shows_machine n image size args input steps v w (run_end.Exited status) h = rw h.run_is (refl, h.appended)
+shows_machine n image size args input steps v w (run_end.Trapped cause pc) h = rw h.run_is (refl, h.appended)
+shows_machine n image size args input steps v w run_end.StepLimit h = rw h.run_is (refl, h.appended)
+shows_machine n image size args input steps v w run_end.SinkFailed h = (h.k, rw h.puts h.cut)

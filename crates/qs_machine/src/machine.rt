@@ -1,5 +1,6 @@
 // The machine, and what each kind of instruction does to it.
-ghost use Rattle.std.specs.Prelude.{◌≤◌, ◌^◌, length};
+ghost use Rattle.std.specs.Prelude.{◌≤◌, length};
+ghost use Rattle.qs_image.specs.Limits.{most_code_words};
 
 use crate::answers::{Cause, End, StepResult};
 use crate::memory::{Memory, load_width, store_width};
@@ -18,7 +19,7 @@ pub struct Machine {
     pub(crate) pc: u32,
     pub(crate) taken: usize,
     pub(crate) ended: Option<End>,
-    ghost code_fits: { length instructions.items ≤ 2 ^ 18 },
+    ghost code_fits: { length instructions.items ≤ most_code_words },
 }
 
 impl Machine {

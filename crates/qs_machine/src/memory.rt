@@ -1,6 +1,7 @@
 // The memory: the bytes of the code, the data and the stack.
-ghost use Rattle.std.specs.Prelude.{◌≡◌, ◌≤◌, ◌^◌, option_copied, length, IsTrue, false};
+ghost use Rattle.std.specs.Prelude.{◌≡◌, ◌*◌, ◌≤◌, option_copied, length, IsTrue, false};
 ghost use Rattle.qs_base.specs.Words.{sign_extend};
+ghost use Rattle.qs_image.specs.Limits.{most_code_words, most_data_bytes};
 ghost use Rattle.qs_machine.specs.Bytes.{loaded_from};
 ghost use Rattle.qs_machine.specs.State.{stack_base, stack_limit};
 ghost use Rattle.qs_machine.specs.Step.{load_width, store_width};
@@ -15,8 +16,8 @@ pub struct Memory {
     pub code: Vec<u8>,
     pub data: Vec<u8>,
     pub stack: Vec<u8>,
-    ghost code_fits: { length code.items ≤ 2 ^ 20 },
-    ghost data_fits: { length data.items ≤ 2 ^ 24 },
+    ghost code_fits: { length code.items ≤ 4 * most_code_words },
+    ghost data_fits: { length data.items ≤ most_data_bytes },
     ghost stack_fits: { length stack.items ≤ stack_limit },
 }
 

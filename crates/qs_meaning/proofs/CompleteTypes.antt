@@ -62,9 +62,6 @@ size_known structs t e = go (extent_of structs t) e
 
 -- ---- sums and differences (6.5.6)
 
-true_not_false : {A : Type 0} (b : Bool) → b ≡ true → b ≡ false → A
-true_not_false b e f = never (sym f ∙ e)
-
 -- which operand is a pointer, and that its elements have a size
 data Summands (structs : Structs) (t u : TypeTree) : Type 0 where
   neither : is_pointer t ≡ false → is_pointer u ≡ false → Summands structs t u

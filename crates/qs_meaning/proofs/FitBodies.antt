@@ -20,7 +20,7 @@ use Rattle.qs_types.specs.UnitRules.{with_parameter, parameter_types, with_param
 use Rattle.qs_types.specs.Placed.{Local, is_one_of, is_placed, parameters_locals, statements_locals, addressed_in}
 use Rattle.qs_types.specs.References.{TextBlock}
 use Rattle.qs_types.specs.Sites.{statements_sites}
-use Rattle.qs_meaning.specs.Typed.{Expr, pointer_to, Lvalue, variable, object, local}
+use Rattle.qs_meaning.specs.Typed.{pointer_to, variable, object, local}
 use Rattle.qs_meaning.specs.Typed as typed_trees
 use Rattle.qs_meaning.specs.Conversions.{scalar_of}
 use Rattle.qs_meaning.specs.Names.{Locals, Scope, place_among, local_lvalue}

@@ -2,7 +2,7 @@
 use Rattle.std.proofs.Common.{◌≡◌, ◌≤◌, ◌<◌, ℕ, zero, suc, ◌+◌, ◌-◌, ◌*◌, nat_lt, Bool, true, false, ◌&&◌, ◌||◌, List, [], ◌∷◌, ◌++◌, length, Option, Some, None, is_some, refl, sym, ap, ◌∙◌, subst, arith, if◌then◌else◌}
 use Rattle.std.specs.List.{slice_get}
 use Rattle.std.proofs.lemmas.Bool.Decides.{nat_tests}
-use Rattle.qs_syntax.specs.Trees.{ExprTree, InitialiserTree, Initialisers, no_initialisers, initialiser_and, VariableTree, DeclTree, structure, forward, function, variables, UnitTree}
+use Rattle.qs_syntax.specs.Trees.{ExprTree, InitialiserTree, Initialisers, no_initialisers, initialiser_and}
 use Rattle.qs_syntax.specs.Trees as trees
 use Rattle.qs_memory.specs.Memory.{Cell, BlankTree, zeros, joined, blank_cells}
 use Rattle.qs_memory.proofs.Options.{followed}
@@ -21,7 +21,7 @@ use Rattle.qs_meaning.specs.Names.{Scope}
 use Rattle.qs_meaning.specs.Blanks.{Blanks, blank_by, members_blank, blanks_within}
 use Rattle.qs_meaning.specs.Initialisers.{part_offset, Piece, pieces, pieces_from}
 use Rattle.qs_meaning.specs.InitialValues.{pointer_constant, text_cells, piece_cells, written_over, pieces_over}
-use Rattle.qs_meaning.proofs.Options.{never, left, right, same, went, Known, known}
+use Rattle.qs_meaning.proofs.Options.{never, left, right, same, went}
 use Rattle.qs_meaning.proofs.Options as options
 use Rattle.qs_meaning.proofs.CompleteTypes.{fits_takes}
 use Rattle.qs_meaning.proofs.Faultless.{HasTypes, none_left, none_right, unbroken, type_of_known}

@@ -33,7 +33,7 @@ use Rattle.qs_types.specs.Conversions.{promoted, arithmetic, common}
 use Rattle.qs_types.specs.Rules.{breaks_one, type_unless, test, keeps}
 use Rattle.qs_types.specs.declared.rules.Rule.TheVariants as rules
 use Rattle.qs_types.specs.Contexts.{Entity, local_variable, file_variable, function, given, Context, entity_of, named_type, is_void_base}
-use Rattle.qs_types.specs.Expressions.{is_lvalue, is_null_constant, is_assignable, both_integers, is_object_pointer, may_add, may_cast, may_choose, alike_pointers, sum_type, Judged, judged, unary_judged, step_judged, cast_judged, type_or_void, binary_judged, conditional_judged, assign_judged, may_assign, may_combine, may_move, subscript_judged, member_type, member_judged, name_judged, call_judged, type_of, shape_judged, types_of}
+use Rattle.qs_types.specs.Expressions.{is_lvalue, is_null_constant, is_assignable, both_integers, is_object_pointer, may_add, may_cast, may_choose, Judged, judged, unary_judged, step_judged, type_or_void, binary_judged, assign_judged, may_combine, may_move, subscript_judged, member_type, member_judged, name_judged, call_judged, type_of, shape_judged, types_of}
 use Rattle.qs_types.specs.Expressions as expressions
 use Rattle.qs_types.specs.References.{TextBlock}
 use Rattle.qs_meaning.specs.Typed.{Expr, member, stepped_after, unary, Lvalue, object, Arguments, update, Function}
@@ -43,7 +43,7 @@ use Rattle.qs_meaning.specs.Forms.{Form, lvalue, call, TypedExpr, lvalue_of, add
 use Rattle.qs_meaning.specs.Names.{Scope, entity_lvalue, Designator, entity_designated, text_object}
 use Rattle.qs_meaning.specs.Expressions.{operated, operator_value, arguments_of, member_offset, member_form, set_form, struct_form, plain_form, compound_form, assign_form, one, step_after_form, step_form, unary_form, size_form, cast_form, beside_zero, operator_form, binary_form, subscript_form, conditional_form, typed, form_of, all_typed}
 use Rattle.qs_meaning.specs.Fits as fitting
-use Rattle.qs_meaning.specs.Fits.{type_after, conversion_fits, takes_operand, is_null, takes_operands, takes_in_order, amount_type, expr_fits, lvalue_fits, arguments_fit, effect_fits, object_there, largest_size, is_element}
+use Rattle.qs_meaning.specs.Fits.{type_after, conversion_fits, takes_operand, is_null, takes_operands, takes_in_order, amount_type, expr_fits, lvalue_fits, arguments_fit, object_there, largest_size}
 use Rattle.qs_meaning.proofs.Options.{never, left, right, either, nothing, same, went}
 use Rattle.qs_meaning.proofs.TypedExpressions.{kept, unbroken_left, unbroken_right, not_true, unless}
 use Rattle.qs_meaning.proofs.FitConversions.{both, same_self, same_as, Integer, an_int, an_unsigned, a_char, Pointing, a_pointer, integer, pointing, scalar_kind, may_convert, conversion_type, plain, combined_fits, Shifts, shifted_fits, Alike, compared_fits, shared, Elements, added, ResultFits, summed_fits, subtracts, subtracted_fits, UpdateFits, combined_update, shifted_update, summed_update, subtracted_update, summed_amount, subtracted_amount, conversion_taken}

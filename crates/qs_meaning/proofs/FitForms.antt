@@ -1,6 +1,6 @@
 -- Forms whose values, and whose effects, fit.
 use Rattle.std.proofs.Common.{◌≡◌, ◌⊎◌, inl, inr, Bool, true, false, ◌&&◌, ◌||◌, Option, Some, is_some, refl, sym, ap, ◌∙◌, subst}
-use Rattle.qs_syntax.specs.Trees.{ExprTree, expr, ShapeTree}
+use Rattle.qs_syntax.specs.Trees.{ExprTree, expr}
 use Rattle.qs_syntax.specs.Trees as trees
 use Rattle.qs_memory.specs.declared.scalar.Scalar.{Scalar}
 use Rattle.qs_memory.specs.declared.scalar.Scalar.TheVariants as scalars

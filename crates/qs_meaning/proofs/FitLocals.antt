@@ -60,12 +60,6 @@ sub_map f done = done
 sub_map f (skip y h) = skip (f y) (sub_map f h)
 sub_map f (keep x h) = keep (f x) (sub_map f h)
 
-pub sub_next : {A : Type 0} {xs ys zs : List A} → Sub xs ys → Sub ys zs → Sub xs zs
-sub_next h done = h
-sub_next h (skip z k) = skip z (sub_next h k)
-sub_next (skip y h) (keep x k) = skip x (sub_next h k)
-sub_next (keep y h) (keep x k) = keep y (sub_next h k)
-
 pub sub_filter : {A : Type 0} (p : A → Bool) (xs : List A) → Sub (filter p xs) xs
 sub_filter p [] = done
 sub_filter p (x ∷ xs) = go (p x) (sub_filter p xs)

@@ -14,7 +14,7 @@ use Rattle.qs_types.specs.GivenFunctions.{Signature}
 use Rattle.qs_types.specs.Rules.{Fault, test, breaks_one, faults_of}
 use Rattle.qs_types.specs.declared.rules.Rule.TheVariants as rules
 use Rattle.qs_types.specs.Layout.{and_then, layout_of, member_types, sized_layout, with_members}
-use Rattle.qs_types.specs.Contexts.{Entity, local_variable, file_variable, given, Binding, Context, lookup, inner_scope, tag_place, is_declared_here}
+use Rattle.qs_types.specs.Contexts.{Entity, local_variable, file_variable, given, Binding, Context, lookup, tag_place, is_declared_here}
 use Rattle.qs_types.specs.Contexts as contexts
 use Rattle.qs_types.specs.Declarations.{all_typed, lengths_faults, variable_declared}
 use Rattle.qs_types.specs.InitialiserRules.{initialiser_tests}

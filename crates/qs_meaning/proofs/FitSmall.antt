@@ -10,7 +10,7 @@ use Rattle.qs_syntax.specs.declared.operators.AssignmentOperator.{AssignmentOper
 use Rattle.qs_syntax.specs.declared.operators.AssignmentOperator.TheVariants as assigns
 use Rattle.qs_syntax.specs.declared.operators.Access.{Access}
 use Rattle.qs_syntax.specs.declared.operators.Access.TheVariants as accesses
-use Rattle.qs_syntax.specs.Trees.{ExprTree, expr, ShapeTree, Exprs, no_exprs, expr_and}
+use Rattle.qs_syntax.specs.Trees.{ExprTree, expr, ShapeTree, Exprs}
 use Rattle.qs_syntax.specs.Trees as trees
 use Rattle.qs_calls.specs.Starts.{Interface}
 use Rattle.qs_types.specs.declared.extent.Extent.{Extent}

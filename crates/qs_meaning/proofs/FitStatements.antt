@@ -16,7 +16,7 @@ use Rattle.qs_types.specs.ExpressionFaults.{whole}
 use Rattle.qs_types.specs.Declarations.{lengths_faults, variable_declared}
 use Rattle.qs_types.specs.InitialiserRules.{element_fits, is_typed, initialiser_tests, initialiser_faults}
 use Rattle.qs_types.specs.InitialiserRules as initialising
-use Rattle.qs_types.specs.StatementRules.{after_variable, after_variables, again_tests, variable_tests, variable_faults, option_initialiser_faults, variables_faults, condition_tests, condition_faults, option_condition_tests, option_typed, option_used, option_discarded, return_tests, returns, after_start, start_faults, after_statement, for_context, loop_tests, for_tests, for_faults, statement_faults, statements_faults, else_faults}
+use Rattle.qs_types.specs.StatementRules.{after_variable, after_variables, again_tests, variable_tests, variable_faults, option_initialiser_faults, variables_faults, condition_tests, condition_faults, option_condition_tests, option_typed, return_tests, returns, after_start, start_faults, after_statement, for_context, loop_tests, for_tests, for_faults, statement_faults, statements_faults, else_faults}
 use Rattle.qs_types.specs.StatementRules as rule_starts
 use Rattle.qs_types.specs.Placed.{Local, variables_locals, start_locals, statement_locals, statements_locals, else_locals}
 use Rattle.qs_types.specs.References.{TextBlock}

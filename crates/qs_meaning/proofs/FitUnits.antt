@@ -17,7 +17,7 @@ use Rattle.qs_calls.specs.Starts.{Interface, signature_of}
 use Rattle.qs_types.specs.Types.{TypeTree, Structs}
 use Rattle.qs_types.specs.Layout.{and_then}
 use Rattle.qs_types.specs.GivenFunctions.{Signature, putchar_name, putchar_type, getchar_name, getchar_type}
-use Rattle.qs_types.specs.Contexts.{Entity, local_variable, file_variable, given, Binding, Context, start_context, lookup, inner_scope, entity_of, starred_type}
+use Rattle.qs_types.specs.Contexts.{Entity, local_variable, file_variable, given, Binding, Context, start_context, lookup, inner_scope, starred_type}
 use Rattle.qs_types.specs.Contexts as contexts
 use Rattle.qs_types.specs.Declarations.{variable_declared}
 use Rattle.qs_types.specs.Expressions.{type_or_void}

@@ -10,7 +10,7 @@ use Rattle.qs_types.specs.declared.rules.Rule.TheVariants as rules
 use Rattle.qs_types.specs.Rules.{Test, test, breaks_one, faults_of}
 use Rattle.qs_types.specs.Contexts.{Context}
 use Rattle.qs_types.specs.Expressions.{type_of}
-use Rattle.qs_types.specs.Declarations.{declared_by, undeclared, all_typed, lengths_faults, is_array_parameter, lengths_of, object_type, first_in, behind_first, first_length, element_lengths, is_length_typed, is_length, array_parameter, held_parameter, plain_parameter, parameter_declared}
+use Rattle.qs_types.specs.Declarations.{undeclared, all_typed, lengths_faults, is_array_parameter, lengths_of, object_type, first_in, behind_first, first_length, element_lengths, is_length_typed, is_length, array_parameter, held_parameter, plain_parameter, parameter_declared}
 use Rattle.qs_types.specs.Placed.{Local, is_one_of, is_no_scalar, is_placed, addressed, parameters_locals}
 use Rattle.qs_types.specs.Sites.{Site}
 use Rattle.qs_types.specs.UnitRules.{with_parameter, after_parameter, parameter_types, with_parameters, signature_tests, parameter_tests, parameters_faults, is_name_declared}
@@ -179,9 +179,6 @@ scalar_complete structs (pointer t) e = refl
 scalar_complete structs (array t n) e = never e
 scalar_complete structs (struct k) e = never e
 
-declared_by_known : (ts : List Test) (t : TypeTree) → breaks_one ts ≡ false → Known (declared_by ts t).type
-declared_by_known ts t e = record { value = t; is = type_known ts t e }
-
 -- where all lengths have types, those of the elements and the first one do
 elements_typed : (c : Context) (l : LengthsTree) → all_typed c l.given ≡ true → all_typed c (element_lengths l) ≡ true
 elements_typed c l e = go l.is_open l.given e
@@ -233,9 +230,6 @@ tests_in true ts e h = h
 tests_in false ts e h = never e
 
 module _ (s₀ : Scope) (declared_nodes : List ℕ) where
-  abbrev placed : List ℕ
-  placed = s₀.locals.placed
-
   pub with_parameter_sound : (c : Context) → Sound (within s₀ c) declared_nodes → (p : ParameterTree) (o : Option TypeTree) → is_scalar_type o ≡ true
       → is_one_of p.node.id declared_nodes ≡ true
       → (x : Option (List ℕ)) → Sound (within s₀ (with_parameter c p o x)) declared_nodes

@@ -1,7 +1,7 @@
 -- Where an initialiser of a local breaks no rule, it has a typed tree.
 use Rattle.std.proofs.Common.{◌≡◌, ◌≤◌, ℕ, suc, ◌+◌, Bool, true, false, ◌&&◌, ◌||◌, List, [], ◌∷◌, ◌++◌, Option, Some, None, is_some, refl, sym, ap, subst, arith, if◌then◌else◌}
 use Rattle.std.specs.List.{list_all}
-use Rattle.qs_syntax.specs.Trees.{ExprTree, expr, ShapeTree, InitialiserTree, Initialisers, no_initialisers, initialiser_and}
+use Rattle.qs_syntax.specs.Trees.{ExprTree, expr, InitialiserTree, Initialisers, no_initialisers, initialiser_and}
 use Rattle.qs_syntax.specs.Trees as trees
 use Rattle.qs_types.specs.Types.{TypeTree, int, unsigned, char, void, pointer, array, struct, is_array, is_struct, is_scalar, same_type, Structs}
 use Rattle.qs_types.specs.Layout.{is_complete}

@@ -42,17 +42,11 @@ scope = record {
 abbrev pub u : ExprTree
 u = expr (unnumbered 0) (trees.name (117 ∷ []))
 
-abbrev pub t : ExprTree
-t = expr (unnumbered 0) (trees.name (116 ∷ []))
-
 abbrev pub x : ExprTree
 x = expr (unnumbered 0) (trees.name (120 ∷ []))
 
 abbrev pub v : ExprTree
 v = expr (unnumbered 0) (trees.name (118 ∷ []))
-
-abbrev pub g : ExprTree
-g = expr (unnumbered 0) (trees.name (103 ∷ []))
 
 abbrev pub h : ExprTree
 h = expr (unnumbered 0) (trees.name (104 ∷ []))

@@ -59,9 +59,6 @@ pub known : {A : Type 0} (o : Option A) → is_some o ≡ true → Known o
 known None e = never e
 known (Some x) e = record { value = x; is = refl }
 
-pub is_known : {A : Type 0} (o : Option A) (x : A) → o ≡ Some x → is_some o ≡ true
-is_known o x e = ap is_some e
-
 -- what goes on from something known is known where that is
 abbrev pub onward : {A B : Type 0} (o : Option A) (go : A → Option B) → (k : Known o) → Known (go k.value) → Known (o >>= go)
 onward o go k h = record { value = h.value; is = goes o k.value go _ k.is h.is }

@@ -9,7 +9,7 @@ use Rattle.qs_syntax.specs.declared.operators.BinaryOperator.TheVariants as bina
 use Rattle.qs_syntax.specs.declared.operators.AssignmentOperator.{AssignmentOperator}
 use Rattle.qs_syntax.specs.declared.operators.AssignmentOperator.TheVariants as assigns
 use Rattle.qs_syntax.specs.declared.operators.Access.TheVariants as accesses
-use Rattle.qs_syntax.specs.Trees.{unnumbered, ExprTree, expr, ShapeTree, exprs_of, LengthsTree, DeclaratorTree, InitialiserTree, initialisers_of, ParameterTree, StmtTree, stmts_of, no_else, else_by, no_start, DeclTree, structure, function, variables, UnitTree}
+use Rattle.qs_syntax.specs.Trees.{unnumbered, ExprTree, expr, ShapeTree, exprs_of, LengthsTree, DeclaratorTree, InitialiserTree, initialisers_of, ParameterTree, StmtTree, stmts_of, no_else, DeclTree, structure, function, variables}
 use Rattle.qs_syntax.specs.Trees as trees
 
 -- ---- expressions

@@ -177,14 +177,6 @@ part_behind us xs ys at h = record {
   offset = width_append us h.before ∙ ap (λ z. width us + z) h.offset;
 }
 
-pub part_before : (xs vs ys : List Slot) (at : ℕ) → Part xs at ys → Part (xs ++ vs) at ys
-part_before xs vs ys at h = record {
-  before = h.before;
-  behind = h.behind ++ vs;
-  is = ap (λ z. z ++ vs) h.is ∙ (append_assoc h.before (ys ++ h.behind) vs ∙ ap (λ z. h.before ++ z) (append_assoc ys h.behind vs));
-  offset = h.offset;
-}
-
 -- one of several copies
 pub part_copy : (n i : ℕ) (ss : List Slot) → i < n → Part (copies n ss) (width ss * i) ss
 part_copy zero i ss h = absurd (omega arith)

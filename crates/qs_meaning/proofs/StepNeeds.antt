@@ -47,9 +47,6 @@ word_is_integer : (s : Signedness) → is_pointer (integer_type s) ≡ false
 word_is_integer Signed = refl
 word_is_integer Unsigned = refl
 
-is_address_at : (n : ℕ) → has_type scalars.Pointer (integer n) ≡ true → false ≡ true
-is_address_at n h = h
-
 -- an operand whose type is that of integers is an integer, one of a pointer's type is a pointer
 no_address : (m : Memory) (s t : Scalar) (p : Pointer) → is_pointer t ≡ false → same_scalar s t ≡ true → has_type s (address p) ≡ true → false ≡ true
 no_address m s t p e fit h = is_integer_at m t p e (subst (λ (z : Scalar). has_type z (address p) ≡ true) (scalar_same s t fit) h)
@@ -64,10 +61,6 @@ converts_integer scalars.Char n e = refl
 converts_integer scalars.Int n e = refl
 converts_integer scalars.Unsigned n e = refl
 converts_integer scalars.Pointer n e = cc
-
-not_pointer : (b : Bool) → not b ≡ true → b ≡ false
-not_pointer true e = cc
-not_pointer false e = refl
 
 neither : (a b : Bool) → (not a && (not b || false)) ≡ true → (a ≡ false) × (b ≡ false)
 neither true b e = cc

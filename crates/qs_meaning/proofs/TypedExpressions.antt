@@ -24,7 +24,7 @@ use Rattle.qs_types.specs.declared.rules.Rule.TheVariants as rules
 use Rattle.qs_types.specs.Contexts.{Entity, local_variable, file_variable, function, given, entity_of, named_type, is_void_base}
 use Rattle.qs_types.specs.Expressions.{is_lvalue, is_lvalue_shape, is_assignable, both_integers, is_object_pointer, may_add, Judged, judged, unary_judged, step_judged, cast_judged, type_or_void, binary_judged, conditional_judged, assign_judged, may_assign, may_combine, sum_type, subscript_judged, member_type, member_judged, name_judged, call_judged, type_of, shape_judged, types_of}
 use Rattle.qs_types.specs.Placed.{is_one_of, local_node, named_local, operand_of, addressed, shape_addressed, all_addressed}
-use Rattle.qs_meaning.specs.Typed.{Expr, pointer_to, Lvalue, variable, object, Object, local, static, Arguments, no_arguments}
+use Rattle.qs_meaning.specs.Typed.{Expr, pointer_to, Lvalue, variable, object, local, no_arguments}
 use Rattle.qs_meaning.specs.Typed as typed_trees
 use Rattle.qs_meaning.specs.Operations.{Operated, operation_of}
 use Rattle.qs_meaning.specs.Forms.{Form, lvalue, TypedExpr, lvalue_of, address_in, address_of, type_in_use, value_in_use}

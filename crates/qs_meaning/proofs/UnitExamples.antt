@@ -3,7 +3,7 @@ use Rattle.std.proofs.Common.{◌≡◌, ℕ, false, [], ◌∷◌, List, Option
 use Rattle.qs_syntax.specs.declared.types.Base.{Base}
 use Rattle.qs_syntax.specs.declared.types.Base.TheVariants as bases
 use Rattle.qs_syntax.specs.declared.operators.BinaryOperator.TheVariants as binaries
-use Rattle.qs_syntax.specs.Trees.{unnumbered, start_expression, start_declaration, else_by, no_else, stmts_of, UnitTree, DeclTree}
+use Rattle.qs_syntax.specs.Trees.{unnumbered, start_expression, start_declaration, else_by, UnitTree}
 use Rattle.qs_syntax.specs.Trees as trees
 use Rattle.qs_memory.specs.declared.scalar.Scalar.TheVariants.{Char, Int}
 use Rattle.qs_memory.specs.declared.operation.Signedness.TheVariants.{Signed}

@@ -3,7 +3,7 @@
 use Rattle.std.specs.Prelude.{ℕ, ◌+◌, true, false, List, [], ◌∷◌, ◌++◌, Option, Some, None, length, map, take, drop, if◌then◌else◌}
 use Rattle.qs_syntax.specs.declared.operators.UnaryOperator.{UnaryOperator}
 use Rattle.qs_syntax.specs.declared.operators.UnaryOperator.TheVariants as unaries
-use Rattle.qs_syntax.specs.Trees.{ExprTree, expr, ShapeTree, InitialiserTree}
+use Rattle.qs_syntax.specs.Trees.{ExprTree, expr, InitialiserTree}
 use Rattle.qs_syntax.specs.Trees as trees
 use Rattle.qs_memory.specs.declared.scalar.Scalar.TheVariants as scalars
 use Rattle.qs_memory.specs.Partial.{◌>>=◌}

@@ -155,10 +155,6 @@ pub length-bytes_of : (size n : ℕ) → length (bytes_of size n) ≡ size
 length-bytes_of zero n = refl
 length-bytes_of (suc size) n = ap suc (length-bytes_of size (n / 256))
 
-pub length-parts_of : (p : Pointer) (first size : ℕ) → length (parts_of p first size) ≡ size
-length-parts_of p first zero = refl
-length-parts_of p first (suc size) = ap suc (length-parts_of p (first + 1) size)
-
 bytes_back : (size n : ℕ) → n < 256 ^ size → number_of (bytes_of size n) ≡ Some n
 bytes_back zero n h = ap Some (omega arith)
 bytes_back (suc size) n h =

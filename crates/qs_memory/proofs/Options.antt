@@ -27,10 +27,6 @@ pub only_if-then : {A B : Type 0} → (test : Bool) (x : A) (next : A → Option
 only_if-then true x next = refl
 only_if-then false x next = refl
 
-pub only_if-or_none : {A B : Type 0} → (test : Bool) (o : Option A) (next : A → Option B) → (only_if test o >>= next) ≡ only_if test (o >>= next)
-only_if-or_none true o next = refl
-only_if-or_none false o next = refl
-
 -- ---- answers that are defined
 
 pub record Answer {A : Type 0} (o : Option A) : Type 0 where

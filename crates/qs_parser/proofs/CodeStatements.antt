@@ -2,7 +2,6 @@
 use Rattle.std.proofs.Common.{◌≡◌, ℕ, zero, suc, ◌+◌, ◌-◌, ◌<◌, ◌≤◌, cond, List, [], ◌∷◌, ◌++◌, Result, Ok, Err, Option, refl, ap, ◌∙◌, arith, Some, None, Box, Global, sym}
 use Rattle.std.specs.Prelude.{max}
 use Rattle.qs_syntax.specs.declared.terminal.Terminal.{Terminal}
-use Rattle.qs_base.specs.declared.keyword.Keyword.TheVariants as keywords
 use Rattle.qs_syntax.specs.declared.punctuator.Punctuator.TheVariants as punctuators
 use Rattle.qs_syntax.specs.Trees.{unnumbered, ExprTree, StartTree, StmtTree, for_loop, DeclTree, branch, no_else, else_by}
 use Rattle.qs_grammar.specs.Heads.{starts}

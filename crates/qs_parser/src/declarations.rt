@@ -1,6 +1,6 @@
 // Declarations (C11 6.7). In all functions at most `context.room` levels are left for the parts of
 // a node, and each answers what is read, how high its highest node is, and what stands behind it.
-ghost use Rattle.std.specs.Prelude.{◌≡◌, ◌+◌, ◌≤◌, [], IfOk};
+ghost use Rattle.std.specs.Prelude.{◌≡◌, ◌+◌, ◌≤◌, IfOk};
 ghost use Rattle.qs_syntax.specs.Trees as trees;
 ghost use Rattle.qs_syntax.specs.Trees.{list, unnumbered};
 ghost use Rattle.qs_syntax.specs.TreeOf.{expr_tree, lengths_tree, declarator_tree};

@@ -2,7 +2,7 @@
 // what is read, and each answers the expression, how high its reading is, and what stands behind
 // it. An operand that was read before comes with its height, and `start` is the place of its first
 // token.
-ghost use Rattle.std.specs.Prelude.{◌≡◌, ◌+◌, ◌≤◌, [], ◌∷◌, Ok, IfOk};
+ghost use Rattle.std.specs.Prelude.{◌≡◌, ◌+◌, ◌≤◌, ◌∷◌, Ok, IfOk};
 ghost use Rattle.qs_syntax.specs.declared.terminal.Terminal.TheVariants as terminals;
 ghost use Rattle.qs_syntax.specs.TreeOf.{expr_tree};
 ghost use Rattle.qs_grammar.specs.Parse.{expect, texts_from, arguments, call_of, after_name};

@@ -1,6 +1,5 @@
 // What tokens begin with.
-ghost use Rattle.std.specs.Prelude.{◌≡◌, ◌+◌, ◌||◌, Ok, is_some, IfSome};
-ghost use Rattle.qs_syntax.specs.declared.punctuator.Punctuator.TheVariants as punctuators;
+ghost use Rattle.std.specs.Prelude.{◌≡◌, Ok, is_some, IfSome};
 ghost use Rattle.qs_syntax.specs.Reads.{place};
 ghost use Rattle.qs_syntax.specs.Operators.{access_of, assign_of, binary_of};
 ghost use Rattle.qs_grammar.specs.Heads.{is_punctuator, is_keyword, starts, starts_with};

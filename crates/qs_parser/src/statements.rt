@@ -1,9 +1,7 @@
 // Statements (C11 6.8). In all functions at most `context.room` levels are left for the parts of a
 // node, and each answers what is read, how high it is, and what stands behind it. `at` is the place
 // of a first token.
-ghost use Rattle.std.specs.Prelude.{◌≡◌, ◌+◌, ◌≤◌, ◌||◌, [], ◌∷◌, IfOk};
-ghost use Rattle.qs_base.specs.declared.keyword.Keyword.TheVariants as keywords;
-ghost use Rattle.qs_grammar.specs.Heads.{is_keyword};
+ghost use Rattle.std.specs.Prelude.{◌≡◌, ◌+◌, ◌≤◌, ◌∷◌, IfOk};
 ghost use Rattle.qs_syntax.specs.TreeOf.{expr_tree, option_tree, start_tree, stmt_tree};
 ghost use Rattle.qs_grammar.specs.ParseStatements.{optional, condition, start_of, begins_statement};
 ghost use Rattle.qs_grammar.specs.ParseStatements.{item, items, in_block, otherwise, after_if};

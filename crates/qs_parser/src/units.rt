@@ -1,6 +1,7 @@
 // What stands at file scope (C11 6.9). What is read is at most `context.room + 2` high.
-ghost use Rattle.std.specs.Prelude.{◌≡◌, ◌+◌, ◌<◌, ◌≤◌, [], IfOk};
+ghost use Rattle.std.specs.Prelude.{◌≡◌, ◌+◌, ◌-◌, ◌<◌, ◌≤◌, [], IfOk};
 ghost use Rattle.qs_syntax.specs.TreeOf.{decl_tree};
+ghost use Rattle.qs_syntax.specs.Units.{height_limit};
 ghost use Rattle.qs_grammar.specs.ParseStatements.{is_named, struct_of, forward_of, function_of};
 ghost use Rattle.qs_grammar.specs.ParseStatements.{typed, external, is_empty, externals, unit};
 ghost use Rattle.qs_parser.specs.View.{Gives, Reads, ReadsAll, body_tree, function_with, unit_of};
@@ -225,8 +226,8 @@ fn externals(context: Context, tokens: &[Terminal]) -> Result<(Vec<Decl>, u32, &
 /// it is.
 #[tactic(auto, unfolding(qs_grammar::specs::ParseStatements::unit))]
 pub fn read_unit(alloc: Global, tokens: &[Terminal]) -> Result<(Vec<Decl>, u32), Halt>
-    ensures gives { Gives unit_of result (unit 126 tokens.now) }
-    ensures low { IfOk result (λ x. x.1 ≤ 128) }
+    ensures gives { Gives unit_of result (unit (height_limit - 2) tokens.now) }
+    ensures low { IfOk result (λ x. x.1 ≤ height_limit) }
 {
     let context = Context { alloc, room: ROOM };
     let (found, height, _rest) = externals(context, tokens)?;

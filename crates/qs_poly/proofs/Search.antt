@@ -49,13 +49,6 @@ reached c m (x ∷ xs) (suc i) d o lt e k =
 pub searched_behind : (c : ℤ) (m : Monomial) (xs : List Term) (i : ℕ) (d : Term) → IsCanonical (sum_of xs) → i < length xs → d ≡ get_or xs i d → monomial_cmp m d.monomial ≡ Greater → insert_term c m (sum_of xs) ≡ terms_before (take (i + 1) xs) (insert_term c m (sum_of (drop (i + 1) xs)))
 searched_behind c m xs i d o lt e h = reached c m xs i d o lt e (λ x k. beyond m d.monomial x h k) ∙ term_passed c m xs i d lt h e
 
--- the term is behind the monomial
-pub searched_before : (c : ℤ) (m : Monomial) (xs : List Term) (i : ℕ) (d : Term) → i < length xs → d ≡ get_or xs i d → monomial_cmp m d.monomial ≡ Less → insert_term c m (sum_of (drop i xs)) ≡ plus_unless_zero c m (sum_of (drop i xs))
-searched_before c m [] i d lt e h = absurd (omega arith)
-searched_before c m (x ∷ xs) zero d lt e h =
-    ap (λ o. by_order o (plus_unless_zero c m (sum_of (x ∷ xs))) (plus_unless_zero (c +ℤ x.coefficient) x.monomial (sum_of xs)) (plus x.coefficient x.monomial (insert_term c m (sum_of xs)))) (ap (λ (t : Term). monomial_cmp m t.monomial) (sym e) ∙ h)
-searched_before c m (x ∷ xs) (suc i) d lt e h = searched_before c m xs i d (omega arith) e h
-
 same_here : (c : ℤ) (m : Monomial) (xs : List Term) (i : ℕ) (d : Term) → i < length xs → d ≡ get_or xs i d → monomial_cmp m d.monomial ≡ Equal → insert_term c m (sum_of (drop i xs)) ≡ join_first c (drop i xs)
 same_here c m [] i d lt e h = absurd (omega arith)
 same_here c m (x ∷ xs) zero d lt e h =
@@ -66,11 +59,6 @@ same_here c m (x ∷ xs) (suc i) d lt e h = same_here c m xs i d (omega arith) e
 pub searched_same : (c : ℤ) (m : Monomial) (xs : List Term) (i : ℕ) (d : Term) → IsCanonical (sum_of xs) → i < length xs → d ≡ get_or xs i d → monomial_cmp m d.monomial ≡ Equal → insert_term c m (sum_of xs) ≡ terms_before (take i xs) (join_first c (drop i xs))
 searched_same c m xs i d o lt e h =
     reached c m xs i d o lt e (λ x k. alike m d.monomial x h k) ∙ ap (λ p. terms_before (take i xs) p) (same_here c m xs i d lt e h)
-
--- the place that is left
-pub searched : (c : ℤ) (m : Monomial) (xs : List Term) (i j : ℕ) → i ≡ j → insert_term c m (sum_of xs) ≡ terms_before (take i xs) (insert_term c m (sum_of (drop i xs))) → insert_term c m (sum_of (drop j xs)) ≡ plus_unless_zero c m (sum_of (drop j xs)) → insert_term c m (sum_of xs) ≡ terms_before (take i xs) (plus_unless_zero c m (sum_of (drop i xs)))
-searched c m xs i j e front back =
-    front ∙ ap (λ p. terms_before (take i xs) p) (subst (λ (k : ℕ). insert_term c m (sum_of (drop k xs)) ≡ plus_unless_zero c m (sum_of (drop k xs))) (sym e) back)
 
 pub middle_below : (low high : ℕ) → low < high → low + (high - low) / 2 < high
 middle_below low high h = omega arith

@@ -1,5 +1,5 @@
 // Sums, multiples and products of lists of terms, before any limit is asked.
-ghost use Rattle.std.specs.Prelude.{◌≡◌, ◌≤◌, ◌^◌, ℤ, pos, ◌-ℤ◌, length, IfOk, OnOk, unsigned_abs};
+ghost use Rattle.std.specs.Prelude.{◌≡◌, ◌≤◌, ◌^◌, pos, ◌-ℤ◌, length, IfOk, OnOk, unsigned_abs};
 ghost use Rattle.qs_poly.specs.Canonical.{IsCanonical, IsCanonicalMonomial};
 ghost use Rattle.qs_poly.specs.Adding.{terms_less, AddsTerms, AddsProduct};
 ghost use Rattle.qs_poly.specs.Operations.{multiple, product};

@@ -3,4 +3,3 @@ pub mod Wholes
 pub mod Shelves
 pub mod Shelving
 pub mod MemoryStores
-pub mod Systems

@@ -121,16 +121,6 @@ reads_bytes v w old new most n some e f g =
 pub reads_all : (v w : StoreView) (old new : List ℕ) (n : ℕ) → n ≡ min (length old) (length (left_of v)) → FillsBuffer v old new n → w ≡ after_read v (Ok n) → Reads v w old new (Ok n)
 reads_all v w old new n e f g = reads_bytes v w old new (length old + 1) n (omega arith) (omega arith) f g
 
-pub reads_refused : (v w : StoreView) (old new : List ℕ) → v.faults < 2 ^ 64 → w ≡ after_read v (Err Failed) → Reads v w old new (Err Failed)
-reads_refused v w old new b e =
-    let P : StoreView → Type 0 = λ x. Reads v x old new (Err Failed) in
-    subst P (sym e) (record {
-      keeps = keeps_all v (after_read v (Err Failed)) refl refl refl;
-      writing = refl;
-      reading = refl;
-      answers = record { failed = record { rose = omega arith; faults = omega arith; misses = omega arith }; place = λ t. refl };
-    })
-
 -- `create`
 
 pub creates_file : (v w : StoreView) (name n : List ℕ) → Created v w n → n ≡ name → Creates v w name (Ok tt)
@@ -169,18 +159,6 @@ writes_file v w piece part n e l p (a, k, x) =
         tells = λ t h. let q = a.tells t (omega arith) in (q.0, omega arith);
       };
     }
-
-pub writes_refused : (v w : StoreView) (piece : List ℕ) → v.faults < 2 ^ 64 → w ≡ record v { faults = one_more v.faults } → Writes v w piece (Err Failed)
-writes_refused v w piece b e =
-    let P : StoreView → Type 0 = λ x. Writes v x piece (Err Failed) in
-    subst P (sym e) (record {
-      reading = record { reading = refl; place = refl };
-      writing = refl;
-      answers = record {
-        failed = record { rose = omega arith; faults = omega arith; misses = omega arith };
-        keeps = keeps_all v (record v { faults = one_more v.faults }) refl refl refl;
-      };
-    })
 
 -- a new store whose room was reserved
 pub reserved_new : (v w : StoreView) (files : Files) (room : ℕ) → IsNewStore v files 0 → w ≡ record v { spare = max v.spare room } → IsNewStore w files room

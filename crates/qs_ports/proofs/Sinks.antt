@@ -1,17 +1,14 @@
 -- One call of a sink after another.
-use Rattle.std.proofs.Common.{◌≡◌, ℕ, ◌+◌, ◌<◌, ◌≤◌, List, [], ◌++◌, length, take, drop, ap, subst, refl, arith, false, append_assoc, length-append, length-drop, Result, Ok, Err, sym, ◌∙◌}
+use Rattle.std.proofs.Common.{◌≡◌, ℕ, ◌+◌, ◌≤◌, List, [], ◌++◌, length, take, drop, ap, subst, refl, arith, false, append_assoc, length-append, length-drop, Result, Ok, Err, sym, ◌∙◌}
 use Rattle.std.proofs.lemmas.Grind.{common_steps}
 use Rattle.std.proofs.lemmas.List.{drop-take, take-append-drop, take-append-le}
 use Rattle.std.proofs.Math.Seq.{take-append-add}
 use Rattle.qs_ports.specs.declared.sink.SinkFault.{SinkFault}
-use Rattle.qs_ports.specs.SinkView.{SinkView, Appends, Refuses, IsCut, IsProgress, Puts, PutsAll}
+use Rattle.qs_ports.specs.SinkView.{SinkView, Appends, IsCut, IsProgress, Puts, PutsAll}
 
 -- of the first d + n elements
 pub take_plus : (d n : ℕ) (t : List ℕ) → take (d + n) t ≡ take d t ++ take n (drop d t)
 take_plus d n t = grind (arith, common_steps, drop-take d n t, take-append-drop d (take (d + n) t))
-
-pub length-take_le : (d : ℕ) (t : List ℕ) → d ≤ length t → length (take d t) ≡ d
-length-take_le d t h = grind (arith, common_steps)
 
 pub record GoesOn (u w : SinkView) (t : List ℕ) (d n : ℕ) : Type 0 where
   pub within : d + n ≤ length t
@@ -36,22 +33,6 @@ appends_more {u} {v} {w} {a} {b} f g = record {
       let p = f.keeps t k in
       let m : length b ≤ v.spare = omega arith in
       let q = g.keeps p.0 m in
-      (q.0, omega arith);
-}
-
-pub cut_after : {u v w : SinkView} {t : List ℕ} (d : ℕ) → d < length t → Appends u v (take d t) → Refuses v w → IsCut u w t d
-cut_after {u} {v} {w} {t} d lt f r = record {
-  failed = r.failed;
-  once = simp (f.same_faults) at r.once;
-  within = lt;
-  rose = simp (f.same_faults) at r.rose;
-  later = let e = f.same_faults in let x = r.later in omega arith;
-  was_told = λ x. f.was_told (r.was_told x);
-  written = λ x. rw (r.written x) (f.written (r.was_told x));
-  keeps = λ x h.
-      let e : length (take d t) ≡ d = length-take_le d t (omega arith) in
-      let p = f.keeps x (omega arith) in
-      let q = r.keeps p.0 (omega arith) in
       (q.0, omega arith);
 }
 

@@ -1,5 +1,5 @@
 // Files as a whole.
-ghost use Rattle.std.specs.Prelude.{◌<◌, ◌≤◌, ◌≡◌, ◌+◌, ◌++◌, ◌^◌, IsSome, OnOk};
+ghost use Rattle.std.specs.Prelude.{◌<◌, ◌≡◌, ◌+◌, ◌++◌, ◌^◌, IsSome, OnOk};
 ghost use Rattle.qs_ports.specs.Whole.{ReadsWhole, ReadsInto, TakesUpTo, WritesWhole};
 
 use crate::{Store, StoreFault};

@@ -14,10 +14,6 @@ use Rattle.qs_lexer.proofs.TokenEnds.{word_next}
 
 -- ---- tests
 
-pub left_false : (b c : Bool) → b ≡ false → (b && c) ≡ false
-left_false true c h = cc
-left_false false c h = refl
-
 pub both : (b c : Bool) → (b && c) ≡ true → (b ≡ true) × (c ≡ true)
 both true c h = (refl, h)
 both false c h = cc

@@ -1,6 +1,6 @@
 -- What combinations and their items mean.
 use Rattle.std.proofs.Common.{arith, ◌≡◌, ◌⊎◌, inl, inr, ℕ, List, [], ◌∷◌, ◌++◌, Result, Ok, Err, refl, sym, ap, ◌∙◌, subst, append_assoc, Vec, Global}
-use Rattle.std.proofs.lemmas.List.{append-nil, map-append}
+use Rattle.std.proofs.lemmas.List.{map-append}
 use Rattle.qs_base.specs.Results.{bind}
 use Rattle.qs_entail.specs.Certificates.{Item, once, twice}
 use Rattle.qs_entail.specs.View.{item_view, items_view}
@@ -15,7 +15,7 @@ use Rattle.qs_prooftext.specs.Firsts.{once_means, twice_means, ItemsLeft}
 use Rattle.qs_prooftext.specs.Kinds.{a_combination, a_natural, an_index, an_item}
 use Rattle.qs_prooftext.specs.Meanings.{Answer, means, all_mean}
 use Rattle.qs_prooftext.specs.Settings.{Setting}
-use Rattle.qs_prooftext.proofs.PartLaws.{first_stands, others_stand, no_split, no_first}
+use Rattle.qs_prooftext.proofs.PartLaws.{first_stands, others_stand, no_split}
 
 -- ---- items
 
@@ -90,13 +90,6 @@ items_fault_in g text rest first others items fault due (part_and s ss) h e p f 
 pub items_stop : (g : Setting) (text : List ℕ) (rest first others : List Node) (items : List Item) (fault : TextFault) (due : Answer (List Item)) → ItemsLeft g text rest items due → Splits rest first others → ((s : Sexp) → Stands text first s → (means g an_item s ≡ Err fault) ⊎ (fault ≡ NoMemory)) → (due ≡ Err fault) ⊎ (fault ≡ NoMemory)
 items_stop g text rest first others items fault due l p f =
     items_fault_in g text rest first others items fault due l.forest l.stand l.same p f
-
-items_end_in : (g : Setting) (text : List ℕ) (rest : List Node) (items : List Item) (due : Answer (List Item)) (forest : Sexps) → StandAll text rest forest → bind (all_mean g an_item forest) (λ vs. Ok (items ++ vs)) ≡ due → rest ≡ [] → due ≡ Ok items
-items_end_in g text rest items due no_parts h e n = sym e ∙ ap (λ (vs : List Item). Ok vs) (append-nil items)
-items_end_in g text rest items due (part_and s ss) h e n = no_first text rest s ss h n
-
-pub items_end : (g : Setting) (text : List ℕ) (rest : List Node) (items : List Item) (due : Answer (List Item)) → ItemsLeft g text rest items due → rest ≡ [] → due ≡ Ok items
-items_end g text rest items due l n = items_end_in g text rest items due l.forest l.stand l.same n
 
 pub combination_is : (g : Setting) (text : List ℕ) (s : Sexp) (at n : ℕ) (nodes : List Node) (p : IsList text s at n nodes) → means g a_combination s ≡ all_mean g an_item p.parts
 combination_is g text s at n nodes p = ap (means g a_combination) p.same ∙ bound-ok (all_mean g an_item p.parts)

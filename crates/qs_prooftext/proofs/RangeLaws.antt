@@ -1,21 +1,20 @@
 -- Lists of which there is a range.
-use Rattle.std.proofs.Common.{arith, ◌≡◌, ℕ, ◌==◌, true, false, List, Option, Some, None, Result, Ok, Err, refl, sym, ap, ◌∙◌, subst}
+use Rattle.std.proofs.Common.{◌≡◌, ℕ, List, Option, Some, None, Result, Ok, Err, refl, sym, ap, ◌∙◌, subst}
 use Rattle.qs_base.specs.Results.{bind}
 use Rattle.qs_memory.specs.Partial.{◌>>=◌}
 use Rattle.qs_assert.specs.declared.variable.Var.{Var}
 use Rattle.qs_entail.specs.Certificates.{FactTree, range}
 use Rattle.qs_entail.specs.View.{fact_tree}
 use Rattle.qs_entail.specs.declared.certificate.Fact.{Fact}
-use Rattle.qs_sexpr.specs.Trees.{Sexp, symbol, list, Sexps, no_parts, part_and, count}
+use Rattle.qs_sexpr.specs.Trees.{Sexp, symbol, list, Sexps}
 use Rattle.qs_sexpr.specs.declared.node.Node.{Node}
 use Rattle.qs_prooftext.specs.declared.fault.TextFault.{TextFault}
 use Rattle.qs_prooftext.specs.declared.fault.TextFault.TheVariants.{UnknownForm}
 use Rattle.qs_prooftext.specs.declared.ranges.RangeWord.{RangeWord}
 use Rattle.qs_prooftext.specs.declared.ranges.RangeWord.TheVariants as words
 use Rattle.qs_prooftext.specs.Answers.{Gives, HasNoHead, IsList, IsHeaded}
-use Rattle.qs_prooftext.specs.Firsts.{first_means}
 use Rattle.qs_prooftext.specs.Heads.{range_rows}
-use Rattle.qs_prooftext.specs.Kinds.{Kind, Of, Row, one, a_range}
+use Rattle.qs_prooftext.specs.Kinds.{Row, a_range}
 use Rattle.qs_prooftext.specs.Meanings.{Answer, means}
 use Rattle.qs_prooftext.specs.Ranges.{range_words, range_row, range_or, range_list}
 use Rattle.qs_prooftext.specs.Settings.{Setting, look_up}
@@ -25,17 +24,6 @@ use Rattle.qs_prooftext.proofs.RowLaws.{pick, last_result}
 pub one_bound : {A C : Type 0} (x : Answer A) (made : A → C) → bind (bind x (λ v. Ok (v, tt))) (λ (v : A × Unit {0}). Ok (made v.0)) ≡ bind x (λ v. Ok (made v))
 one_bound (Err f) made = refl
 one_bound (Ok v) made = refl
-
-one_list : (g : Setting) (at : ℕ) (k : Kind) (made : Of k → FactTree) (ss : Sexps) → count ss ≡ 1 → range_list g at (Some (one k made)) ss ≡ bind (first_means g k ss) (λ v. Ok (made v))
-one_list g at k made no_parts e = absurd (omega (arith, e))
-one_list g at k made (part_and p no_parts) e = one_bound (means g k p) made
-one_list g at k made (part_and p (part_and q ss)) e = absurd (omega (arith, e))
-
-not_one : (n m : ℕ) → n ≡ m → (n ≡ 1 → ⊥) → (m == 1) ≡ false
-not_one n m e h = grind (arith, e, h)
-
-is_none : (m : ℕ) → m ≡ 0 → (m == 0) ≡ true
-is_none m e = grind (arith, e)
 
 pub ranges_found : (g : Setting) (at : ℕ) (w : List ℕ) → look_up w (range_rows g at) ≡ (look_up w range_words >>= range_row g at)
 ranges_found g at w =

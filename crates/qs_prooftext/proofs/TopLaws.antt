@@ -184,8 +184,6 @@ define_done file proofs now at name word g ss body e h means same added kept =
       functions = map entry_tree (sym kept i).items;
     })))
 
--- ---- entries
-
 -- ---- the function of an entry
 
 got : {X : Type 0} (xs : List X) (k : ℕ) (r : Option (Bor X)) (x : Bor X) → ItemBy (λ (y : Bor X). y.now) xs k k r → r ≡ Some x → slice_get xs k ≡ Some x.now
@@ -281,15 +279,9 @@ only_found head text s at n nodes w others p h is two =
     let t = one_stands text others at h.parts h.stand (omega (arith, whole, c, two)) in
     (t.0, only_headed head text s at n nodes w others p h ∙ (ap (λ (b : Bool). if b then single at h.parts else Err (UnknownForm at)) is ∙ t.1), t.2)
 
-either : (b : Bool) (a : Answer Sexp) → (if b then a else a) ≡ a
-either true a = refl
-either false a = refl
-
 pub first_only_gives : (text head : List ℕ) (nodes first others : List Node) (ss : Sexps) (r : Result (Bor (List Node)) TextFault) → StandAll text nodes ss → Splits nodes first others → ((s : Sexp) → Stands text first s → GivesPart text (only_part head s) r) → GivesPart text (first_only head ss) r
 first_only_gives text head nodes first others no_parts r h p f = no_split text nodes first others h p
 first_only_gives text head nodes first others (part_and s ss) r h p f = f s (first_stands text nodes s ss first others h p)
-
--- ---- the symbol that is the first part
 
 -- ---- the lists of a file
 

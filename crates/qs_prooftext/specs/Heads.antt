@@ -4,7 +4,6 @@ use Rattle.qs_assert.specs.declared.variable.Var.{Var}
 use Rattle.qs_assert.specs.Trees.{terms_of, conds_of, assertions_of}
 use Rattle.qs_assert.specs.Trees as trees
 use Rattle.qs_entail.specs.Certificates as certificates
-use Rattle.qs_entail.specs.Certificates.{FactTree, CertTree}
 use Rattle.qs_entail.specs.View.{certs_of}
 use Rattle.qs_triples.specs.Derivations as derivations
 use Rattle.qs_triples.specs.TreeOf.{derivations_of}

@@ -10,6 +10,7 @@ use Rattle.qs_entail.specs.Certificates.{FactTree, CertTree, CertTrees, no_certs
 use Rattle.qs_core.specs.Fits.{differ}
 use Rattle.qs_callgraph.specs.Opens.{TellsOpen}
 use Rattle.qs_core.specs.Trees.{CoreFunctionTree, CoreUnitTree}
+use Rattle.qs_sexpr.specs.Reading.{depth_limit}
 use Rattle.qs_sexpr.specs.Writing.{AreWritable}
 use Rattle.qs_triples.specs.Derivations as derivations
 use Rattle.qs_triples.specs.Derivations.{DerivationTree, DerivationTrees, no_derivations, derivation_and, EntryTree, ProofsTree}
@@ -182,7 +183,7 @@ pub record IsOfUnit (u : CoreUnitTree) (proofs : ProofsTree) : Type 0 where
 pub record IsWritable (u : CoreUnitTree) (proofs : ProofsTree) : Type 0 where
   pub is_open : ℕ → Bool
   pub tells_open : TellsOpen u (has_entry proofs) is_open
-  pub forms : AreWritable 1024 (file_forms u proofs)
+  pub forms : AreWritable depth_limit (file_forms u proofs)
   pub defined_once : differ bytes_eq (defined_names proofs) ≡ true
   pub entered_once : differ ◌==◌ (map (λ (e : EntryTree). e.function) proofs.functions) ≡ true
   pub not_open : list_any (is_open_name u is_open) (defined_names proofs) ≡ false

@@ -1,6 +1,6 @@
 // Terms, conditions and assertions: one walk over their nodes, with a stack of what is still to be
 // read.
-ghost use Rattle.std.specs.Prelude.{◌≡◌, ◌++◌, ◌∷◌, [], ◌+◌, Option, reverse, option_map, OnOk};
+ghost use Rattle.std.specs.Prelude.{◌≡◌, ◌++◌, ◌+◌, reverse, option_map, OnOk};
 ghost use Rattle.std.specs.Option.{option_to_list};
 ghost use Rattle.qs_prooftext.specs.Answers.{Stands};
 ghost use Rattle.qs_prooftext.specs.Contexts.{setting_of};
@@ -9,7 +9,7 @@ ghost use Rattle.qs_prooftext.specs.Kinds.{a_condition, a_definition_body, a_ter
 ghost use Rattle.qs_prooftext.specs.Walking.{function_flat, name_flat, natural_flat, number_flat};
 ghost use Rattle.qs_prooftext.specs.Walking.{symbol_flat, variable_flat, Shortens, Steps};
 ghost use Rattle.qs_prooftext.specs.Walking.{GivesNodes, Opens, GivesNode, named_flat};
-ghost use Rattle.qs_sexpr.specs.Trees.{Sexp, number};
+ghost use Rattle.qs_sexpr.specs.Trees.{Sexp};
 ghost use Rattle.qs_prooftext.specs.Readers.{Reads};
 
 use crate::context::{Context, find_function, find_variable, is_defined};

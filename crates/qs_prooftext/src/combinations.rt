@@ -1,5 +1,4 @@
 // Combinations: lists of items.
-ghost use Rattle.std.specs.Prelude.{◌≡◌, ℕ};
 ghost use Rattle.qs_entail.specs.View.{item_view};
 ghost use Rattle.qs_prooftext.specs.Firsts.{once_means, twice_means, all_items, items_in};
 ghost use Rattle.qs_prooftext.specs.Kinds.{a_combination, a_natural, an_index, an_item};

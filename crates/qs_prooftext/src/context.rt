@@ -1,6 +1,5 @@
 // What the words of an entry or a definition mean.
-ghost use Rattle.std.specs.Prelude.{◌≡◌, map, bytes_eq, IfOk, OnOk};
-ghost use Rattle.std.specs.List.{list_any};
+ghost use Rattle.std.specs.Prelude.{◌≡◌, map, IfOk};
 ghost use Rattle.qs_prooftext.specs.Contexts.{function_rows, has_name_in, is_open_word, word_view};
 ghost use Rattle.qs_prooftext.specs.Contexts.{FindsFunction};
 ghost use Rattle.qs_prooftext.specs.Settings.{look_up};

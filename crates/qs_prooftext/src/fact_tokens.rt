@@ -1,5 +1,5 @@
 // Combinations and facts as tokens.
-ghost use Rattle.std.specs.Prelude.{◌≡◌, [], map};
+ghost use Rattle.std.specs.Prelude.{map};
 ghost use Rattle.qs_entail.specs.View.{item_view, items_view};
 ghost use Rattle.qs_sexpr.specs.Marks.{marks};
 ghost use Rattle.qs_prooftext.specs.Putting.{fact_begins, list_marks, words_in_table, apart_begins};

@@ -107,10 +107,7 @@ pub fn old_of(variable: Var) -> Option<Var>
 pub fn find_old(context: Context<'_>, word: &[u8]) -> Option<Var>
     ensures { result ≡ old_by_word (setting_of context.entry).variables word.now }
 {
-    match find_variable(context.words, word) {
-        Some(variable) => old_of(variable),
-        None => None,
-    }
+    old_of(find_variable(context.words, word)?)
 }
 
 /// A variable whose value at the entry is meant, in the list at this place.

@@ -1,6 +1,5 @@
 // The words of functions and variables.
 ghost use Rattle.std.specs.Prelude.{◌≡◌};
-ghost use Rattle.qs_assert.specs.Substitution.{same_variable};
 ghost use Rattle.qs_prooftext.specs.Putting.{words_in_table};
 ghost use Rattle.qs_prooftext.specs.Writing.{word_for};
 

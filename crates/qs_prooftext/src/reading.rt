@@ -5,9 +5,7 @@ ghost use Rattle.qs_core.specs.UnitTrees.{unit_tree};
 ghost use Rattle.qs_prooftext.specs.Reading as spec;
 ghost use Rattle.qs_prooftext.specs.Reading.{Reading, Refuses};
 ghost use Rattle.qs_prooftext.specs.Writable.{IsOfUnit, IsWritable};
-ghost use Rattle.qs_sexpr.specs.Reading as lists;
 ghost use Rattle.qs_sexpr.specs.Results.{IsRead};
-ghost use Rattle.qs_sexpr.specs.Trees.{Sexps, sexps_nodes};
 ghost use Rattle.qs_triples.specs.TreeOf.{proofs_tree};
 
 use crate::fault::TextFault;

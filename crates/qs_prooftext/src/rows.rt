@@ -1,5 +1,5 @@
 // The rows of lists in assertions.
-ghost use Rattle.std.specs.Prelude.{◌≡◌, Some, None};
+ghost use Rattle.std.specs.Prelude.{◌≡◌, None};
 ghost use Rattle.qs_prooftext.specs.AssertionRows as spec;
 ghost use Rattle.qs_prooftext.specs.Flattening as flattening;
 
@@ -48,10 +48,7 @@ fn bare(part: Sort) -> Option<Row>
 fn variable(result_variable: Option<Var>) -> Option<Row>
     ensures { result ≡ spec.variable_row result_variable }
 {
-    match result_variable {
-        Some(x) => term(TermNode::Variable(x), Parts::Zero),
-        None => None,
-    }
+    term(TermNode::Variable(result_variable?), Parts::Zero)
 }
 
 fn term_row(
@@ -143,37 +140,25 @@ fn row_of_term(
 ) -> Option<Row>
     ensures { result ≡ spec.found_row returned Sort.Term at count divisor word.now }
 {
-    match term_word(word) {
-        Some(head) => term_row(returned, at, count, divisor, head),
-        None => None,
-    }
+    term_row(returned, at, count, divisor, term_word(word)?)
 }
 
 fn row_of_condition(count: usize, word: &[u8]) -> Option<Row>
     ensures { result ≡ spec.found_row None Sort.Condition 0 count 0 word.now }
 {
-    match condition_word(word) {
-        Some(head) => condition_row(count, head),
-        None => None,
-    }
+    condition_row(count, condition_word(word)?)
 }
 
 fn row_of_assertion(at: u32, count: usize, word: &[u8]) -> Option<Row>
     ensures { result ≡ spec.found_row None Sort.Assertion at count 0 word.now }
 {
-    match assertion_word(word) {
-        Some(head) => assertion_row(at, count, head),
-        None => None,
-    }
+    assertion_row(at, count, assertion_word(word)?)
 }
 
 fn row_of_definition(at: u32, count: usize, word: &[u8]) -> Option<Row>
     ensures { result ≡ spec.found_row None Sort.Definition at count 0 word.now }
 {
-    match definition_word(word) {
-        Some(head) => definition_row(at, count, head),
-        None => None,
-    }
+    definition_row(at, count, definition_word(word)?)
 }
 
 fn found_row(
@@ -223,14 +208,10 @@ pub fn row_of_list(
 ) -> Option<Row>
     ensures { result ≡ spec.fitting (spec.found_row returned sort at count divisor word.now) count }
 {
-    match found_row(returned, sort, at, count, divisor, word) {
-        Some(row) => {
-            if fit(row.parts, count) {
-                Some(row)
-            } else {
-                None
-            }
-        }
-        None => None,
+    let row = found_row(returned, sort, at, count, divisor, word)?;
+    if fit(row.parts, count) {
+        Some(row)
+    } else {
+        None
     }
 }

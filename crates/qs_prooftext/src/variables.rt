@@ -33,16 +33,11 @@ fn number_of(scalar: Scalar) -> Option<NumberType>
 pub fn returned(result_type: Option<Scalar>) -> Option<Var>
     ensures { result ≡ typed VarKind.Returned (number_if result_type) }
 {
-    match result_type {
-        Some(scalar) => match number_of(scalar) {
-            Some(number) => Some(Var {
-                kind: VarKind::Returned,
-                number,
-            }),
-            None => None,
-        },
-        None => None,
-    }
+    let number = number_of(result_type?)?;
+    Some(Var {
+        kind: VarKind::Returned,
+        number,
+    })
 }
 
 fn put(out: &mut Vec<u8>, text: &[u8]) -> Result<(), NoMemory>

@@ -4,8 +4,7 @@ ghost use Rattle.std.specs.List.{slice_get};
 ghost use Rattle.qs_core.specs.UnitTrees.{unit_tree};
 ghost use Rattle.qs_prooftext.specs.Contexts.{word_view, GivesWords};
 ghost use Rattle.qs_prooftext.specs.Writing as spec;
-ghost use Rattle.qs_prooftext.specs.Writing.{Words, variable_form, word_for, words_in};
-ghost use Rattle.qs_triples.specs.Mentions.{plain_variable};
+ghost use Rattle.qs_prooftext.specs.Writing.{word_for, words_in};
 
 use crate::context::Word;
 use crate::variables::words_of;

@@ -5,7 +5,7 @@ use Rattle.std.proofs.lemmas.List.{take-append-drop, append-nil, append_assoc}
 use Rattle.std.proofs.Math.Seq.{take-suc}
 use Rattle.qs_ports.specs.SinkView.{SinkView, Appends, PutsAll}
 use Rattle.qs_ports.specs.declared.sink.SinkFault.{SinkFault}
-use Rattle.qs_ports.proofs.Sinks.{appends_more, then_puts, cut_before}
+use Rattle.qs_ports.proofs.Sinks.{then_puts, cut_before}
 
 -- the texts of one part more
 next_part : {X : Type 0} (f : X → List ℕ) (xs : List X) (i : ℕ) (x d : X) → x ≡ get_or xs i d → i < length xs → flat_map f (take (i + 1) xs) ≡ flat_map f (take i xs) ++ f x
@@ -14,9 +14,6 @@ next_part f xs i x d e h =
     ∙ flat_map-append f (take i xs) (get_or xs i d ∷ [])
     ∙ ap (λ y. flat_map f (take i xs) ++ (f y ++ [])) (sym e)
     ∙ ap (λ y. flat_map f (take i xs) ++ y) (append-nil (f x))
-
-pub part_put : {X : Type 0} (f : X → List ℕ) (xs : List X) (i : ℕ) (x d : X) (u v w : SinkView) → x ≡ get_or xs i d → i < length xs → Appends u v (flat_map f (take i xs)) → Appends v w (f x) → Appends u w (flat_map f (take (i + 1) xs))
-part_put f xs i x d u v w e h a b = let P : List ℕ → Type 0 = λ t. Appends u w t in subst P (sym (next_part f xs i x d e h)) (appends_more a b)
 
 -- a failure within a part is one within the whole
 pub part_cut : {X : Type 0} (f : X → List ℕ) (xs : List X) (i : ℕ) (x d : X) (u v w : SinkView) (e r : SinkFault) → x ≡ get_or xs i d → i < length xs → Appends u v (flat_map f (take i xs)) → PutsAll v w (f x) (Err e) → PutsAll u w (flat_map f xs) (Err r)

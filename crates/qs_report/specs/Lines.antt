@@ -1,6 +1,8 @@
 -- The lines that the tool prints, a row for each. docs/TOOL.md has those that it prints today.
-use Rattle.std.specs.Prelude.{ℕ, List, [], ◌∷◌, ◌++◌, codes, decimal, flat_map}
+use Rattle.std.specs.Prelude.{ℕ, List, [], ◌∷◌, ◌++◌, Result, codes, decimal, flat_map}
 use Rattle.qs_base.specs.declared.places.Pos.{Pos}
+use Rattle.qs_ports.specs.SinkView.{SinkView, PutsOn}
+use Rattle.qs_ports.specs.declared.sink.SinkFault.{SinkFault}
 use Rattle.qs_report.specs.Words.{lex_word, proof_file_word, image_text, trap_word, rule_text, limit_word, shown_text, hexadecimal, spot_text, proof_text, spaced}
 use Rattle.qs_report.specs.declared.fault_texts.Shown.{Shown}
 use Rattle.qs_report.specs.declared.fault_texts.Count.{Count}
@@ -24,6 +26,11 @@ line_at file pos text = line (file ∷ codes ":" ∷ decimal pos.line ∷ codes 
 -- the same, with the digits of the line and of the column, and a text of two parts
 abbrev pub place_line : List ℕ → List ℕ → List ℕ → List ℕ → List ℕ → List ℕ
 place_line file number column text more = line (file ∷ codes ":" ∷ number ∷ codes ":" ∷ column ∷ codes ": " ∷ text ∷ more ∷ [])
+
+-- such a line is put on a sink that is seen by this view
+abbrev pub PutsAt :
+    {Sink : Type 0} → (Sink → SinkView) → Sink → Sink → (file number column text more : List ℕ) → Result Unit SinkFault → Type 0
+PutsAt view old new file number column text more result = PutsOn view old new (place_line file number column text more) result
 
 abbrev pub both_at : List ℕ → Pos → List ℕ → List ℕ → List ℕ
 both_at file pos text more = place_line file (decimal pos.line) (decimal pos.column) text more

@@ -1,7 +1,7 @@
 // The lines of faults.
 ghost use Rattle.qs_ports.specs.SinkView.{PutsOn};
 ghost use Rattle.qs_report.specs.Words.{rule_text};
-ghost use Rattle.qs_report.specs.Lines.{both_at, fault_line, line_at, place_line};
+ghost use Rattle.qs_report.specs.Lines.{PutsAt, both_at, fault_line, line_at};
 ghost use Rattle.qs_report.specs.Lines.{argument_line, arguments_line, image_count_line};
 ghost use Rattle.qs_report.specs.Lines.{image_line, trap_line};
 
@@ -20,17 +20,16 @@ use qs_types::Rule;
 fn put_place<K: Sink>(
     log: &mut K,
     file: &[u8],
-    number: &[u8],
+    line: &[u8],
     column: &[u8],
     text: &[u8],
     more: &[u8],
 ) -> Result<(), SinkFault>
-    ensures { PutsOn K.view log.old log.new
-        (place_line file.now number.now column.now text.now more.now) result }
+    ensures { PutsAt K.view log.old log.new file.now line.now column.now text.now more.now result }
 {
     put_parts(
         log,
-        &[file, b":", number, b":", column, b": ", text, more, b"\n"],
+        &[file, b":", line, b":", column, b": ", text, more, b"\n"],
     )
 }
 
@@ -46,9 +45,9 @@ fn put_both_at<K: Sink>(
 {
     let mut lines = Buffer::new();
     let mut columns = Buffer::new();
-    let number = lines.format(pos.line).as_bytes();
+    let line = lines.format(pos.line).as_bytes();
     let column = columns.format(pos.column).as_bytes();
-    put_place(log, file, number, column, text, more)
+    put_place(log, file, line, column, text, more)
 }
 
 // Puts a line at a place of a file.

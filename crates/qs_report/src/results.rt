@@ -1,5 +1,5 @@
 // The lines of results.
-ghost use Rattle.std.specs.Prelude.{◌≡◌, [], ◌∷◌, codes};
+ghost use Rattle.std.specs.Prelude.{[], ◌∷◌};
 ghost use Rattle.qs_ports.specs.SinkView.{PutsOn};
 ghost use Rattle.qs_report.specs.Words.{shown_text};
 ghost use Rattle.qs_report.specs.Lines.{line, bound_line, cost_line, count_line, end_line};

@@ -4,7 +4,6 @@ pub mod LabelLaws
 pub mod PieceLaws
 pub mod ContextLaws
 pub mod LimitLaws
-pub mod DataLaws
 pub mod FitLaws
 pub mod EntryLaws
 pub mod FunctionLaws

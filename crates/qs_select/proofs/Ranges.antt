@@ -43,9 +43,9 @@ use Rattle.qs_tac.specs.declared.operands.Condition.TheVariants.{NotZero, Zero, 
 use Rattle.qs_frames.specs.Laws.{block}
 use Rattle.qs_frames.proofs.FrameLaws.{frames_are_laid_out}
 use Rattle.qs_select.specs.Pieces as pieces
-use Rattle.qs_select.specs.Pieces.{lui, addi, is_small, low_part, high_part, constant, is_near, load_from, store_to, address_in_frame, move_stack, shift_among, shift_of, product_by, product, loop_end, copy_loop, fill_loop, zero_bytes}
+use Rattle.qs_select.specs.Pieces.{is_small, low_part, high_part, constant, is_near, load_from, store_to, address_in_frame, move_stack, shift_among, shift_of, product_by, product, loop_end, copy_loop, fill_loop, zero_bytes}
 use Rattle.qs_select.specs.Operands.{Context, frame_of, local_offset, place_into, byte_into, into, register_of, stands_in, unless_there, operand_code, operand_register, put_place, put, result_register, result_code, move_to, Anchor, displacement, behind_frame, behind_pointer, based, is_constant, add_elements, add_index, anchor_of, address_into, is_word_address}
-use Rattle.qs_select.specs.Operations.{constant_of, negated, if_small, with_constant, or_code, kind_of, both, on_both, arithmetic, less_than, less_than_constant, less, turned, apart, compare, directed, step, move_by, move_by_elements, moved, elements_between, unary_instruction, conversion}
+use Rattle.qs_select.specs.Operations.{constant_of, negated, if_small, with_constant, or_code, kind_of, both, on_both, arithmetic, less_than, less_than_constant, less, apart, compare, directed, step, move_by, move_by_elements, moved, elements_between, unary_instruction, conversion}
 use Rattle.qs_select.specs.Operations as operations
 use Rattle.qs_select.specs.Emission.{save, restore, take_parameter, take_parameters, enter, leave, copy_code, unless_none, fill_code, pass, take_result, Labels, goes_to, less_branch, not_less_branch, compare_branch, compare_items, branch_items, gives, instruction_items}
 use Rattle.qs_select.proofs.Sizes.{few_used}
@@ -370,15 +370,6 @@ module _ (u : TacUnitTree) (c : Context) (ok : IsContext c) where
   address_into_instrs rd p r h = let a = anchor_is p h in then_instrs (anchor_of c p).code _ a.code_is ((r, a.register_is, a.immediate_is), tt)
 
   -- ---- operations
-
-  constant_small : (y : Operand) (n : ℕ) → operand_fits u c.function y ≡ true → constant_of y ≡ Some n → n < 2 ^ 32
-  constant_small (Temporary t) n h e = cc
-  constant_small (Integer t) n h e = cc
-  constant_small (Byte t) n h e = cc
-  constant_small (Constant k) n h e = let s : k ≡ n = cc in let l = word_small k h in omega (arith, s, l)
-  constant_small Null n h e = cc
-  constant_small (Local i) n h e = cc
-  constant_small (Data i) n h e = cc
 
   -- an instruction for a constant operand
   from_constant : (y : Operand) (f : ℕ → Option Instr) (i : Instr) → operand_fits u c.function y ≡ true → ((n : ℕ) → n < 2 ^ 32 → f n ≡ Some i → IsInstr i) → (constant_of y >>= f) ≡ Some i → IsInstr i

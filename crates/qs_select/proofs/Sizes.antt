@@ -42,9 +42,9 @@ use Rattle.qs_tac.specs.declared.operands.Condition.TheVariants.{NotZero, Zero, 
 use Rattle.qs_frames.specs.Layout.{is_among, used_among, saved_registers, used_registers, kept}
 use Rattle.qs_frames.proofs.FrameLaws.{kept_in_slots}
 use Rattle.qs_select.specs.Pieces as pieces
-use Rattle.qs_select.specs.Pieces.{x0, ra, a0, a1, a4, sltiu, sltu, is_small, low_part, constant, is_near, load_from, store_to, address_in_frame, move_stack, shift_of, product_by, product, loop_end, copy_loop, fill_loop, zero_bytes}
+use Rattle.qs_select.specs.Pieces.{x0, ra, a0, a1, a4, sltiu, sltu, is_small, low_part, constant, is_near, load_from, store_to, address_in_frame, move_stack, shift_of, product_by, loop_end, copy_loop, fill_loop, zero_bytes}
 use Rattle.qs_select.specs.Operands.{Context, slot_offset, constant_count, place_into, byte_into, into, register_of, stands_in, unless_there, operand_code, operand_register, put_place, put, result_register, result_code, move_to, Anchor, displacement, behind_frame, behind_pointer, based, is_constant, add_elements, add_index, anchor_of, address_into, is_word_address}
-use Rattle.qs_select.specs.Operations.{constant_of, or_code, both, on_both, arithmetic, less, turned, apart, compare, move_by, move_by_elements, moved, elements_between}
+use Rattle.qs_select.specs.Operations.{constant_of, or_code, both, on_both, arithmetic, less, apart, compare, move_by, move_by_elements, moved, elements_between}
 use Rattle.qs_select.specs.Operations as operations
 use Rattle.qs_select.specs.Emission.{copy_code, unless_none, fill_code, save, restore, take_parameter, take_parameters, enter, leave, pass, take_result, Labels, goes_to, compare_branch, compare_items, branch_items, gives, instruction_items, body_items, function_items, first_label, labels_of, functions_items, environment, start_items, unit_items}
 use Rattle.qs_select.specs.Laws.{KeepsWords, UnitKeepsWords}
@@ -299,11 +299,6 @@ module _ (c : Context) (accepted : Accepted c.function c.places) where
   index_long h anchor (Some index) x =
       anchor_long (is_constant index.count) _ _ h (h + (operand_words c.function index.count + 4)) x
       (wider (omega arith) (omega arith) (then_long x (then_long (operand_long a1 index.count) (elements_long anchor.register (operand_register c a1 index.count) index.element))))
-
--- a displacement that isn't small has two words in the sizes
-far_offset : (n : ℕ) → is_small (n % 2 ^ 32) ≡ false → nat_lt n 2048 ≡ false
-unfolding is_small
-far_offset n h = grind (arith, nat_tests)
 
 -- the sizes count no less
 few_words : (base n d : ℕ) → (nat_lt n 2048 ≡ true → is_small d ≡ true) → (if is_small d then base else base + 2) ≤ base + (if nat_lt n 2048 then 0 else 2)

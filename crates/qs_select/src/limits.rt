@@ -1,5 +1,5 @@
 // What machine code is selected for, and the first reason why it isn't.
-ghost use Rattle.std.specs.Prelude.{◌≡◌, map, Some};
+ghost use Rattle.std.specs.Prelude.{◌≡◌, map};
 ghost use Rattle.std.specs.List.{list_all};
 ghost use Rattle.qs_tac.specs.Places.{places_tree, places_trees, no_places};
 ghost use Rattle.qs_tac.specs.TreeOf.{function_tree, function_trees, instruction_tree};

@@ -1,5 +1,5 @@
 // Short pieces of machine code that the code of instructions is put together from.
-ghost use Rattle.std.specs.Prelude.{◌≡◌, ◌<◌, ◌+◌, ◌^◌, [], ◌∷◌, OnOk};
+ghost use Rattle.std.specs.Prelude.{◌≡◌, ◌<◌, [], ◌∷◌, OnOk};
 ghost use Rattle.qs_select.specs.Pieces as spec;
 ghost use Rattle.qs_select.specs.Puts.{Puts, Emits};
 

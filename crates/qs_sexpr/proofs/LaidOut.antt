@@ -1,6 +1,5 @@
 -- What is laid out is a text of its forms.
-use Rattle.std.proofs.Common.{◌≡◌, ℕ, zero, suc, Bool, true, false, nat_lt, List, [], ◌∷◌, ◌++◌, append_assoc, refl, sym, ap, subst, ◌∙◌, if◌then◌else◌}
-use Rattle.std.specs.Fmt.{signed_decimal}
+use Rattle.std.proofs.Common.{◌≡◌, ℕ, zero, suc, Bool, true, false, nat_lt, List, [], ◌∷◌, ◌++◌, refl, sym, subst, if◌then◌else◌}
 use Rattle.std.specs.Prelude.{replicate}
 use Rattle.qs_sexpr.specs.Layout.{new_line, deeper, is_atom, before, behind, inside, ending, lay, lay_parts, lay_all}
 use Rattle.qs_sexpr.specs.Spelling.{IsSpace, Spells, a_symbol, a_number, a_list, SpellAll, no_part, first_part, SpellOthers, no_other, next_part, ReadsAs}
@@ -138,25 +137,3 @@ all_laid (form_and form forms) = first_part [] refl (laid Top form (10 ∷ lay_a
 
 pub laid_out_reads : (forms : Forms) → AreWritable 1024 forms → ReadsAs (lay_all forms) forms
 laid_out_reads forms w = spelled_reads forms (lay_all forms) w (all_laid forms)
-
--- ---- one form after another
-
-mutual
-  lay_joined : (l : Layer) (form : Form) (text more : List ℕ) → lay l form (text ++ more) ≡ lay l form text ++ more
-  lay_joined l (symbol_form bytes) text more = sym (append_assoc bytes text more)
-  lay_joined l (number_form value) text more = sym (append_assoc (signed_decimal value) text more)
-  lay_joined l (list_form forms) text more =
-      ap (λ (t : List ℕ). 40 ∷ t) (parts_joined (inside l (size (list_form forms))) forms text more)
-
-  parts_joined : (l : Layer) (forms : Forms) (text more : List ℕ) → lay_parts l forms (text ++ more) ≡ lay_parts l forms text ++ more
-  parts_joined l no_forms text more = sym (append_assoc (ending l) (41 ∷ text) more)
-  parts_joined l (form_and form forms) text more =
-      let k : Layer = behind l (is_atom form) (size form) in
-      let b : List ℕ = before l (is_atom form) (size form) in
-      ap (λ (t : List ℕ). b ++ lay l form t) (parts_joined k forms text more)
-      ∙ (ap (λ (t : List ℕ). b ++ t) (lay_joined l form (lay_parts k forms text) more)
-      ∙ sym (append_assoc b (lay l form (lay_parts k forms text)) more))
-
--- the text of a form and others is that of the form and that of the others
-pub one_by_one : (form : Form) (forms : Forms) → lay_all (form_and form forms) ≡ lay_all (form_and form no_forms) ++ lay_all forms
-one_by_one form forms = lay_joined Top form (10 ∷ []) (lay_all forms)

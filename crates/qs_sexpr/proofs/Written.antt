@@ -185,9 +185,6 @@ signed_word (negsuc n) h = negative_word n (decimal (suc n)) (decimal_is (suc n)
 pub moved : (depth at now end : ℕ) (text rest : List ℕ) (parts : Sexps) → at ≡ now → Reads depth at text parts end rest → Reads depth now text parts end rest
 moved depth at now end text rest parts e r = let P : ℕ → Type 0 = λ n. Reads depth n text parts end rest in subst P e r
 
-ends_at : (depth at end now : ℕ) (text rest : List ℕ) (parts : Sexps) → end ≡ now → Reads depth at text parts end rest → Reads depth at text parts now rest
-ends_at depth at end now text rest parts e r = let P : ℕ → Type 0 = λ n. Reads depth at text parts n rest in subst P e r
-
 dropped : (depth at end : ℕ) (bytes text rest : List ℕ) (parts : Sexps) → Reads depth (at + suc (length bytes)) text parts end rest → Reads depth (at + 1 + length bytes) (drop (length bytes) (bytes ++ text)) parts end rest
 dropped depth at end bytes text rest parts r =
     let P : List ℕ → Type 0 = λ xs. Reads depth (at + 1 + length bytes) xs parts end rest in

@@ -1,6 +1,6 @@
 -- What is promised of texts.
 use Rattle.std.specs.Prelude.{◌≡◌, ◌⊎◌, ◌≤◌, ℕ, List, [], length}
-use Rattle.qs_sexpr.specs.Reading.{Fault, Reading}
+use Rattle.qs_sexpr.specs.Reading.{Fault, Reading, depth_limit}
 use Rattle.qs_sexpr.specs.Results.{HasFault, HasReading}
 use Rattle.qs_sexpr.specs.Places.{LieIn, place_of}
 use Rattle.qs_sexpr.specs.Trees.{Sexps}
@@ -34,12 +34,12 @@ FaultsLieInTexts = (text : List ℕ) (fault : SexprFault) → Fault text fault �
 
 -- a text that spells these forms reads as them
 abbrev pub SpelledReads : Type 0
-SpelledReads = (forms : Forms) (text : List ℕ) → AreWritable 1024 forms → SpellAll forms text [] → ReadsAs text forms
+SpelledReads = (forms : Forms) (text : List ℕ) → AreWritable depth_limit forms → SpellAll forms text [] → ReadsAs text forms
 
 -- what is laid out reads as the forms
 abbrev pub WrittenReads : Type 0
-WrittenReads = (forms : Forms) → AreWritable 1024 forms → ReadsAs (lay_all forms) forms
+WrittenReads = (forms : Forms) → AreWritable depth_limit forms → ReadsAs (lay_all forms) forms
 
 -- what a text reads as can be written
 abbrev pub ReadIsWritable : Type 0
-ReadIsWritable = (text : List ℕ) (parts : Sexps) → Reading text parts → AreWritable 1024 (forms_of_parts parts)
+ReadIsWritable = (text : List ℕ) (parts : Sexps) → Reading text parts → AreWritable depth_limit (forms_of_parts parts)

@@ -6,6 +6,10 @@ use Rattle.qs_sexpr.specs.declared.pieces.Piece.TheVariants.{White, Open, Close,
 use Rattle.qs_sexpr.specs.declared.fault.SexprFault.{SexprFault}
 use Rattle.qs_sexpr.specs.declared.fault.SexprFault.TheVariants as faults
 
+-- how many lists may be open at once
+abbrev pub depth_limit : ℕ
+depth_limit = 1024
+
 -- `text` begins at the byte `at`, in `depth` lists. It reads as these parts as far as the byte `end`, where `rest` begins.
 pub data Reads : (depth at : ℕ) → (text : List ℕ) → (parts : Sexps) → (end : ℕ) → (rest : List ℕ) → Type 0 where
   nothing : {depth at : ℕ} {text : List ℕ} → Reads depth at text no_parts at text
@@ -15,7 +19,7 @@ pub data Reads : (depth at : ℕ) → (text : List ℕ) → (parts : Sexps) → 
       → Reads depth (at + 1 + more) (drop more bytes) parts end rest → Reads depth at (byte ∷ bytes) (part_and (number at value) parts) end rest
   a_symbol : {depth at more byte end : ℕ} {bytes rest : List ℕ} {parts : Sexps} → first_piece byte bytes ≡ Symbol more
       → Reads depth (at + 1 + more) (drop more bytes) parts end rest → Reads depth at (byte ∷ bytes) (part_and (symbol at (byte ∷ take more bytes)) parts) end rest
-  a_list : {depth at byte closed last end : ℕ} {bytes after rest : List ℕ} {inner parts : Sexps} → first_piece byte bytes ≡ Open → depth < 1024
+  a_list : {depth at byte closed last end : ℕ} {bytes after rest : List ℕ} {inner parts : Sexps} → first_piece byte bytes ≡ Open → depth < depth_limit
       → Reads (suc depth) (at + 1) bytes inner closed (last ∷ after) → first_piece last after ≡ Close
       → Reads depth (closed + 1) after parts end rest → Reads depth at (byte ∷ bytes) (part_and (list at inner) parts) end rest
 
@@ -27,7 +31,7 @@ pub record Reading (text : List ℕ) (parts : Sexps) : Type 0 where
 -- All of the text before the byte `at`, where `rest` begins, has been read, and `depth` lists are open.
 pub data Within (text : List ℕ) : (depth at : ℕ) → (rest : List ℕ) → Type 0 where
   outside : {at : ℕ} {rest : List ℕ} {parts : Sexps} → Reads 0 0 text parts at rest → Within text 0 at rest
-  inside : {depth opened byte at : ℕ} {bytes rest : List ℕ} {parts : Sexps} → Within text depth opened (byte ∷ bytes) → first_piece byte bytes ≡ Open → depth < 1024
+  inside : {depth opened byte at : ℕ} {bytes rest : List ℕ} {parts : Sexps} → Within text depth opened (byte ∷ bytes) → first_piece byte bytes ≡ Open → depth < depth_limit
       → Reads (suc depth) (opened + 1) bytes parts at rest → Within text (suc depth) at rest
 
 -- what stands at the byte `at`, in `depth` lists, where reading can't go on
@@ -36,7 +40,7 @@ pub data Stops : (depth at : ℕ) → (rest : List ℕ) → SexprFault → Type 
   bad_number : {depth at byte : ℕ} {bytes : List ℕ} → first_piece byte bytes ≡ BadNumber → Stops depth at (byte ∷ bytes) (faults.BadNumber at)
   closes_nothing : {at byte : ℕ} {bytes : List ℕ} → first_piece byte bytes ≡ Close → Stops 0 at (byte ∷ bytes) (faults.Unbalanced at)
   ends_open : {depth at : ℕ} → Stops (suc depth) at [] (faults.Unbalanced at)
-  too_deep : {depth at byte : ℕ} {bytes : List ℕ} → first_piece byte bytes ≡ Open → 1024 ≤ depth → Stops depth at (byte ∷ bytes) (faults.TooDeep at)
+  too_deep : {depth at byte : ℕ} {bytes : List ℕ} → first_piece byte bytes ≡ Open → depth_limit ≤ depth → Stops depth at (byte ∷ bytes) (faults.TooDeep at)
 
 -- the first fault of the text: what stands before it has been read
 pub record Fault (text : List ℕ) (fault : SexprFault) : Type 0 where

@@ -2,6 +2,7 @@
 use Rattle.std.specs.Prelude.{ℕ, zero, suc, ◌+◌, List, [], ◌∷◌, ◌++◌, length, take, nat_lt, if◌then◌else◌, Result, Ok, Err}
 use Rattle.qs_sexpr.specs.Numbers.{is_empty}
 use Rattle.qs_sexpr.specs.Pieces.{first_piece}
+use Rattle.qs_sexpr.specs.Reading.{depth_limit}
 use Rattle.qs_sexpr.specs.Trees.{Sexp, number, symbol, list, Sexps, no_parts, part_and}
 use Rattle.qs_sexpr.specs.declared.fault.SexprFault.{SexprFault}
 use Rattle.qs_sexpr.specs.declared.fault.SexprFault.TheVariants as faults
@@ -28,7 +29,7 @@ Rest = List Layer → List Sexp → ℕ → Answer
 abbrev pub act : Piece → List Layer → List Sexp → ℕ → ℕ → List ℕ → Rest → Answer
 act (pieces.White more) outer done at byte bytes go = go outer done more
 act pieces.Open outer done at byte bytes go =
-    if nat_lt (length outer) 1024 then go (record { place = at; before = done } ∷ outer) [] 0 else Err (faults.TooDeep at)
+    if nat_lt (length outer) depth_limit then go (record { place = at; before = done } ∷ outer) [] 0 else Err (faults.TooDeep at)
 act pieces.Close [] done at byte bytes go = Err (faults.Unbalanced at)
 act pieces.Close (layer ∷ outer) done at byte bytes go = go outer (layer.before ++ list layer.place (parts_of done) ∷ []) 0
 act (pieces.Number more value) outer done at byte bytes go = go outer (done ++ number at value ∷ []) more

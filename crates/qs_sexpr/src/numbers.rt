@@ -1,5 +1,5 @@
 // Numbers.
-ghost use Rattle.std.specs.Prelude.{◌≡◌, ◌^◌, ◌<◌, ◌≤◌, SomeIff, IfSome, true};
+ghost use Rattle.std.specs.Prelude.{◌≡◌, ◌^◌, ◌≤◌, SomeIff, IfSome, true};
 ghost use Rattle.qs_sexpr.specs.Numbers.{are_digits, magnitude, negated, negative, number_of};
 ghost use Rattle.qs_sexpr.specs.Numbers.{positive, value_of};
 
@@ -45,15 +45,11 @@ fn magnitude(bytes: &[u8]) -> Option<u64>
 fn positive(magnitude: Option<u64>) -> Option<i64>
     ensures { result ≡ positive magnitude }
 {
-    match magnitude {
-        Some(value) => {
-            if value < LEAST {
-                Some(value as i64)
-            } else {
-                None
-            }
-        }
-        None => None,
+    let value = magnitude?;
+    if value < LEAST {
+        Some(value as i64)
+    } else {
+        None
     }
 }
 
@@ -72,10 +68,7 @@ fn negative(magnitude: Option<u64>) -> Option<i64>
     requires { IfSome magnitude (λ value. value ≤ 2 ^ 63) }
     ensures { result ≡ negative magnitude }
 {
-    match magnitude {
-        Some(value) => Some(negated(value)),
-        None => None,
-    }
+    Some(negated(magnitude?))
 }
 
 /// The number that these bytes are.

@@ -23,7 +23,7 @@ pub struct Reader {
 }
 
 impl Reader {
-    ghost use Rattle.std.specs.Prelude.{◌≡◌, ◌+◌, ◌≤◌, [], length, IfOk};
+    ghost use Rattle.std.specs.Prelude.{◌≡◌, [], length, IfOk};
     ghost use Rattle.qs_sexpr.specs.Readers.{AddsOneNode, Begins, Ends, Holds, IsDepth};
     ghost use Rattle.qs_sexpr.specs.Readers.{IsReader, Puts};
 

@@ -1,5 +1,5 @@
 // How much room lists take on one line.
-ghost use Rattle.std.specs.Prelude.{◌≡◌, ◌+◌, map, reverse, IfOk, length};
+ghost use Rattle.std.specs.Prelude.{◌≡◌, map, reverse, IfOk, length};
 ghost use Rattle.std.specs.Fmt.{decimal, signed_decimal};
 ghost use Rattle.qs_sexpr.specs.Marks.{first_of, list_size, list_sizes, mark_of, others_of};
 ghost use Rattle.qs_sexpr.specs.Pages.{AddsSize, AddsToken};

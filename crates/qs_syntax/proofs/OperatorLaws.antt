@@ -65,8 +65,5 @@ punctuator-assign_of punctuator operator e = (same_punctuator_exact (punctuator_
 pub access_operator_exact : (a b : Access) → Decides (same_access a b) (a ≡ b)
 access_operator_exact a b = variants_exact access_type tt a b
 
-pub access_of-punctuator : (operator : Access) → access_of (punctuator_of_access operator) ≡ Some operator
-access_of-punctuator operator = finds access_type tt access_operators refl (λ k x. same_punctuator (punctuator_of_access x) (punctuator_of_access k)) refl operator
-
 pub punctuator-access_of : (punctuator : Punctuator) (operator : Access) → access_of punctuator ≡ Some operator → punctuator_of_access operator ≡ punctuator
 punctuator-access_of punctuator operator e = (same_punctuator_exact (punctuator_of_access operator) punctuator).0 (find_passes (λ x. same_punctuator (punctuator_of_access x) punctuator) access_operators operator e)

@@ -1,8 +1,8 @@
 -- A map over the nodes of a tree keeps their count, and one such map behind another is one map.
-use Rattle.std.proofs.Common.{◌≡◌, ℕ, ◌+◌, List, [], ◌∷◌, Option, Some, None, map, refl, ap}
+use Rattle.std.proofs.Common.{◌≡◌, ℕ, ◌+◌, List, [], ◌∷◌, Option, Some, None, refl, ap}
 use Rattle.qs_syntax.specs.declared.nodes.Node.{Node}
 use Rattle.qs_syntax.specs.Trees.{ExprTree, expr, ShapeTree, constant, text, name, unary, step, cast, sizeof_type, sizeof_expr, binary, assign, conditional, comma, subscript, member, call, Exprs, no_exprs, expr_and, LengthsTree, DeclaratorTree, InitialiserTree, value, list, Initialisers, no_initialisers, initialiser_and, VariableTree, DeclarationTree, ParameterTree, MembersTree, StartTree, no_start, start_expression, start_declaration, StmtTree, empty, expression, declaration, block, branch, while_loop, do_loop, for_loop, break, continue, return, Stmts, no_stmts, stmt_and, Else, no_else, else_by, StructTree, FunctionTree, DeclTree, structure, forward, function, variables, UnitTree}
-use Rattle.qs_syntax.specs.Nodes.{all_count, option_count, expr_count, shape_count, exprs_count, lengths_count, declarator_count, initialiser_count, initialisers_count, variable_count, declaration_count, parameter_count, members_count, start_count, stmt_count, stmts_count, else_count, struct_count, function_count, decl_count, unit_count}
+use Rattle.qs_syntax.specs.Nodes.{all_count, option_count, expr_count, shape_count, exprs_count, lengths_count, declarator_count, initialiser_count, initialisers_count, variable_count, declaration_count, parameter_count, members_count, start_count, stmt_count, stmts_count, else_count, struct_count, function_count, decl_count}
 use Rattle.qs_syntax.specs.Numbering.{Relabelling, relabel_all, relabel_option, relabel_expr, relabel_shape, relabel_exprs, relabel_lengths, relabel_declarator, relabel_initialiser, relabel_initialisers, relabel_variable, relabel_declaration, relabel_parameter, relabel_members, relabel_start, relabel_stmt, relabel_stmts, relabel_else, relabel_struct, relabel_function, relabel_decl, relabel_unit, numbered, bare, numbered_unit}
 use Rattle.qs_syntax.specs.WithoutTokens.{without_tokens}
 
@@ -114,9 +114,6 @@ module _ (f : Relabelling) where
   decl_keeps n (forward d) = refl
   decl_keeps n (function d) = function_keeps n d
   decl_keeps n (variables d) = declaration_keeps n d
-
-  pub unit_keeps : (ds : List DeclTree) → unit_count (relabel_unit f ds) ≡ unit_count ds
-  unit_keeps ds = all_keeps f decl_count (relabel_decl f) decl_keeps 0 ds
 
 -- ---- one map behind another
 
@@ -271,8 +268,3 @@ unit_numbered_again = unit_composes numbered numbered (λ n node. record { id = 
 -- what has no numbers and tokens any more doesn't tell whether it was numbered
 pub numbered_without_tokens : (ds : UnitTree) → without_tokens (numbered_unit ds) ≡ without_tokens ds
 numbered_without_tokens = unit_composes bare numbered (λ n node. record { id = 0; token = 0 }) Anywhere (record { moves = λ _ _ _ _. tt; labels = λ _ _ _ _. refl }) tt
-
--- where a map goes nowhere, it is the same at each of a list
-pub bare_all : {A : Type 0} (count : A → ℕ) (relabel : ℕ → A → A) (n : ℕ) (xs : List A) → relabel_all bare count relabel n xs ≡ map (relabel n) xs
-bare_all count relabel n [] = refl
-bare_all count relabel n (x ∷ xs) = ap (λ l. relabel n x ∷ l) (bare_all count relabel n xs)

@@ -1,12 +1,9 @@
 -- Trees with 0 in place of each node's number and of its token's: what they say, wherever it stands.
-use Rattle.qs_syntax.specs.Trees.{ExprTree, ShapeTree, Exprs, LengthsTree, DeclaratorTree, InitialiserTree, Initialisers, VariableTree, DeclarationTree, ParameterTree, MembersTree, StartTree, StmtTree, Stmts, Else, StructTree, FunctionTree, DeclTree, UnitTree}
-use Rattle.qs_syntax.specs.Numbering.{bare, relabel_expr, relabel_shape, relabel_exprs, relabel_lengths, relabel_declarator, relabel_initialiser, relabel_initialisers, relabel_variable, relabel_declaration, relabel_parameter, relabel_members, relabel_start, relabel_stmt, relabel_stmts, relabel_else, relabel_struct, relabel_function, relabel_decl, relabel_unit}
+use Rattle.qs_syntax.specs.Trees.{ExprTree, Exprs, LengthsTree, DeclaratorTree, InitialiserTree, Initialisers, VariableTree, DeclarationTree, ParameterTree, MembersTree, StartTree, StmtTree, Stmts, Else, DeclTree, UnitTree}
+use Rattle.qs_syntax.specs.Numbering.{bare, relabel_expr, relabel_exprs, relabel_lengths, relabel_declarator, relabel_initialiser, relabel_initialisers, relabel_variable, relabel_declaration, relabel_parameter, relabel_members, relabel_start, relabel_stmt, relabel_stmts, relabel_else, relabel_decl, relabel_unit}
 
 abbrev pub plain_expr : ExprTree → ExprTree
 plain_expr e = relabel_expr bare 0 e
-
-abbrev pub plain_shape : ShapeTree → ShapeTree
-plain_shape s = relabel_shape bare 0 s
 
 abbrev pub plain_exprs : Exprs → Exprs
 plain_exprs es = relabel_exprs bare 0 es
@@ -46,12 +43,6 @@ plain_stmts ss = relabel_stmts bare 0 ss
 
 abbrev pub plain_else : Else → Else
 plain_else r = relabel_else bare 0 r
-
-abbrev pub plain_struct : StructTree → StructTree
-plain_struct s = relabel_struct bare 0 s
-
-abbrev pub plain_function : FunctionTree → FunctionTree
-plain_function f = relabel_function bare 0 f
 
 abbrev pub plain_decl : DeclTree → DeclTree
 plain_decl d = relabel_decl bare 0 d

@@ -2,7 +2,7 @@
 ghost use Rattle.std.specs.Prelude.{◌≡◌, ◌++◌, length, option_to_list};
 ghost use Rattle.std.specs.List.{slice_get};
 ghost use Rattle.qs_tac.specs.TreeOf.{instruction_tree};
-ghost use Rattle.qs_tac.specs.Uses.{read_by, read_by_address, read_by_all, read_by_option};
+ghost use Rattle.qs_tac.specs.Uses.{read_by, read_by_address, read_by_all};
 ghost use Rattle.qs_tac.specs.Uses.{read_by_condition, reads, writes};
 
 use crate::instruction::Instruction;

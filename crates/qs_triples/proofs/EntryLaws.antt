@@ -20,7 +20,7 @@ use Rattle.qs_core.specs.Trees.{stmts_of, CoreFunctionTree, CoreUnitTree}
 use Rattle.qs_triples.specs.Derivations.{EntryTree, ProofsTree, entry_of}
 use Rattle.qs_triples.specs.Entries.{is_return, ends_in_return, order_told, fault_in, fault_of_known, entry_fault, fault_of_entry, function_fault, HasDerivedEntry}
 use Rattle.qs_triples.specs.Rules.{DerivationFault, Answer, shape, mentions, at_node, certificate, no_spec, entry}
-use Rattle.qs_triples.specs.Told.{callee_view, fault_at, FailsAs, IsDue, IsOfCertificate, Tells, TellsOrder}
+use Rattle.qs_triples.specs.Told.{callee_view, fault_at, FailsAs, IsDue, IsOfCertificate, Tells}
 use Rattle.qs_triples.specs.Checking.{WasDue}
 use Rattle.qs_triples.specs.declared.failure.Cause.{Cause}
 use Rattle.qs_triples.specs.declared.failure.Cause.TheVariants as causes

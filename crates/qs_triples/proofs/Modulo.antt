@@ -73,9 +73,6 @@ signed_reading_like n = by (nat_lt (n % 4294967296) 2147483648)
 
 -- ---- sums, differences, products
 
-pub like_back : (a b : ℤ) → Like a b → Like b a
-like_back a b l = let le = l.is in record { times = pos 0 -ℤ l.times; is = omega (arith, ints, le) }
-
 pub like_then : (a b c : ℤ) → Like a b → Like b c → Like a c
 like_then a b c l m =
     let le = l.is in

@@ -4,7 +4,7 @@ use Rattle.std.specs.Prelude.{bytes_eq}
 use Rattle.std.specs.List.{slice_get}
 use Rattle.std.proofs.lemmas.Bool.Decides.{nat_tests}
 use Rattle.qs_memory.specs.Values.{into, Value, integer}
-use Rattle.qs_memory.specs.Memory.{Memory, make, release}
+use Rattle.qs_memory.specs.Memory.{Memory, release}
 use Rattle.qs_memory.specs.Memory as memory
 use Rattle.qs_memory.specs.Soundness.{ComesAfter}
 use Rattle.qs_memory.specs.declared.scalar.Scalar.{Scalar}

@@ -5,7 +5,7 @@ use Rattle.std.specs.Prelude.{ℤ, pos, neg_ℤ, ◌+ℤ◌, ◌-ℤ◌, max}
 use Rattle.std.specs.List.{slice_get}
 use Rattle.std.proofs.lemmas.Int.{ints}
 use Rattle.qs_memory.specs.Values.{Pointer, Value, integer, address, as_pointer}
-use Rattle.qs_memory.specs.Memory.{Memory, make, release}
+use Rattle.qs_memory.specs.Memory.{Memory}
 use Rattle.qs_memory.specs.Memory as memory
 use Rattle.qs_memory.specs.Values.{into}
 use Rattle.qs_memory.specs.Pointers.{truth}

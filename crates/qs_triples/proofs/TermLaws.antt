@@ -9,7 +9,7 @@ use Rattle.qs_base.specs.Words as words
 use Rattle.qs_memory.specs.Partial.{◌>>=◌, only_if}
 use Rattle.qs_memory.specs.Values.{Value, integer, address, has_type, convert}
 use Rattle.qs_memory.specs.Memory.{Memory}
-use Rattle.qs_memory.specs.Integers.{reading, calculate, divides, is_count, minus}
+use Rattle.qs_memory.specs.Integers.{calculate, divides, is_count, minus}
 use Rattle.qs_memory.specs.Integers as integers
 use Rattle.qs_memory.specs.Operations.{on_integer, on_integers, apply_unary, apply_binary, integer_type, unary_type, binary_type}
 use Rattle.qs_memory.specs.declared.scalar.Scalar.{Scalar}
@@ -264,9 +264,6 @@ module _ (st : State) where
 
   at_core : (s : Scalar) (v : Value) (c r : CoreTermTree) → c ≡ r → Stands s v (term_value (term_tree c) st) → Stands s v (term_value (term_tree r) st)
   at_core s v c r e h = subst (λ (c : CoreTermTree). Stands s v (term_value (term_tree c) st)) e h
-
-  at_integer : (s : Scalar) (n : ℕ) (v : Value) (z : ℤ) → Some (integer n) ≡ Some v → Stands s (integer n) z → Stands s v z
-  at_integer s n v z e h = subst (λ (v : Value). Stands s v z) (some_same (integer n) v e) h
 
   record Both (op : TermOperation) (s : Signedness) (left right : Option CoreTermTree) (r : CoreTermTree) : Type 0 where
     first : CoreTermTree

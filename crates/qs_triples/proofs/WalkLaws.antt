@@ -1,6 +1,5 @@
 -- The parts of a sequence, from the last to the first.
 use Rattle.std.proofs.Common.{◌≡◌, ◌<◌, ◌+◌, ℕ, zero, suc, List, [], ◌∷◌, length, drop, sym, ap, ◌∙◌, subst, arith}
-use Rattle.std.proofs.Math.ListN.{drop_of_length-le}
 use Rattle.std.proofs.Math.Seq.{drop-cons}
 use Rattle.std.specs.Prelude.{get_or, Ok}
 use Rattle.qs_assert.specs.Trees.{AssertionTree}
@@ -8,7 +7,6 @@ use Rattle.qs_base.specs.Results.{bind}
 use Rattle.qs_core.specs.declared.statements.CoreStmt.{CoreStmt}
 use Rattle.qs_core.specs.TreeOf.{core_stmt, core_stmts}
 use Rattle.qs_core.specs.Trees.{stmts_of}
-use Rattle.qs_triples.specs.Derivations.{no_derivations}
 use Rattle.qs_triples.specs.Rules.{Answer, Posts, Scope, part, pre, sequence_pre, with_next}
 use Rattle.qs_triples.specs.Told.{FailsAs}
 use Rattle.qs_triples.proofs.FaultLaws.{fails_by, bind_fails}
@@ -19,12 +17,6 @@ use Rattle.qs_triples.specs.declared.failure.Failure.{Failure}
 -- what the parts from i on need
 abbrev pub behind : List Derivation → List CoreStmt → Scope → Posts → (i : ℕ) → Answer
 behind ds ss c q i = sequence_pre (derivation_trees (drop i ds)) i c (stmts_of (core_stmts (drop i ss))) q
-
--- nothing stands behind the last
-pub behind_all : (ds : List Derivation) (ss : List CoreStmt) (c : Scope) (q : Posts) → length ds ≡ length ss → behind ds ss c q (length ds) ≡ Ok q.next
-behind_all ds ss c q same =
-    ap (λ (l : List Derivation). sequence_pre (derivation_trees l) (length ds) c (stmts_of (core_stmts (drop (length ds) ss))) q) (drop_of_length-le ds {i = length ds} (omega arith))
-    ∙ ap (λ (l : List CoreStmt). sequence_pre no_derivations (length ds) c (stmts_of (core_stmts l)) q) (drop_of_length-le ss {i = length ds} (omega arith))
 
 -- one more part in front
 behind_one : (ds : List Derivation) (ss : List CoreStmt) (c : Scope) (q : Posts) (i j : ℕ) (d : Derivation) (s : CoreStmt) → j ≡ suc i → i < length ds → i < length ss → d ≡ get_or ds i d → s ≡ get_or ss i s → behind ds ss c q i ≡ bind (behind ds ss c q j) (λ n. part i (pre (derivation_tree d) c (core_stmt s) (with_next q n)))
@@ -48,13 +40,6 @@ sequence_fails : (failure : Failure) (ds : List Derivation) (ss : List CoreStmt)
 sequence_fails failure ds ss c q i same h = in_front failure ds ss c q i i 0 same (omega arith) h
 
 -- ---- a turn of the walk, at part i
-
--- it gives what the parts from i on need
-pub turn_follows : (ds : List Derivation) (ss : List CoreStmt) (c : Scope) (q : Posts) (i j : ℕ) (d : Derivation) (s : CoreStmt) (next before : AssertionTree) → length ds ≡ length ss → j ≡ suc i → i < length ds → d ≡ get_or ds i d → s ≡ get_or ss i s → behind ds ss c q j ≡ Ok next → part i (pre (derivation_tree d) c (core_stmt s) (with_next q next)) ≡ Ok before → behind ds ss c q i ≡ Ok before
-turn_follows ds ss c q i j d s next before same e h is at needed given =
-    behind_one ds ss c q i j d s e h (omega arith) is at
-    ∙ (ap (λ (a : Answer). bind a (λ n. part i (pre (derivation_tree d) c (core_stmt s) (with_next q n)))) needed
-    ∙ given)
 
 -- or it fails, and with it the whole sequence
 pub turn_fails : (failure : Failure) (ds : List Derivation) (ss : List CoreStmt) (c : Scope) (q : Posts) (i j : ℕ) (d : Derivation) (s : CoreStmt) (next : AssertionTree) → length ds ≡ length ss → j ≡ suc i → i < length ds → d ≡ get_or ds i d → s ≡ get_or ss i s → behind ds ss c q j ≡ Ok next → FailsAs failure (part i (pre (derivation_tree d) c (core_stmt s) (with_next q next))) → FailsAs failure (sequence_pre (derivation_trees ds) 0 c (stmts_of (core_stmts ss)) q)

@@ -144,13 +144,11 @@ fn missing(alloc: Global, g: FnId, r: Replacement<'_>, xs: &[Var]) -> Result<(),
 fn plain(found: Option<Var>) -> Option<Var>
     ensures { result ≡ option_map plain_variable found }
 {
-    match found {
-        None => None,
-        Some(x) => Some(Var {
-            kind: plain_kind(x.kind),
-            number: x.number,
-        }),
-    }
+    let x = found?;
+    Some(Var {
+        kind: plain_kind(x.kind),
+        number: x.number,
+    })
 }
 
 fn missing_argument(alloc: Global, g: FnId, r: Replacement<'_>, xs: &[Var]) -> Result<(), Failure>

@@ -1,6 +1,5 @@
 // Which variables an assertion may mention.
-ghost use Rattle.std.specs.Prelude.{◌≡◌, IfOk, not};
-ghost use Rattle.std.specs.List.{find};
+ghost use Rattle.std.specs.Prelude.{◌≡◌, IfOk};
 ghost use Rattle.qs_assert.specs.Variables.{variables};
 ghost use Rattle.qs_core.specs.Interfaces as interfaces;
 ghost use Rattle.qs_core.specs.Scalars as scalars;
@@ -54,28 +53,19 @@ fn if_number(s: Scalar) -> Option<NumberType>
 fn number_of(s: Option<Scalar>) -> Option<NumberType>
     ensures { result ≡ valuations.number_if s }
 {
-    match s {
-        None => None,
-        Some(s) => if_number(s),
-    }
+    if_number(s?)
 }
 
 fn variable_type(f: &CoreFunction, x: u32) -> Option<Scalar>
     ensures { result ≡ interfaces.variable_type (function_tree f.now) x }
 {
-    match f.variables.get(x as usize) {
-        None => None,
-        Some(v) => Some(v.scalar),
-    }
+    Some(f.variables.get(x as usize)?.scalar)
 }
 
 fn temporary_type(f: &CoreFunction, k: u32) -> Option<Scalar>
     ensures { result ≡ interfaces.temporary_type (function_tree f.now) k }
 {
-    match f.temporaries.get(k as usize) {
-        None => None,
-        Some(s) => Some(*s),
-    }
+    Some(*f.temporaries.get(k as usize)?)
 }
 
 fn own_type(f: &CoreFunction, kind: VarKind) -> Option<NumberType>

@@ -1,16 +1,18 @@
 -- The pure forms that forms in code stand for.
-use Rattle.std.specs.Prelude.{Option, Result}
+use Rattle.std.specs.Prelude.{◌≡◌, Option, Result, IfOk}
 use Rattle.qs_memory.specs.declared.scalar.Scalar.{Scalar}
 use Rattle.qs_memory.specs.declared.scalar.Scalar.TheVariants as scalars
 use Rattle.qs_memory.specs.declared.operation.BinaryOperation.{BinaryOperation}
 use Rattle.qs_types.specs.TypeOf.{type_tree}
+use Rattle.qs_types.specs.declared.types.CType.{CType}
 use Rattle.qs_meaning.specs.Typed as trees
 use Rattle.qs_meaning.specs.Expressions.{conditional_form}
 use Rattle.qs_meaning.specs.Forms as forms
-use Rattle.qs_typed.specs.Parts.{operated_by, operated_tree}
+use Rattle.qs_typed.specs.Parts.{operated_by, operated_tree, stepped_by, updated_by}
 use Rattle.qs_typed.specs.Results.{Gives, Makes}
 use Rattle.qs_typed.specs.TreeOf.{conversion_tree, expression_tree, lvalue_tree, assignment_tree, effect_tree, arguments_tree}
 use Rattle.qs_typed.specs.declared.expressions.Expression.{Expression}
+use Rattle.qs_typed.specs.declared.expressions.Lvalue.{Lvalue}
 use Rattle.qs_typed.specs.declared.forms.Form.{Form, Form-F, fold-Form}
 use Rattle.qs_typed.specs.declared.forms.Step.{Step}
 use Rattle.qs_typed.specs.declared.forms.Typed.{Typed}
@@ -81,3 +83,12 @@ Computes value a b result = Gives expression_tree (value (typed_tree a) (typed_t
 -- 6.5.15: one value or the other
 abbrev pub Chooses : {E : Type 0} → (c a b : Typed) → Result Form E → Type 0
 Chooses c a b result = Makes form_tree (conditional_form (typed_tree c) (typed_tree a) (typed_tree b)) result
+
+-- 6.5.16.2p3: the lvalue of this type gets what the operation makes of its value and this one
+abbrev pub Updates : {E : Type 0} → (t : CType) → Lvalue → Operated → Expression → Result Form E → Type 0
+Updates t l o value result =
+    IfOk result (λ f. form_tree f ≡ updated_by (type_tree t) (lvalue_tree l) (operated_tree o) (expression_tree value))
+
+-- 6.5.2.4p2: .. and the number 1, and the form gives the value before
+abbrev pub Steps : {E : Type 0} → (t : CType) → Lvalue → Operated → Result Form E → Type 0
+Steps t l o result = IfOk result (λ f. form_tree f ≡ stepped_by (type_tree t) (lvalue_tree l) (operated_tree o))

@@ -11,9 +11,7 @@ use Rattle.qs_types.specs.declared.types.CType.{CType}
 use Rattle.qs_meaning.specs.Forms as forms
 use Rattle.qs_meaning.specs.Operations as operations
 use Rattle.qs_typed.specs.Results.{Gives}
-use Rattle.qs_typed.specs.TreeOf.{conversion_tree, expression_tree, lvalue_tree, order_tree}
-use Rattle.qs_typed.specs.declared.expressions.Expression.{Expression}
-use Rattle.qs_typed.specs.declared.expressions.Lvalue.{Lvalue}
+use Rattle.qs_typed.specs.TreeOf.{conversion_tree, order_tree}
 use Rattle.qs_typed.specs.declared.operations.Operated.{Operated}
 
 -- 6.3.1.3, 6.3.2.3
@@ -54,7 +52,7 @@ stepped_by t l o =
     forms.step (trees.update (scalar_of t) l o.operation o.left o.right (between o.scalar (scalar_of t)) (trees.constant scalars.Int 1))
     (trees.stepped_after (scalar_of t) l o.operation o.left (between o.scalar (scalar_of t)))
 
--- ---- the same of types and lvalues in code
+-- ---- the same of types in code
 
 -- what is done at two types
 abbrev pub IsOperation : (TypeTree → TypeTree → operations.Operated) → (t u : CType) → Operated → Type 0
@@ -63,9 +61,3 @@ IsOperation operation t u o = operated_tree o ≡ in_scalars (operation (type_tr
 -- .. where anything is
 abbrev pub GivesOperation : {E : Type 0} → (TypeTree → TypeTree → Option operations.Operated) → (t u : CType) → Result Operated E → Type 0
 GivesOperation operation t u result = Gives operated_tree (option_map in_scalars (operation (type_tree t) (type_tree u))) result
-
-abbrev pub updated_tree : (t : CType) → Lvalue → Operated → Expression → forms.Form
-updated_tree t l o value = updated_by (type_tree t) (lvalue_tree l) (operated_tree o) (expression_tree value)
-
-abbrev pub stepped_tree : (t : CType) → Lvalue → Operated → forms.Form
-stepped_tree t l o = stepped_by (type_tree t) (lvalue_tree l) (operated_tree o)

@@ -1,13 +1,8 @@
 // Assignments and steps (C11 6.5.16, 6.5.2.4, 6.5.3.1).
-ghost use Rattle.std.specs.Prelude.{◌≡◌, IfOk};
-ghost use Rattle.qs_types.specs.TypeOf.{type_tree};
-ghost use Rattle.qs_typed.specs.TreeOf.{expression_tree, lvalue_tree};
 ghost use Rattle.qs_meaning.specs.Expressions.{assign_form, compound_form, one, plain_form};
 ghost use Rattle.qs_meaning.specs.Expressions.{set_form, step_after_form, step_form, struct_form};
 ghost use Rattle.qs_types.specs.EnvOf.{env_tree};
-ghost use Rattle.qs_typed.specs.FormOf.{Combines, IsForm, form_tree, typed_tree};
-ghost use Rattle.qs_typed.specs.Parts.{operated_tree, stepped_by, updated_by};
-ghost use Rattle.qs_typed.specs.Results.{Makes};
+ghost use Rattle.qs_typed.specs.FormOf.{Combines, IsForm, Steps, Updates, typed_tree};
 
 use crate::expressions::{Assignment, Expression, Lvalue};
 use crate::forms::{Form, Step, Typed, type_in_use, value_in_use};
@@ -72,7 +67,7 @@ fn updated(
     o: Operated,
     value: Expression,
 ) -> Result<Form, NoMemory>
-    ensures { IfOk result (λ f. form_tree f ≡ updated_by (type_tree t.now) (lvalue_tree lvalue) (operated_tree o) (expression_tree value)) }
+    ensures { Updates t.now lvalue o value result }
 {
     let scalar = scalar_of(t);
     Ok(Form::Assignment(Box::new(
@@ -153,7 +148,7 @@ fn step_before_form(
 
 /// What `a++` writes, and the value before, by the operation.
 fn stepped(alloc: Global, t: &CType, lvalue: Lvalue, o: Operated) -> Result<Form, NoMemory>
-    ensures { IfOk result (λ f. form_tree f ≡ stepped_by (type_tree t.now) (lvalue_tree lvalue) (operated_tree o)) }
+    ensures { Steps t.now lvalue o result }
 {
     let scalar = scalar_of(t);
     Ok(Form::Step(Box::new(

@@ -1,10 +1,10 @@
 -- Layouts stay where a struct is declared, and where one is given its members.
-use Rattle.std.proofs.Common.{◌≡◌, ◌<◌, ◌⊎◌, inl, inr, ℕ, zero, suc, Bool, true, false, List, [], ◌∷◌, ◌++◌, Option, Some, None, is_some, map, option_map, slice_set, length, refl, sym, ap, ◌∙◌, subst, arith, Bor, if◌then◌else◌}
+use Rattle.std.proofs.Common.{◌≡◌, ◌<◌, ◌⊎◌, inl, inr, ℕ, zero, suc, Bool, true, false, List, [], ◌∷◌, ◌++◌, Option, Some, None, is_some, map, option_map, slice_set, refl, sym, ap, ◌∙◌, subst, arith, Bor, if◌then◌else◌}
 use Rattle.std.specs.Prelude.{option_copied}
 use Rattle.std.specs.List.{ItemBy}
-use Rattle.std.proofs.lemmas.Option.{slice_get_past, slice_get-get_or, slice_get_within}
+use Rattle.std.proofs.lemmas.Option.{slice_get_past, slice_get-get_or}
 use Rattle.std.specs.List.{slice_get}
-use Rattle.std.proofs.lemmas.List.{map-append, map-set, length-map}
+use Rattle.std.proofs.lemmas.List.{map-append, map-set}
 use Rattle.std.specs.Map.{values_of}
 use Rattle.std.proofs.Math.Path.{fun_ext}
 use Rattle.qs_types.specs.Types.{MemberTree, Structs}
@@ -217,9 +217,6 @@ item xs k None h = sym (slice_get_past xs k h.3)
 item xs k (Some x) h = sym (slice_get-get_or xs k x.now h.3.0 ∙ ap Some (sym h.1))
 
 -- ---- one struct given its members
-
-pub declared_within : (items : List StructType) (k : ℕ) → slice_get (structs_tree items) k ≡ Some None → k < length items
-declared_within items k fresh = let e = length-map items struct_tree in let h = slice_get_within (structs_tree items) k None fresh in omega arith
 
 types_of_members : (es : List (List ℕ × CType)) → member_types (map member_tree es) ≡ map type_tree (values_of es)
 types_of_members [] = refl

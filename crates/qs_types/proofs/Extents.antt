@@ -58,10 +58,6 @@ extents_aligned layouts h (t ∷ ts) es p =
     subst Aligned (same (w.value ∷ r.value) es r.gave)
     (one_more w.value r.value (extent_aligned layouts h t w.value w.had).alignment (extents_aligned layouts h ts r.value r.had))
 
-positive : {a : ℕ} → IsAlignment a → 1 ≤ a
-positive (inl e) = omega arith
-positive (inr e) = omega arith
-
 layout_aligned : (es : List Extent) → Aligned es → IsAligned (struct_extent (struct_layout es))
 layout_aligned es h = let l = lays_out es h in record { alignment = l.alignment; multiple = l.multiple }
 

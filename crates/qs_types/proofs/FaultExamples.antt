@@ -9,7 +9,7 @@ use Rattle.qs_syntax.specs.declared.operators.AssignmentOperator.TheVariants as 
 use Rattle.qs_syntax.specs.declared.operators.Access.TheVariants as accesses
 use Rattle.qs_syntax.specs.declared.types.Base.{Base}
 use Rattle.qs_syntax.specs.declared.types.Base.TheVariants as bases
-use Rattle.qs_syntax.specs.Trees.{unnumbered, ExprTree, StmtTree, DeclTree, LengthsTree, ParameterTree, structure, function, stmts_of, initialisers_of, no_start, start_declaration, no_else}
+use Rattle.qs_syntax.specs.Trees.{unnumbered, ExprTree, StmtTree, DeclTree, LengthsTree, ParameterTree, structure, function, stmts_of, no_start, start_declaration, no_else}
 use Rattle.qs_syntax.specs.Trees as trees
 use Rattle.qs_types.specs.declared.rules.Rule.TheVariants as rules
 use Rattle.qs_types.specs.declared.rules.Rule.{Rule}

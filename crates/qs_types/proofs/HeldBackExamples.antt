@@ -2,7 +2,7 @@
 use Rattle.std.proofs.Common.{◌≡◌, false, List, [], ◌∷◌, None, Some, refl}
 use Rattle.qs_syntax.specs.declared.operators.BinaryOperator.TheVariants as binaries
 use Rattle.qs_syntax.specs.declared.types.Base.TheVariants as bases
-use Rattle.qs_syntax.specs.Trees.{unnumbered, structure, DeclTree, DeclaratorTree, LengthsTree, initialisers_of}
+use Rattle.qs_syntax.specs.Trees.{unnumbered, structure, DeclTree, DeclaratorTree, initialisers_of}
 use Rattle.qs_syntax.specs.Trees as trees
 use Rattle.qs_types.specs.declared.rules.Rule.TheVariants as rules
 use Rattle.qs_types.specs.GivenFunctions.{main_name}

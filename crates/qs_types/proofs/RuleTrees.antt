@@ -2,7 +2,7 @@
 use Rattle.std.proofs.Common.{ℕ, true, false, List, [], ◌∷◌, Option, Some, None}
 use Rattle.qs_syntax.specs.declared.types.Base.{Base}
 use Rattle.qs_syntax.specs.declared.types.Base.TheVariants as bases
-use Rattle.qs_syntax.specs.Trees.{unnumbered, ExprTree, expr, ShapeTree, exprs_of, LengthsTree, DeclaratorTree, InitialiserTree, initialisers_of, StmtTree, stmts_of, no_else, DeclTree, structure, forward, function, variables, UnitTree}
+use Rattle.qs_syntax.specs.Trees.{unnumbered, ExprTree, expr, ShapeTree, exprs_of, LengthsTree, DeclaratorTree, InitialiserTree, initialisers_of, StmtTree, stmts_of, DeclTree, structure, forward, function, variables, UnitTree}
 use Rattle.qs_syntax.specs.Trees as trees
 use Rattle.qs_syntax.specs.Numbering.{numbered_unit}
 use Rattle.qs_types.specs.declared.rules.Rule.{Rule}
@@ -89,10 +89,6 @@ g ss = body bases.Void (103 ∷ []) [] ss
 
 abbrev pub eval : ExprTree → StmtTree
 eval v = trees.expression (unnumbered 0) v
-
--- several variables of file scope
-abbrev pub variable : ℕ → ℕ → LengthsTree → Option InitialiserTree → trees.VariableTree
-variable stars name lengths i = record { declarator = declarator stars name lengths; initialiser = i }
 
 abbrev pub f_name : List ℕ
 f_name = 102 ∷ []

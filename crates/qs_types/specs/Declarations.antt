@@ -1,7 +1,7 @@
 -- The types that declarations give (C11 6.7), and the rules that their nodes keep.
 use Rattle.std.specs.Prelude.{ℕ, suc, ◌+◌, Bool, true, false, not, ◌&&◌, ◌||◌, List, [], ◌∷◌, ◌++◌, Option, Some, None, is_some, length, option_map, if◌then◌else◌}
 use Rattle.qs_syntax.specs.declared.types.Base.{Base}
-use Rattle.qs_syntax.specs.Trees.{ExprTree, expr, ShapeTree, LengthsTree, DeclaratorTree, InitialiserTree, Initialisers, no_initialisers, initialiser_and, VariableTree, ParameterTree}
+use Rattle.qs_syntax.specs.Trees.{ExprTree, expr, LengthsTree, DeclaratorTree, InitialiserTree, Initialisers, no_initialisers, initialiser_and, VariableTree, ParameterTree}
 use Rattle.qs_syntax.specs.Trees as trees
 use Rattle.qs_types.specs.Types.{TypeTree, void, pointer, array}
 use Rattle.qs_types.specs.Layout.{and_then, is_complete, is_sized}

@@ -3,7 +3,7 @@ use Rattle.std.specs.Prelude.{◌≡◌, ◌≤◌, ◌<◌, ℕ, ◌+◌, ◌%�
 use Rattle.std.specs.List.{slice_get}
 use Rattle.qs_types.specs.declared.extent.Extent.{Extent}
 use Rattle.qs_types.specs.Types.{TypeTree, MemberTree, Structs}
-use Rattle.qs_types.specs.Layout.{StructLayout, layout_of, extent_of, extents_by, struct_of, member_types, rounded_up}
+use Rattle.qs_types.specs.Layout.{StructLayout, layout_of, extent_of, extents_by, struct_of, member_types, rounded_up, size_limit}
 
 -- the least multiple of the alignment that isn't below n
 pub record IsLeastMultiple (alignment n r : ℕ) : Type 0 where
@@ -22,7 +22,7 @@ IsAlignment a = (a ≡ 1) ⊎ (a ≡ 4)
 pub record IsSmall (e : Extent) : Type 0 where
   pub positive : 1 ≤ e.alignment
   pub strictest : e.alignment ≤ 4
-  pub size : e.size ≤ 16777216
+  pub size : e.size ≤ size_limit
 
 -- the member number i takes this, and lies at this offset
 pub record Lies (es : List Extent) (l : StructLayout) (i : ℕ) (e : Extent) (offset : ℕ) : Type 0 where

@@ -10,7 +10,7 @@ use Rattle.qs_types.specs.Layout.{and_then, member_types, rounded_up, layout_of,
 use Rattle.qs_types.specs.declared.rules.Rule.TheVariants as rules
 use Rattle.qs_types.specs.declared.rules.Rule.{Rule}
 use Rattle.qs_types.specs.Rules.{same_rule, Test, test, keeps, Fault, faults_of}
-use Rattle.qs_types.specs.Contexts.{Entity, local_variable, file_variable, given, Binding, Context, start_context, lookup, tag_place, base_type, starred_type, is_void_base, with_name, inner_scope, is_declared_here}
+use Rattle.qs_types.specs.Contexts.{Entity, local_variable, file_variable, given, Context, start_context, lookup, tag_place, base_type, starred_type, is_void_base, with_name, inner_scope, is_declared_here}
 use Rattle.qs_types.specs.Contexts as contexts
 use Rattle.qs_types.specs.GivenFunctions.{Signature, main_name}
 use Rattle.qs_types.specs.Expressions.{type_or_void, member_in}

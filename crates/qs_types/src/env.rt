@@ -1,5 +1,5 @@
 // The structs of a unit.
-ghost use Rattle.std.specs.Prelude.{◌≡◌, ℕ, map, is_some};
+ghost use Rattle.std.specs.Prelude.{◌≡◌, ℕ, map};
 ghost use Rattle.qs_types.specs.Layout.{layout_of};
 ghost use Rattle.qs_types.specs.StructsOf.{structs_tree, kept_layouts, has_members, has_layout};
 

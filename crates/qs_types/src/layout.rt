@@ -2,7 +2,7 @@
 ghost use Rattle.std.specs.Prelude.{◌≡◌, ◌≤◌, ◌<◌, ◌+◌, ◌^◌, true, Some, IfOk, IfSome, is_some};
 ghost use Rattle.qs_types.specs.Layout.{array_extent, extent_within, sized_by, struct_extent};
 ghost use Rattle.qs_types.specs.Layout.{alignment_of, is_complete, is_sized, layout_of, offset_of};
-ghost use Rattle.qs_types.specs.Layout.{rounded_up, size_of};
+ghost use Rattle.qs_types.specs.Layout.{rounded_up, size_limit, size_of};
 ghost use Rattle.qs_types.specs.LayoutLaws.{IsSmall};
 ghost use Rattle.qs_types.specs.TypeOf.{type_tree};
 ghost use Rattle.qs_types.specs.StructsOf.{layout_tree};
@@ -63,7 +63,7 @@ fn scalar(size: u32) -> Option<Extent>
 }
 
 fn array(element: Extent, length: u32) -> Option<Extent>
-    requires { element.size ≤ 16777216 }
+    requires { element.size ≤ size_limit }
     ensures { result ≡ extent_within (array_extent element length) }
 {
     let size = u64::from(element.size) * u64::from(length);

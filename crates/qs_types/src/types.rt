@@ -1,5 +1,5 @@
 // Types (C11 6.2.5).
-ghost use Rattle.std.specs.Prelude.{◌≡◌, ◌↔◌, IfOk, IsTrue};
+ghost use Rattle.std.specs.Prelude.{◌≡◌, IfOk};
 ghost use Rattle.qs_types.specs.Types.{same_type};
 ghost use Rattle.qs_types.specs.TypeOf.{type_tree};
 

@@ -1,26 +1,12 @@
 -- The places of declarations, the latest first, and what they stand for.
-use Rattle.std.proofs.Common.{◌≡◌, ◌==◌, ◌&&◌, ℕ, zero, suc, ◌+◌, ◌-◌, ◌<◌, ◌≤◌, Bool, true, false, List, [], ◌∷◌, ◌++◌, Option, Some, None, map, length, reverse, take, drop, get_or, refl, sym, ap, ◌∙◌, arith, if◌then◌else◌, cond}
-use Rattle.std.specs.Option.{option_eq}
-use Rattle.std.specs.Map.{lookup as lookup_entry}
-use Rattle.std.specs.Cmp.{first_so, second_so}
-use Rattle.std.specs.Cmp.Lexicographic.{pointwise_decides}
-use Rattle.std.proofs.lemmas.Bool.Decides.{Decides-eqb}
-use Rattle.std.proofs.lemmas.List.{take-append-drop, reverse-append, length-reverse, get_or-reverse, map-append, length-append, length-map, length-take-le, take_all}
+use Rattle.std.proofs.Common.{◌≡◌, ℕ, zero, suc, ◌+◌, ◌-◌, ◌<◌, ◌≤◌, Bool, true, false, List, [], ◌∷◌, ◌++◌, Option, Some, None, map, length, reverse, take, drop, get_or, refl, sym, ap, ◌∙◌, arith, if◌then◌else◌}
+use Rattle.std.proofs.lemmas.List.{take-append-drop, reverse-append, length-reverse, get_or-reverse, map-append, length-append, length-take-le, take_all}
 use Rattle.std.proofs.Math.Seq.{take-length}
 use Rattle.qs_syntax.specs.Sameness.{same_bytes}
-use Rattle.qs_types.specs.Layout.{and_then}
 use Rattle.qs_types.specs.Contexts.{lookup}
 use Rattle.qs_typing.specs.declared.entity.Binding.{Binding}
 use Rattle.qs_typing.specs.EntityOf.{entity_tree}
-use Rattle.qs_typing.specs.Bindings.{binding_tree, newest_first, place_in, latest_place, hide_right}
-
--- ---- names
-
-same_is : (x y : List ℕ) → same_bytes x y ≡ true → x ≡ y
-same_is x y = (pointwise_decides Decides-eqb x y).0
-
-pub same_self : (x : List ℕ) → same_bytes x x ≡ true
-same_self x = (pointwise_decides Decides-eqb x x).1 refl
+use Rattle.qs_typing.specs.Bindings.{binding_tree, newest_first, place_in}
 
 -- ---- places
 
@@ -149,89 +135,7 @@ pub entered : (items : List Binding) (n len : ℕ) → len ≡ length items
     → map binding_tree (newest_first (take len items)) ≡ map binding_tree (newest_first (drop n items)) ++ map binding_tree (newest_first (take n items))
 entered items n len e = ap (λ m. map binding_tree (newest_first (take m items))) e ∙ ap (λ l. map binding_tree (newest_first l)) (take-length items) ∙ sym (together items n)
 
-take_of_front : (items : List Binding) (n m : ℕ) → n ≤ m → take n (take m items) ≡ take n items
-take_of_front items zero m h = refl
-take_of_front [] (suc n) (suc m) h = refl
-take_of_front [] (suc n) zero h = absurd (omega arith)
-take_of_front (b ∷ items) (suc n) zero h = absurd (omega arith)
-take_of_front (b ∷ items) (suc n) (suc m) h = ap (λ l. b ∷ l) (take_of_front items n m (omega arith))
-
--- the declarations of the scopes around stay where the latest one is forgotten
-pub forgets : (items after : List Binding) (n : ℕ) → n < length items → after ≡ take (length items - 1) items → take n after ≡ take n items
-forgets items after n h e = ap (take n) e ∙ take_of_front items n (length items - 1) (omega arith)
-
-pub forgets_one : (items after : List Binding) → 0 < length items → after ≡ take (length items - 1) items → length after < length items
-forgets_one items after h e =
-    let n : length after ≡ length items - 1 = ap length e ∙ length-take-le (length items - 1) items (omega arith) in
-    omega arith
-
 -- where all of a scope is forgotten, those around it are left
 pub left : (items before : List Binding) (n k : ℕ) → take n items ≡ take n before → length items ≤ n
     → map binding_tree (newest_first (drop k items)) ++ map binding_tree (newest_first (take k items)) ≡ map binding_tree (newest_first (take n before))
 left items before n k e h = together items k ∙ ap (λ l. map binding_tree (newest_first l)) (sym (take_all n items h) ∙ e)
-
-outer_length : (items : List Binding) (n : ℕ) → n ≤ length items → length (map binding_tree (newest_first (take n items))) ≡ n
-outer_length items n h = length-map (newest_first (take n items)) binding_tree ∙ length_of_outer items n h
-
--- a scope begins behind as many names as stand outside of it
-pub begins : (items : List Binding) (n : ℕ) → n ≤ length items → n ≡ length (map binding_tree (newest_first (take n items)))
-begins items n h = sym (outer_length items n h)
-
-pub left_begins : (items before : List Binding) (n k : ℕ) → n ≤ length before → take n items ≡ take n before → length items ≤ n → k ≤ length (map binding_tree (newest_first (take n before)))
-    → length (map binding_tree (newest_first (take k items))) ≡ k
-left_begins items before n k h e m low =
-    let a : length (take n items) ≡ n = ap length e ∙ length-take-le n before h in
-    let b : take n items ≡ items = take_all n items m in
-    let d : length items ≡ n = sym (ap length b) ∙ a in
-    let f = outer_length before n h in
-    outer_length items k (omega arith)
-
--- ---- one declaration more
-
-pub pushed : (items : List Binding) (b : Binding) → newest_first (items ++ b ∷ []) ≡ b ∷ newest_first items
-pushed items b = reverse-append items (b ∷ [])
-
--- what a map has after a name was given a place
-abbrev pub IsKept : List (List ℕ × Option ℕ) → List ℕ → Option ℕ → List (List ℕ × Option ℕ) → Type 0
-IsKept before name place after = (q : List ℕ) → lookup_entry (same_bytes q) after ≡ cond (same_bytes name q) (Some place) (lookup_entry (same_bytes q) before)
-
-pub declared_places : (before after : List (List ℕ × Option ℕ)) (bs : List Binding) (b : Binding) (place : ℕ) → ((x : List ℕ) → latest_place before x ≡ place_in x bs) → IsKept before b.name (Some place) after → place ≡ length bs
-    → (x : List ℕ) → latest_place after x ≡ place_in x (b ∷ bs)
-declared_places before after bs b place old kept e x = ap (λ o. and_then o (λ p. p)) (kept x) ∙ by (same_bytes b.name x)
-  where
-    by : (t : Bool) → and_then (cond t (Some (Some place)) (lookup_entry (same_bytes x) before)) (λ p. p) ≡ (if t then Some (length bs) else place_in x bs)
-    by true = ap Some e
-    by false = old x
-
-pub forgotten_places : (before after : List (List ℕ × Option ℕ)) (bs : List Binding) (b : Binding) → ((x : List ℕ) → latest_place before x ≡ place_in x (b ∷ bs)) → IsKept before b.name b.hidden after → b.hidden ≡ place_in b.name bs
-    → (x : List ℕ) → latest_place after x ≡ place_in x bs
-forgotten_places before after bs b old kept e x = ap (λ o. and_then o (λ p. p)) (kept x) ∙ by (same_bytes b.name x) refl
-  where
-    by : (t : Bool) → same_bytes b.name x ≡ t → and_then (cond t (Some b.hidden) (lookup_entry (same_bytes x) before)) (λ p. p) ≡ place_in x bs
-    by true s = e ∙ ap (λ y. place_in y bs) (same_is b.name x s)
-    by false s = old x ∙ ap (λ t. if t then Some (length bs) else place_in x bs) s
-
--- the latest declaration has a place
-pub has_place : (entries : List (List ℕ × Option ℕ)) (bs : List Binding) (b : Binding) → ((x : List ℕ) → latest_place entries x ≡ place_in x (b ∷ bs)) → lookup_entry (same_bytes b.name) entries ≡ None → ⊥
-has_place entries bs b old none =
-    let e : None ≡ Some (length bs) = ap (λ o. and_then o (λ p. p)) (sym none) ∙ old b.name ∙ ap (λ t. if t then Some (length bs) else place_in b.name bs) (same_self b.name) in
-    cc
-
-option_self : (o : Option ℕ) → option_eq ◌==◌ o o ≡ true
-option_self None = refl
-option_self (Some n) = (Decides-eqb n n).1 refl
-
-option_is : (o p : Option ℕ) → option_eq ◌==◌ o p ≡ true → o ≡ p
-option_is None None h = refl
-option_is (Some n) (Some m) h = ap Some ((Decides-eqb n m).0 h)
-option_is None (Some m) h = absurd (cc)
-option_is (Some n) None h = absurd (cc)
-
-pub hides : (b : Binding) (bs : List Binding) → hide_right (b ∷ bs) ≡ true → b.hidden ≡ place_in b.name bs
-hides b bs h = option_is b.hidden (place_in b.name bs) (first_so (option_eq ◌==◌ b.hidden (place_in b.name bs)) (hide_right bs) h)
-
-pub rest_hide : (b : Binding) (bs : List Binding) → hide_right (b ∷ bs) ≡ true → hide_right bs ≡ true
-rest_hide b bs h = second_so (option_eq ◌==◌ b.hidden (place_in b.name bs)) (hide_right bs) h
-
-pub all_hide : (b : Binding) (bs : List Binding) → b.hidden ≡ place_in b.name bs → hide_right bs ≡ true → hide_right (b ∷ bs) ≡ true
-all_hide b bs e h = ap (λ o. option_eq ◌==◌ o (place_in b.name bs) && hide_right bs) e ∙ ap (λ t. t && hide_right bs) (option_self (place_in b.name bs)) ∙ h

@@ -22,7 +22,7 @@ use Rattle.qs_typing.specs.UnitNodes.{of_option, of_lengths, of_declarator, of_d
 use Rattle.qs_typing.specs.NodeReferents.{no_referent, unit_referents}
 use Rattle.qs_typing.specs.Noted.{parameters_noted}
 use Rattle.qs_typing.specs.UnitWalk as walks
-use Rattle.qs_typing.specs.UnitWalk.{WalkTree, node_opened, object_opened, declarator_walked, node_judged, site_walked, expr_walked, option_walked, lengths_walked, initialiser_walked, elements_walked, option_initialiser_walked, variable_walk_noted, variable_walked, variables_walked, start_walked, condition_walked, statement_walked, statements_walked, else_walked, member_walked, together_walked, members_walked, struct_walked, parameter_walked, parameters_walked, body_walked, function_walked, declaration_walked, declarations_walked, unit_walked, start_walk}
+use Rattle.qs_typing.specs.UnitWalk.{WalkTree, node_opened, object_opened, declarator_walked, node_judged, site_walked, expr_walked, option_walked, lengths_walked, initialiser_walked, elements_walked, option_initialiser_walked, variable_walk_noted, variable_walked, variables_walked, start_walked, condition_walked, statement_walked, statements_walked, else_walked, member_walked, together_walked, members_walked, parameters_walked, body_walked, declaration_walked, declarations_walked, unit_walked, start_walk}
 
 -- a walk finds that names stand for these, behind those before
 pub record Names (f : WalkTree → WalkTree) (rs : List (Option Referent)) : Type 0 where

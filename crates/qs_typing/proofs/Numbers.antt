@@ -24,9 +24,6 @@ itself node declared = node
 abbrev own_node : Context → ExprTree → Node
 own_node c e = node_of e
 
-two : {X : Type 0} (a b c d : List X) → a ≡ b → c ≡ d → a ++ c ≡ b ++ d
-two a b c d p q = λ i. p i ++ q i
-
 option_nodes_of : (c : Context) (e : Option ExprTree) → option_nodes expr_nodes e ≡ of_option itself own_node c e
 option_nodes_of c None = refl
 option_nodes_of c (Some e) = expr_aligned e

@@ -4,7 +4,7 @@ use Rattle.qs_types.specs.declared.limits.LimitKind.TheVariants as kinds
 use Rattle.qs_syntax.specs.declared.operators.BinaryOperator.TheVariants as binaries
 use Rattle.qs_syntax.specs.declared.types.Base.TheVariants as bases
 use Rattle.qs_syntax.specs.Numbering.{numbered_unit}
-use Rattle.qs_syntax.specs.Trees.{unnumbered, ExprTree, expr, ShapeTree, LengthsTree, StmtTree, DeclTree, UnitTree}
+use Rattle.qs_syntax.specs.Trees.{unnumbered, ExprTree, StmtTree, DeclTree, UnitTree}
 use Rattle.qs_syntax.specs.Trees as trees
 use Rattle.qs_types.specs.declared.rules.Rule.TheVariants as rules
 use Rattle.qs_types.specs.GivenFunctions.{main_name}

@@ -1,5 +1,5 @@
 -- The walk over an expression finds what the definitions say.
-use Rattle.std.proofs.Common.{◌≡◌, ℕ, ◌<◌, List, [], ◌∷◌, ◌++◌, Option, Some, None, refl, sym, ap, ◌∙◌, length, append_assoc, append-nil, length-append, slice_set, arith, rules, if◌then◌else◌, true, false}
+use Rattle.std.proofs.Common.{◌≡◌, ℕ, ◌<◌, List, [], ◌∷◌, ◌++◌, Option, None, refl, sym, ap, ◌∙◌, length, append_assoc, append-nil, length-append, slice_set, arith, rules, if◌then◌else◌, true, false}
 use Rattle.std.proofs.Math.Seq.{set-append_seam}
 use Rattle.qs_syntax.specs.Trees.{ExprTree, expr, ShapeTree, Exprs, no_exprs, expr_and}
 use Rattle.qs_syntax.specs.Trees as trees
@@ -10,13 +10,12 @@ use Rattle.qs_types.specs.Types.{TypeTree}
 use Rattle.qs_types.specs.Rules.{Test, Fault, faults_of}
 use Rattle.qs_types.specs.Contexts.{Context}
 use Rattle.qs_types.specs.Expressions.{Judged, type_of, shape_judged}
-use Rattle.qs_types.specs.Layout.{and_then}
 use Rattle.qs_types.specs.ExpressionFaults.{Position, used, discarded, whole, operand_position, assigned_position, object_position, right_position, position_tests, own_tests}
 use Rattle.qs_types.specs.Placed.{operand_of, named_local}
 use Rattle.qs_typing.specs.declared.entity.Referent.{Referent}
 use Rattle.qs_typing.specs.Findings.{FoundTree, Findings, least_with, judged_at, with_findings, both}
 use Rattle.qs_typing.specs.ExprFindings.{shape_referent, expr_findings, part_findings, all_findings}
-use Rattle.qs_typing.specs.PartsOf.{joined, one_more, type_by}
+use Rattle.qs_typing.specs.PartsOf.{type_by}
 use Rattle.qs_typing.specs.Walk.{opened, filled, with_addressed, walked, parts_walked, all_walked}
 use Rattle.qs_typing.proofs.Least.{least_swaps, least_with-append}
 
@@ -174,19 +173,3 @@ node_walked c p node shape f made parts settled after r j t at place named opens
     fills ∙ (λ i. filled at (type i) (done i))
     ∙ ap (λ g. judged_at node.id (position_tests p shape (type_of c (expr node shape))) (judged_at node.id (own_tests (shape_judged c shape)) g))
     (filled_parts c p shape (shape_referent c shape) f (type_of c (expr node shape)) at place)
-
--- ---- arguments
-
-pub none_before : (o : Option (List TypeTree)) → joined (Some []) o ≡ o
-none_before None = refl
-none_before (Some ts) = refl
-
-pub none_behind : (o : Option (List TypeTree)) → joined o (Some []) ≡ o
-none_behind None = refl
-none_behind (Some ts) = ap Some (append-nil ts)
-
-pub one_behind : (o rest : Option (List TypeTree)) (t : Option TypeTree) → joined o (and_then t (λ t. and_then rest (λ ts. Some (t ∷ ts)))) ≡ joined (one_more o t) rest
-one_behind None rest t = refl
-one_behind (Some ts) rest None = refl
-one_behind (Some ts) None (Some t) = refl
-one_behind (Some ts) (Some us) (Some t) = ap Some (sym (append_assoc ts (t ∷ []) us))

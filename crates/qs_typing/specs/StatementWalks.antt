@@ -1,5 +1,5 @@
 -- How walks in code go over statements, as the definitions say.
-use Rattle.std.specs.Prelude.{◌≡◌, Bool, List, Option, Box, map, option_to_list}
+use Rattle.std.specs.Prelude.{◌≡◌, Bool, List, Option, Result, Box, OnOk, map, option_to_list}
 use Rattle.std.specs.Borrow.{Bor}
 use Rattle.std.specs.declared.alloc.Global.{Global}
 use Rattle.qs_syntax.specs.declared.expressions.Expr.{Expr}
@@ -127,7 +127,10 @@ abbrev pub WalksDo : Context → Node → Stmt → Expr → (before after : Walk
 WalksDo c node s e before after =
     walk_tree after ≡ walks.statement_walked (context_tree c) (do_loop node (stmt_tree s) (expr_tree e)) (walk_tree before)
 
-abbrev pub WalksFor : Context → Node → Start → (condition step : Option Expr) → Stmt → (before after : Walk) → Type 0
-WalksFor c node start condition step s before after =
-    walk_tree after
-    ≡ walks.statement_walked (context_tree c) (for_loop node (start_tree start) (option_tree condition) (option_tree step) (stmt_tree s)) (walk_tree before)
+-- .. where no memory is wanting
+abbrev pub WalksFor :
+    {A E : Type 0} → Context → Node → Start → (condition step : Option Expr) → Stmt → (before after : Walk) → Result A E → Type 0
+WalksFor c node start condition step s before after result =
+    OnOk result
+    (walk_tree after
+    ≡ walks.statement_walked (context_tree c) (for_loop node (start_tree start) (option_tree condition) (option_tree step) (stmt_tree s)) (walk_tree before))

@@ -190,17 +190,13 @@ fn settle(
     ensures typed { option_type result ≡ type_by (option_judged judged) }
     ensures found { Settles node p shape.now judged found.old found.new }
 {
-    match judged {
-        None => None,
-        Some(Judged { tests, of }) => {
-            if found.judge(node, &tests) {
-                return None;
-            }
-            let broken = is_misplaced(p, shape, &of);
-            found.judge(node, &[violates(Rule::MisplacedValue, broken)]);
-            Some(of)
-        }
+    let Judged { tests, of } = judged?;
+    if found.judge(node, &tests) {
+        return None;
     }
+    let broken = is_misplaced(p, shape, &of);
+    found.judge(node, &[violates(Rule::MisplacedValue, broken)]);
+    Some(of)
 }
 
 #[cycle(walk)]

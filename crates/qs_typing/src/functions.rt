@@ -1,14 +1,8 @@
 // Functions (C11 6.7.6.3, 6.9.1).
-ghost use Rattle.std.specs.Prelude.{◌≡◌, ◌∷◌, ◌++◌, [], Some, IfOk, OnOk, map, option_map};
-ghost use Rattle.std.specs.Prelude.{option_to_list, if◌then◌else◌};
+ghost use Rattle.std.specs.Prelude.{◌≡◌, Some, IfOk, OnOk, map, option_map};
 ghost use Rattle.std.specs.List.{list_all};
-ghost use Rattle.qs_syntax.specs.TreeOf.{function_tree, parameter_tree, stmts_tree};
-ghost use Rattle.qs_types.specs.Contexts.{inner_scope};
-ghost use Rattle.qs_types.specs.declared.rules.Rule.TheVariants as rule;
-ghost use Rattle.qs_types.specs.Declarations as declarations;
-ghost use Rattle.qs_types.specs.EnvOf.{env_tree};
+ghost use Rattle.qs_syntax.specs.TreeOf.{function_tree};
 ghost use Rattle.qs_types.specs.Expressions.{type_or_void};
-ghost use Rattle.qs_types.specs.Rules.{test};
 ghost use Rattle.qs_types.specs.Types.{is_struct};
 ghost use Rattle.qs_types.specs.TypeOf.{type_tree};
 ghost use Rattle.qs_types.specs.UnitRules as rules;
@@ -24,14 +18,9 @@ ghost use Rattle.qs_typing.specs.FunctionWalks.{WalksDeclarator, WalksFunction, 
 ghost use Rattle.qs_typing.specs.FunctionWalks.{WalksParameter, WalksParameters, agrees_with};
 ghost use Rattle.qs_typing.specs.FunctionWalks.{are_lengths_typed, header_by};
 ghost use Rattle.qs_typing.specs.Declares.{IsParameter};
-ghost use Rattle.qs_typing.specs.EntityOf.{entity_tree, signature_tree};
-ghost use Rattle.qs_typing.specs.JudgedOf.{test_tree};
-ghost use Rattle.qs_typing.specs.Functions.{after_parameters, items_walked};
+ghost use Rattle.qs_typing.specs.EntityOf.{signature_tree};
 ghost use Rattle.qs_typing.specs.Noted.{parameters_noted};
-ghost use Rattle.qs_typing.specs.NotedOf.{local_tree};
 ghost use Rattle.qs_typing.specs.PartsOf.{types_tree};
-ghost use Rattle.qs_typing.specs.UnitWalk.{function_walked, parameter_walked, parameters_walked};
-ghost use Rattle.qs_typing.specs.WalkOf.{walk_tree};
 
 use crate::context::{Context, is_void_base};
 use crate::declared_types::{Declared, parameter_declared};

@@ -75,10 +75,7 @@ fn part_type<'a>(types: &'a Env, t: &'a CType, i: usize) -> Option<&'a CType>
 fn option_part<'a>(types: &'a Env, t: Option<&'a CType>, i: usize) -> Option<&'a CType>
     ensures { type_at result ≡ rules.option_part (env_tree types.now) (type_at t.entry) i }
 {
-    match t {
-        None => None,
-        Some(t) => part_type(types, t, i),
-    }
+    part_type(types, t?, i)
 }
 
 // ---- expressions

@@ -1,5 +1,6 @@
 // The members before a place of a struct (C11 6.7.2.1).
 ghost use Rattle.std.specs.Prelude.{◌≤◌};
+ghost use Rattle.qs_types.specs.Layout.{size_limit};
 
 mod methods;
 
@@ -15,5 +16,5 @@ pub struct MembersBefore {
     pub names: IndexSet<Name>,
     pub members: IndexMap<Name, CType>,
     pub end: u32,
-    ghost within: { end ≤ 16777216 },
+    ghost within: { end ≤ size_limit },
 }

@@ -2,7 +2,7 @@
 ghost use Rattle.std.specs.Prelude.{◌≡◌, ◌≤◌, IfOk, OnOk, map, option_map};
 ghost use Rattle.std.specs.Option.{option_or};
 ghost use Rattle.qs_types.specs.EnvOf.{env_tree};
-ghost use Rattle.qs_types.specs.Limits.{block_past, extent_size, type_size};
+ghost use Rattle.qs_types.specs.Limits.{block_past, type_size};
 ghost use Rattle.qs_types.specs.Placed.{is_no_scalar};
 ghost use Rattle.qs_types.specs.TypeOf.{type_tree};
 ghost use Rattle.qs_typing.specs.Noted as noted;
@@ -64,7 +64,7 @@ pub struct Noted {
 /// The size of a declared type, 0 where there is none.
 fn type_size(structs: &Env, t: &Option<CType>) -> u32
     ensures size { result ≡ type_size (env_tree structs.now) (option_map type_tree t.now) }
-    ensures small { result ≤ 16777216 }
+    ensures small { result ≤ size_limit }
 {
     match t {
         None => 0,

@@ -99,10 +99,7 @@ fn first_past_functions(alloc: Global, ds: &[Decl]) -> Result<Option<u32>, NoMem
 fn ninth_parameter(f: &Function) -> Option<u32>
     ensures { result ≡ limits.parameter_past limits.parameter_limit (function_tree f.now) }
 {
-    match f.parameters.get(PARAMETER_LIMIT) {
-        None => None,
-        Some(p) => Some(p.node.id),
-    }
+    Some(f.parameters.get(PARAMETER_LIMIT)?.node.id)
 }
 
 fn first_past_parameters(ds: &[Decl]) -> Option<u32>
@@ -216,10 +213,7 @@ fn first_undefined(
 fn limit(kind: LimitKind, node: Option<u32>) -> Option<TypeFault>
     ensures { result ≡ limit_fault kind node }
 {
-    match node {
-        None => None,
-        Some(node) => Some(TypeFault::Limit(kind, node)),
-    }
+    Some(TypeFault::Limit(kind, node?))
 }
 
 /// The first limit that is passed before the rules are looked at.

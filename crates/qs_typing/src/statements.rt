@@ -1,18 +1,9 @@
 // Statements (C11 6.8).
-ghost use Rattle.std.specs.Prelude.{◌≡◌, IfOk, OnOk, map, option_map, option_to_list};
-ghost use Rattle.qs_syntax.specs.TreeOf.{else_tree, expr_tree, option_tree, start_tree, stmt_tree};
-ghost use Rattle.qs_syntax.specs.TreeOf.{stmts_tree};
-ghost use Rattle.qs_syntax.specs.Trees.{return};
-ghost use Rattle.qs_types.specs.Contexts.{inner_scope, inside_loop};
-ghost use Rattle.qs_types.specs.Expressions.{type_of};
-ghost use Rattle.qs_types.specs.Layout.{and_then};
-ghost use Rattle.qs_types.specs.StatementRules as rules;
+ghost use Rattle.std.specs.Prelude.{◌≡◌, IfOk, OnOk, option_map};
+ghost use Rattle.qs_syntax.specs.TreeOf.{option_tree};
 ghost use Rattle.qs_types.specs.TypeOf.{type_tree};
 ghost use Rattle.qs_typing.specs.ContextOf.{context_tree};
-ghost use Rattle.qs_typing.specs.JudgedOf.{test_tree};
-ghost use Rattle.qs_typing.specs.PositionOf.{position_tree};
-ghost use Rattle.qs_typing.specs.Statements.{after_statements, head_tests_by, head_walked};
-ghost use Rattle.qs_typing.specs.Statements.{return_tests_by, typed_by};
+ghost use Rattle.qs_typing.specs.Statements.{typed_by};
 ghost use Rattle.qs_typing.specs.StatementWalks.{WalksDiscarded, WalksDo, WalksFor, WalksIf};
 ghost use Rattle.qs_typing.specs.StatementWalks.{WalksWhile, IsConditionTest, IsHeadTest};
 ghost use Rattle.qs_typing.specs.StatementWalks.{IsOptionType, IsReturnTest, IsReturned};
@@ -21,8 +12,6 @@ ghost use Rattle.qs_typing.specs.StatementWalks.{KnowsStatement, KnowsStatements
 ghost use Rattle.qs_typing.specs.StatementWalks.{WalksBody, WalksCondition, WalksElse, WalksHead};
 ghost use Rattle.qs_typing.specs.StatementWalks.{WalksOption, WalksPart, WalksReturn, WalksStart};
 ghost use Rattle.qs_typing.specs.StatementWalks.{WalksStatement, WalksStatements};
-ghost use Rattle.qs_typing.specs.UnitWalk as walks;
-ghost use Rattle.qs_typing.specs.WalkOf.{walk_tree};
 
 use crate::context::Context;
 use crate::judged::{Test, keeps};
@@ -42,10 +31,7 @@ use std::alloc::Global;
 fn condition_test(t: Option<CType>) -> Option<Test>
     ensures { IsConditionTest t result }
 {
-    match t {
-        None => None,
-        Some(t) => Some(keeps(Rule::TruthOperand, is_scalar(&decayed(t)))),
-    }
+    Some(keeps(Rule::TruthOperand, is_scalar(&decayed(t?))))
 }
 
 fn judge_option(node: Node, t: Option<Test>, walk: &mut Walk)
@@ -91,25 +77,19 @@ fn walk_option(
 fn returns(to: &CType, e: &Expr, t: Option<CType>) -> Option<Test>
     ensures { IsReturned to.now e.now t result }
 {
-    match t {
-        None => None,
-        Some(t) => {
-            let fits = !is_void(to) && is_assignable(to, e, &decayed(t));
-            Some(keeps(Rule::ReturnedType, fits))
-        }
-    }
+    let t = t?;
+    let fits = !is_void(to) && is_assignable(to, e, &decayed(t));
+    Some(keeps(Rule::ReturnedType, fits))
 }
 
 /// The test of a `return` of an expression of type `t` (C11 6.8.6.4p1).
 fn return_test(to: Option<&CType>, e: &Option<Expr>, t: Option<CType>) -> Option<Test>
     ensures { IsReturnTest to.entry e.now t result }
 {
-    match to {
-        None => None,
-        Some(to) => match e {
-            None => Some(keeps(Rule::ReturnedType, is_void(to))),
-            Some(e) => returns(to, e, t),
-        },
+    let to = to?;
+    match e {
+        None => Some(keeps(Rule::ReturnedType, is_void(to))),
+        Some(e) => returns(to, e, t),
     }
 }
 
@@ -319,20 +299,19 @@ fn walk_for(
     c: &mut Context,
     node: Node,
     start: &Start,
-    condition: &Option<Expr>,
+    e: &Option<Expr>,
     step: &Option<Expr>,
-    body: &Stmt,
+    s: &Stmt,
     walk: &mut Walk,
 ) -> Result<(), NoMemory>
     ensures context { OnOk result (context_tree c.new ≡ context_tree c.old) }
-    ensures walked { OnOk result
-        (WalksFor c.old node start.now condition.now step.now body.now walk.old walk.new) }
+    ensures walked { WalksFor c.old node start.now e.now step.now s.now walk.old walk.new result }
 {
     walk.open()?;
     let around = c.enter_scope();
     let start_typed = walk_start(alloc, c, start, walk)?;
-    walk_head(alloc, c, node, start_typed, condition, step, walk)?;
-    walk_body(alloc, c, body, walk)?;
+    walk_head(alloc, c, node, start_typed, e, step, walk)?;
+    walk_body(alloc, c, s, walk)?;
     c.leave_scope(around);
     Ok(())
 }

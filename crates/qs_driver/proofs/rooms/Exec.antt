@@ -1,5 +1,5 @@
 -- How `exec` comes to a machine and its input, and what it came to.
-use Rattle.std.proofs.Common.{◌≡◌, ◌∙◌, ℕ, ◌≤◌, List, [], ◌∷◌, Option, Some, None, Result, Ok, Err, refl, sym, ap, subst, inl, inr, arith}
+use Rattle.std.proofs.Common.{◌≡◌, ℕ, ◌≤◌, List, [], ◌∷◌, Option, Some, None, Result, Ok, Err, refl, sym, ap, subst, inl, inr, arith}
 use Rattle.std.specs.Prelude.{Vec}
 use Rattle.std.specs.declared.alloc.Global.{Global}
 use Rattle.qs_assert.specs.declared.define.Amount.{Amount}
@@ -7,7 +7,7 @@ use Rattle.qs_meaning.specs.Typed.{TypedProgram}
 use Rattle.qs_ports.specs.StoreView.{StoreView}
 use Rattle.qs_ports.specs.SinkView.{SinkView, Appends, IsCut}
 use Rattle.qs_image.specs.Image.{Image, IsImage}
-use Rattle.qs_image.proofs.Images.{reads}
+use Rattle.qs_image.proofs.Images.{reads, one_image}
 use Rattle.qs_machine.specs.Arguments.{AreArguments, words_of}
 use Rattle.qs_machine.specs.Run.{Outcome, Exited, Trapped as HasTrapped, Going, machine, start, output_so_far}
 use Rattle.qs_machine.specs.Running.{Shows}
@@ -44,9 +44,6 @@ use Rattle.qs_driver.proofs.LaterLaws.{both_untouched, unread_later, was_read_be
 use Rattle.qs_driver.proofs.StepsLaws.{due_of, put_goes_on, put_fails, log_last, then_log, out_fails}
 
 -- ---- the image in memory
-
-one_image : (bytes : List ℕ) (image other : Image) → IsImage bytes image → IsImage bytes other → image ≡ other
-one_image bytes image other is also = sym (reads bytes image is).1 ∙ (reads bytes other also).1
 
 -- where the arguments are those of the image, they have words
 pub lacks_none : (image : Image) (e : ExecWords) (status : Status) → AreArguments image e.args → LacksWords image e.args status → status ≡ NoMemory

@@ -205,10 +205,7 @@ impl Context {
     pub fn tag_place(&self, tag: &Name) -> Option<u32>
         ensures { result ≡ tag_place (context_tree self.now) tag.now }
     {
-        match tag_place(&self.tags, tag) {
-            Some(place) => Some(place as u32),
-            None => None,
-        }
+        Some(tag_place(&self.tags, tag)? as u32)
     }
 
     /// Declares a tag behind the others, if it is new.
@@ -248,10 +245,7 @@ impl Context {
             Base::Int => Some(CType::Int),
             Base::Unsigned => Some(CType::Unsigned),
             Base::Char => Some(CType::Char),
-            Base::Struct(tag) => match self.tag_place(tag) {
-                Some(k) => Some(CType::Struct(k)),
-                None => None,
-            },
+            Base::Struct(tag) => Some(CType::Struct(self.tag_place(tag)?)),
         }
     }
 

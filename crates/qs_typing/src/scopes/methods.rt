@@ -27,10 +27,7 @@ impl Scopes {
     fn place_of(&self, name: &Name) -> Option<usize>
         ensures { result ≡ place_in name.now (newest_first self.now.bindings.items) }
     {
-        match self.places.get(name) {
-            Some(place) => *place,
-            None => None,
-        }
+        *self.places.get(name)?
     }
 
     /// What a name stands for: its latest declaration in scope (C11 6.2.1p4).

@@ -2,6 +2,8 @@ use Rattle.std.proofs.Common.{◌≡◌, ◌∙◌, ℕ, List, Some, length, ref
 use Rattle.std.specs.Prelude.{option_map}
 use Rattle.std.specs.List.{slice_get}
 use Rattle.std.proofs.lemmas.Option.{slice_get_read, slice_get-map}
+use Rattle.std.specs.declared.alloc.Global.{Global}
+use Rattle.std.specs.declared.vec.Vec.{Vec}
 use Rattle.qs_assert.specs.Trees.{AssertionTree, named}
 use Rattle.qs_core.specs.CallGraph.{called_by}
 use Rattle.qs_core.specs.TreeOf.{core_stmts, function_tree}
@@ -9,17 +11,24 @@ use Rattle.qs_core.specs.Trees.{stmts_of}
 use Rattle.qs_core.specs.UnitTrees.{unit_tree}
 use Rattle.qs_core.specs.declared.statements.CoreStmt.{CoreStmt}
 use Rattle.qs_entail.specs.Certificates.{CertTree, same}
-use Rattle.qs_entail.specs.View.{cert_tree}
-use Rattle.qs_entail.specs.declared.certificate.Certificate.TheVariants.{Same}
-use Rattle.qs_triples.specs.TreeOf.{derivation_tree}
-use Rattle.qs_triples.specs.declared.derivation.Derivation.TheVariants.{Sequence}
+use Rattle.qs_entail.specs.View.{cert_tree, cert_step}
+use Rattle.qs_entail.specs.declared.certificate.Certificate.{Certificate-F, fold-roll-Certificate}
+use Rattle.qs_entail.specs.declared.certificate.Certificate.TheVariants.{Same, rolls-Same}
+use Rattle.qs_triples.specs.TreeOf.{derivation_tree, derivation_trees, derivation_step}
+use Rattle.qs_triples.specs.declared.derivation.Derivation.{Derivation, Derivation-F, fold-roll-Derivation}
+use Rattle.qs_triples.specs.declared.derivation.Derivation.TheVariants.{Sequence, rolls-Sequence}
 use Rattle.qs_triples.specs.Derivations.{DerivationTree, sequence, EntryTree}
 use Rattle.qs_triples.specs.Filled.{function_name, name_in}
 use Rattle.qs_callgraph.specs.CallLists.{numbers}
 use Rattle.qs_analyse.specs.Fillable.{body_in, body_of}
 use Rattle.qs_analyse.specs.Written.{all_written}
-use Rattle.qs_analyse.proofs.TreeLaws.{same_is, sequence_of}
 use Rattle.qs_analyse.proofs.entries.open_entry.Goals as goal
+
+same_is : cert_tree Same ≡ same
+same_is = ap cert_tree (sym rolls-Same) ∙ fold-roll-Certificate CertTree cert_step Certificate-F.Same
+
+sequence_of : (ds : Vec Derivation Global) → derivation_tree (Sequence ds) ≡ sequence (derivation_trees ds.items)
+sequence_of ds = ap derivation_tree (sym (rolls-Sequence ds)) ∙ fold-roll-Derivation DerivationTree derivation_step (Derivation-F.Sequence ds)
 
 abbrev entry_with : ℕ → AssertionTree → AssertionTree → CertTree → DerivationTree → EntryTree
 entry_with f pre post entry body = record { function = f; spec = record { pre = pre; post = post }; entry = entry; body = body }

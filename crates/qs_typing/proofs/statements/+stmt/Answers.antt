@@ -1,11 +1,4 @@
-use Rattle.std.proofs.Common.{◌≡◌, Option, Box, Global, sym, ap, ◌∙◌}
-use Rattle.qs_syntax.specs.Trees.{StmtTree, do_loop, for_loop}
-use Rattle.qs_syntax.specs.TreeOf.{expr_tree, option_tree, start_tree, stmt_step, stmt_tree, stmts_tree}
-use Rattle.qs_syntax.specs.declared.expressions.Expr.{Expr}
-use Rattle.qs_syntax.specs.declared.nodes.Node.{Node}
-use Rattle.qs_syntax.specs.declared.statements.Start.{Start}
-use Rattle.qs_syntax.specs.declared.statements.Stmt.{Stmt, Stmt-F, Do, For, fold-roll-Stmt}
-use Rattle.qs_syntax.specs.declared.statements.Stmt.TheVariants.{rolls-Do, rolls-For}
+use Rattle.qs_syntax.specs.TreeOf.{start_tree, stmt_tree, stmts_tree}
 use Rattle.qs_typing.specs.ContextOf.{context_tree}
 use Rattle.qs_typing.proofs.Scoping.{part_ends, part_leaves, block_ends, block_leaves, body_ends, body_leaves, for_ends, for_leaves}
 use Rattle.qs_typing.proofs.statements.+stmt.Goals as goal
@@ -52,12 +45,6 @@ walk_body-returns-clause-context t c =
     c.leave_scope.ensures
 
 -- ---- statements
-
-do_of : (n : Node) (b : Box Stmt Global) (e : Expr) → stmt_tree (Do n b e) ≡ do_loop n (stmt_tree b.value) (expr_tree e)
-do_of n b e = ap stmt_tree (sym (rolls-Do n b e)) ∙ fold-roll-Stmt StmtTree stmt_step (Stmt-F.Do n b e)
-
-for_of : (n : Node) (start : Start) (e u : Option Expr) (b : Box Stmt Global) → stmt_tree (For n start e u b) ≡ for_loop n (start_tree start) (option_tree e) (option_tree u) (stmt_tree b.value)
-for_of n start e u b = ap stmt_tree (sym (rolls-For n start e u b)) ∙ fold-roll-Stmt StmtTree stmt_step (Stmt-F.For n start e u b)
 
 pub walk_for-leave_scope-requires : goal.walk_for-leave_scope-requires
 walk_for-leave_scope-requires t c =

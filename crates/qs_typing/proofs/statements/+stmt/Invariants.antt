@@ -24,7 +24,7 @@ abbrev pub decreases-walk_do : goal.decreases-walk_do
 decreases-walk_do l = 8 * size-Stmt l.body.now + 2
 
 abbrev pub decreases-walk_for : goal.decreases-walk_for
-decreases-walk_for l = 8 * size-Stmt l.body.now + 2
+decreases-walk_for l = 8 * size-Stmt l.s.now + 2
 
 abbrev pub decreases-walk_part : goal.decreases-walk_part
 decreases-walk_part l = 8 * size-Stmt l.s.now + 1

@@ -1,5 +1,5 @@
 use Rattle.qs_machine.specs.Run.{start}
-use Rattle.qs_machine.proofs.FromStart.{shows_machine}
+use Rattle.qs_machine.proofs.Runs.{shows_machine}
 use Rattle.qs_machine.specs.Arguments.{words_of}
 use Rattle.qs_driver.specs.commands.Exec.{words_in}
 use Rattle.qs_driver.proofs.rooms.Run.{may_run}

@@ -1,7 +1,7 @@
 use Rattle.std.proofs.Common.{◌≡◌}
 use Rattle.qs_machine.specs.Run.{start}
 use Rattle.qs_machine.specs.Standing.{taken_of}
-use Rattle.qs_machine.proofs.FromStart.{shows_machine}
+use Rattle.qs_machine.proofs.Runs.{shows_machine}
 use Rattle.qs_machine.specs.Arguments.{words_of}
 use Rattle.qs_driver.specs.commands.Run.{words_in, CannotRun, IsReady}
 use Rattle.qs_driver.proofs.rooms.Run.{run_answers, fault_put, may_run}

@@ -2,7 +2,7 @@ use Rattle.std.proofs.Common.{◌≡◌, [], ℕ, length, Ok, ap, refl, rules}
 use Rattle.qs_machine.specs.Arguments.{words_of}
 use Rattle.qs_machine.specs.Run.{start}
 use Rattle.qs_machine.specs.declared.answers.RunEnd.TheVariants as end
-use Rattle.qs_machine.proofs.FromStart.{shows_machine}
+use Rattle.qs_machine.proofs.Runs.{shows_machine}
 use Rattle.qs_cli.specs.Numbers.{default_steps}
 use Rattle.qs_driver.specs.KeptOutput.{kept_view}
 use Rattle.qs_driver.specs.commands.Sample.{outcome}

@@ -7,8 +7,8 @@ ghost use Rattle.qs_asm.specs.Assembly.{places, item_code_by, Appends};
 
 use crate::fault::AssemblyFault;
 use crate::item::Item;
-use crate::labels::{Labels, item_bytes, label_offsets, sum};
-use qs_base::{NoMemory, add32, sub32};
+use crate::labels::{Labels, item_bytes, label_offsets};
+use qs_base::{NoMemory, add32, sub32, sum};
 use qs_isa::{BranchKind, BranchOffset, Instr, JumpOffset, Register, encode};
 use std::alloc::Global;
 

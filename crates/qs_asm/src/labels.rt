@@ -4,7 +4,7 @@ ghost use Rattle.qs_asm.specs.Assembly as spec;
 ghost use Rattle.qs_asm.specs.Assembly.{places, Notes};
 
 use crate::item::Item;
-use qs_base::NoMemory;
+use qs_base::{NoMemory, sum};
 use std::alloc::Global;
 use std::collections::HashMap;
 
@@ -20,16 +20,6 @@ pub fn item_bytes(item: &Item) -> u32
         Item::Label(_) => 0,
         Item::Jump(_, _) => 4,
         Item::Branch(_, _, _, _) => 8,
-    }
-}
-
-/// The sum. What is no u32 no memory holds.
-pub fn sum(a: u32, b: u32) -> Result<u32, NoMemory>
-    ensures { IfOk result (λ n. n ≡ a + b) }
-{
-    match a.checked_add(b) {
-        None => Err(NoMemory),
-        Some(n) => Ok(n),
     }
 }
 

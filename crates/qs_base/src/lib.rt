@@ -1,8 +1,9 @@
 //! What every crate shares: the fault for want of memory, classes of bytes, keywords and names, the
-//! numbers of functions, places of a text, and the operations on words.
+//! numbers of functions, counts, places of a text, and the operations on words.
 #![tactic(auto)]
 
 mod bytes;
+mod counts;
 mod function;
 mod keyword;
 mod memory;
@@ -12,6 +13,7 @@ mod places;
 mod words;
 
 pub use bytes::{is_between, is_digit, is_letter, is_word_byte};
+pub use counts::{count, product, sum};
 pub use function::FnId;
 pub use keyword::Keyword;
 pub use memory::NoMemory;

@@ -21,12 +21,11 @@ ghost use Rattle.qs_build.specs.Agrees.{AgreesWhereMainReturns};
 
 use crate::data::data_bytes;
 use crate::fault::BuildFault;
-use crate::numbers::count;
 use crate::parameters::{parameter_types, unsigned_set};
 use crate::places::own_slots;
 use crate::records::{CODE_START, addresses, costs, records};
 use qs_asm::{AssemblyFault, Item, assemble, label_offsets};
-use qs_base::NoMemory;
+use qs_base::{NoMemory, count};
 use qs_core::{CoreFunction, CoreUnit};
 use qs_frames::laid_from;
 use qs_image::{FunctionRecord, Image, MOST_FUNCTIONS, MOST_NAME_BYTES};

@@ -5,7 +5,6 @@ mod building;
 mod data;
 mod fault;
 mod laws;
-mod numbers;
 mod parameters;
 mod places;
 mod records;

@@ -7,9 +7,8 @@ ghost use Rattle.qs_build.specs.Records.{place_of};
 ghost use Rattle.qs_build.specs.Program as program;
 ghost use Rattle.qs_build.specs.Program.{HaveRecordsWith};
 
-use crate::numbers::{count, sum};
 use qs_asm::Labels;
-use qs_base::NoMemory;
+use qs_base::{NoMemory, count, sum};
 use qs_core::CoreFunction;
 use qs_frames::{Starts, layout};
 use qs_image::FunctionRecord;

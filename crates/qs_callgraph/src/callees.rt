@@ -6,7 +6,7 @@ ghost use Rattle.qs_core.specs.Trees.{stmts_of};
 ghost use Rattle.qs_core.specs.UnitTrees.{unit_tree};
 ghost use Rattle.qs_callgraph.specs.CallLists.{call_lists, flagged, marked, numbers, number_lists};
 
-use crate::numbers::{function, put};
+use crate::lists::put;
 use qs_base::{FnId, NoMemory};
 use qs_calls::Callee;
 use qs_core::{CoreStmt, CoreUnit};
@@ -75,7 +75,7 @@ pub fn marked_functions(alloc: Global, marks: &[bool]) -> Result<Vec<FnId>, NoMe
     let mut fs = Vec::new(alloc);
     for i in 0..marks.len() {
         if marks[i] {
-            put(&mut fs, function(i)?)?;
+            put(&mut fs, FnId::at(i)?)?;
         }
     }
     Ok(fs)
@@ -99,7 +99,7 @@ pub fn call_lists(alloc: Global, unit: &CoreUnit) -> Result<Vec<Vec<FnId>>, NoMe
 {
     let mut graph = Vec::new(alloc);
     for i in 0..unit.functions.len() {
-        graph.push(called_by(alloc, unit, function(i)?)?)?;
+        graph.push(called_by(alloc, unit, FnId::at(i)?)?)?;
     }
     Ok(graph)
 }

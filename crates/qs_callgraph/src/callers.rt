@@ -3,7 +3,7 @@ ghost use Rattle.std.specs.Prelude.{◌≡◌, IfOk, OnOk, length, replicate, []
 ghost use Rattle.qs_callgraph.specs.CallLists.{AreBelow, CalleesAreBelow, number_lists, numbers};
 ghost use Rattle.qs_callgraph.specs.Opens.{AddsCaller, AreCallers};
 
-use crate::numbers::{function, put};
+use crate::lists::put;
 use qs_base::{FnId, NoMemory};
 use std::alloc::Global;
 
@@ -34,7 +34,7 @@ pub fn callers_in(alloc: Global, graph: &[Vec<FnId>]) -> Result<Vec<Vec<FnId>>, 
 {
     let mut callers = no_callers(alloc, graph.len())?;
     for i in 0..graph.len() {
-        add_caller(&mut callers, &graph[i], function(i)?)?;
+        add_caller(&mut callers, &graph[i], FnId::at(i)?)?;
     }
     Ok(callers)
 }

@@ -6,7 +6,7 @@ mod callees;
 mod callers;
 mod fault;
 mod laws;
-mod numbers;
+mod lists;
 mod opening;
 mod ordering;
 mod path;

@@ -6,7 +6,7 @@ ghost use Rattle.qs_callgraph.specs.Opens.{AreClosed, ClosesAll, TellsOpenOf};
 
 use crate::callees::{call_lists, marked_functions};
 use crate::callers::callers_in;
-use crate::numbers::put;
+use crate::lists::put;
 use qs_base::{FnId, NoMemory};
 use qs_core::CoreUnit;
 use std::alloc::Global;

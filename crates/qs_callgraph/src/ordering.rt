@@ -7,7 +7,6 @@ ghost use Rattle.qs_callgraph.specs.Searches.{Ends, IsDepthFirstIn, IsOrderIn};
 
 use crate::callees::call_lists;
 use crate::fault::CycleFault;
-use crate::numbers::function;
 use crate::search::{is_due, new_search, visit};
 use qs_base::FnId;
 use qs_core::CoreUnit;
@@ -23,7 +22,7 @@ fn searched(alloc: Global, graph: &[Vec<FnId>], has_spec: &[bool]) -> Result<Vec
 {
     let mut search = new_search(alloc, graph.len())?;
     for i in 0..graph.len() {
-        let f = function(i)?;
+        let f = FnId::at(i)?;
         if is_due(&search, has_spec, f) {
             visit(alloc, graph, has_spec, &mut search, f)?;
         }

@@ -7,7 +7,7 @@ ghost use Rattle.qs_callgraph.specs.Searches.{LooksOn, Steps, Visits, is_due, pr
 ghost use Rattle.qs_callgraph.specs.declared.search.Progress.TheVariants as stages;
 
 use crate::fault::CycleFault;
-use crate::numbers::put;
+use crate::lists::put;
 use crate::path::{callee, last_of, path_from};
 use qs_base::{FnId, NoMemory};
 use std::alloc::Global;

@@ -7,7 +7,7 @@ ghost use Rattle.qs_elaborate.specs.Pieces.{with_bytes, with_nulls, pointer_befo
 ghost use Rattle.qs_elaborate.specs.Pieces.{with_contents, bytes_piece, nulls_piece, is_one_run};
 ghost use Rattle.qs_elaborate.specs.Pieces.{Appends, Puts, data_cores};
 
-use qs_base::NoMemory;
+use qs_base::{NoMemory, sum};
 use qs_core::{DataBlock, Piece};
 use qs_memory::Blank;
 use qs_typed::{Datum, StaticBlock};
@@ -62,15 +62,6 @@ fn put_bytes(
     end_nulls(out, n)?;
     bs.extend_from_slice(more)?;
     Ok(())
-}
-
-fn sum(a: u32, b: u32) -> Result<u32, NoMemory>
-    ensures { IfOk result (λ n. n ≡ a + b) }
-{
-    match a.checked_add(b) {
-        None => Err(NoMemory),
-        Some(n) => Ok(n),
-    }
 }
 
 fn put_nulls(

@@ -3,10 +3,9 @@ ghost use Rattle.std.specs.Prelude.{◌≡◌, IfOk, Some};
 ghost use Rattle.qs_lower.specs.Expressions as spec;
 ghost use Rattle.qs_lower.specs.Plans.{expr_code, with_offset_at, element_index, started_code};
 
-use crate::numbers::sum;
 use crate::plans::{ExprPlan, PlanPair};
 use crate::scratch::started_own;
-use qs_base::NoMemory;
+use qs_base::{NoMemory, sum};
 use qs_memory::Signedness;
 use qs_tac::{Address, Index, Operand};
 

@@ -7,8 +7,7 @@ ghost use Rattle.qs_core.specs.Units.{piece_cells, cells_of_pieces};
 ghost use Rattle.qs_memory.specs.BlankOf.{joined_of};
 ghost use Rattle.qs_lower.specs.Units as spec;
 
-use crate::numbers::{count, product, sum};
-use qs_base::NoMemory;
+use qs_base::{NoMemory, count, product, sum};
 use qs_core::{DataBlock, Piece};
 use qs_memory::Blank;
 use qs_tac::TacData;

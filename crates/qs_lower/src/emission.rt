@@ -11,13 +11,12 @@ ghost use Rattle.qs_lower.specs.Plans.{operands_code, operands_size, operation_c
 ghost use Rattle.qs_lower.specs.Plans.{start_size, unary_code};
 
 use crate::addresses::{address_at, operand_of};
-use crate::exits::{Exit, emit_branch, emit_known, put};
-use crate::numbers::{place, sum};
+use crate::exits::{Exit, emit_branch, emit_known, place, put};
 use crate::operands::{converted, swaps, truth_of};
 use crate::plans::{ExprPlan, PlanChoice, PlanPair};
 use crate::scratch::{own, started_own};
 use crate::sizes::{both_size, either_size, size, test_size};
-use qs_base::NoMemory;
+use qs_base::{NoMemory, sum};
 use qs_memory::{BinaryOperation, Scalar, UnaryOperation};
 use qs_tac::{Condition, Instruction, Operand};
 

@@ -1,12 +1,12 @@
 // Where code goes on, and the jumps and branches that take it there.
-ghost use Rattle.std.specs.Prelude.{◌≡◌, [], ◌∷◌, OnOk};
+ghost use Rattle.std.specs.Prelude.{◌≡◌, [], ◌∷◌, IfOk, OnOk, length};
 ghost use Rattle.qs_tac.specs.TreeOf.{instruction_tree};
 ghost use Rattle.qs_lower.specs.Exits as spec;
 ghost use Rattle.qs_lower.specs.Expressions.{known_size};
 ghost use Rattle.qs_lower.specs.Plans.{exit_tree, Emits, EmitsBranch, EmitsKnown, Grows};
 ghost use Rattle.qs_lower.specs.Plans.{GrowsByBranch, GrowsByKnown, does_fall};
 
-use qs_base::NoMemory;
+use qs_base::{NoMemory, count};
 use qs_memory::Comparison;
 use qs_tac::{Condition, Instruction, Operand};
 
@@ -55,6 +55,13 @@ pub fn put(code: &mut Vec<Instruction>, instruction: Instruction) -> Result<(), 
 {
     code.push(instruction)?;
     Ok(())
+}
+
+/// The index of the instruction that comes next.
+pub fn place(code: &[Instruction]) -> Result<u32, NoMemory>
+    ensures { IfOk result (λ n. n ≡ length code.now) }
+{
+    count(code.len())
 }
 
 // ---- jumps

@@ -9,14 +9,13 @@ ghost use Rattle.qs_lower.specs.Units.{lowered_function};
 
 use crate::bodies::body_plan;
 use crate::exits::{Exit, put};
-use crate::numbers::{count, sum};
 use crate::stmt_emission::emit_stmt;
 use crate::stmt_plans::StmtPlan;
 use crate::stmt_scratch::stmt_used;
 use crate::stmt_sizes::stmt_size;
 use crate::threads::thread;
 use crate::ways::{Exits, next_falls};
-use qs_base::NoMemory;
+use qs_base::{NoMemory, count, sum};
 use qs_calls::Parameter;
 use qs_core::{CoreFunction, CoreParameter};
 use qs_tac::{Instruction, TacFunction};

@@ -8,7 +8,6 @@ mod emission;
 mod exits;
 mod functions;
 mod laws;
-mod numbers;
 mod operands;
 mod planning;
 mod plans;

@@ -6,13 +6,12 @@ ghost use Rattle.qs_lower.specs.Plans.{expr_code, index_offset, of_plain_operati
 ghost use Rattle.qs_lower.specs.Plans.{IsPlanIn, IsPlanOf, and_of, binary_of, conditional_code};
 ghost use Rattle.qs_lower.specs.Plans.{or_of};
 
-use crate::numbers::sum;
 use crate::operands::{
     block_operand, constant_step, converted_option, folded, truth_operand, unary_of_option,
 };
 use crate::plans::{ExprPlan, PlanChoice, PlanPair};
 use crate::values::{gives_integer, gives_truth, is_idle};
-use qs_base::NoMemory;
+use qs_base::{NoMemory, sum};
 use qs_core::{CoreExpr, Operands};
 use qs_memory::{BinaryOperation, Direction, Scalar, Signedness, UnaryOperation};
 use qs_tac::Operand;

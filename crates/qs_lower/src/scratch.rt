@@ -3,9 +3,8 @@ ghost use Rattle.std.specs.Prelude.{◌≡◌, IfOk};
 ghost use Rattle.qs_lower.specs.Expressions as spec;
 ghost use Rattle.qs_lower.specs.Plans.{expr_code, element_used, started_code, tests_used};
 
-use crate::numbers::sum;
 use crate::plans::{ExprPlan, PlanPair};
-use qs_base::NoMemory;
+use qs_base::{NoMemory, sum};
 use qs_memory::{BinaryOperation, UnaryOperation};
 
 // ---- those that an operand and the parts of an address keep

@@ -6,10 +6,9 @@ ghost use Rattle.qs_lower.specs.Plans.{expr_code, both_sizes, either_sizes, elem
 ghost use Rattle.qs_lower.specs.Plans.{operands_size, started_code};
 
 use crate::exits::{branch_size, known_size};
-use crate::numbers::sum;
 use crate::operands::truth_of;
 use crate::plans::{ExprPlan, PlanPair};
-use qs_base::NoMemory;
+use qs_base::{NoMemory, sum};
 use qs_memory::{BinaryOperation, UnaryOperation};
 
 /// For its value into a temporary.

@@ -11,8 +11,7 @@ ghost use Rattle.qs_lower.specs.Expressions.{all_operands};
 
 use crate::addresses::{address_at, operand_of};
 use crate::emission::{emit_base, emit_into, emit_operand, emit_test};
-use crate::exits::{Exit, emit_exit, put};
-use crate::numbers::{place, sum};
+use crate::exits::{Exit, emit_exit, place, put};
 use crate::plans::ExprPlan;
 use crate::scratch::{base_own, own};
 use crate::sizes::test_size;
@@ -21,7 +20,7 @@ use crate::stmt_sizes::{entry, entry_before, stmt_size};
 use crate::ways::{
     Exits, body_exits, body_falls, front_exits, last_exits, next_falls, none_falls, step_exits,
 };
-use qs_base::NoMemory;
+use qs_base::{NoMemory, sum};
 use qs_calls::Callee;
 use qs_memory::{Blank, Scalar};
 use qs_tac::{Instruction, Operand};

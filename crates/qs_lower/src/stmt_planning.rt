@@ -7,13 +7,12 @@ ghost use Rattle.qs_lower.specs.StmtPlans.{stmt_part, all_before, all_joined, Is
 ghost use Rattle.qs_lower.specs.StmtPlans.{branch_plans, joined_plans, loop_at_end, loop_of};
 ghost use Rattle.qs_lower.specs.StmtPlans.{stmt_parts, test_at_end};
 
-use crate::numbers::sum;
 use crate::planning::lowered;
 use crate::plans::ExprPlan;
 use crate::stmt_plans::{BranchPlan, LoopPlan, StmtPlan, TestedParts, TestedPlan};
 use crate::stmt_scratch::stmt_used;
 use crate::ways::{Way, is_next};
-use qs_base::NoMemory;
+use qs_base::{NoMemory, sum};
 use qs_core::{CoreExpr, Target};
 use std::alloc::Global;
 

@@ -4,11 +4,10 @@ ghost use Rattle.qs_lower.specs.Expressions as spec;
 ghost use Rattle.qs_lower.specs.Plans.{expr_codes};
 ghost use Rattle.qs_lower.specs.StmtPlans.{stmt_part, most_used, stmt_parts};
 
-use crate::numbers::sum;
 use crate::plans::ExprPlan;
 use crate::scratch::{base_own, base_used, own, test_used, used, used_by};
 use crate::stmt_plans::StmtPlan;
-use qs_base::NoMemory;
+use qs_base::{NoMemory, sum};
 
 // For all of them, one behind the other.
 fn all_used(es: &[ExprPlan]) -> Result<u32, NoMemory>

@@ -8,12 +8,11 @@ ghost use Rattle.qs_lower.specs.Ways.{falls_tree};
 ghost use Rattle.qs_lower.specs.Expressions.{size_of};
 
 use crate::exits::exit_size;
-use crate::numbers::sum;
 use crate::plans::ExprPlan;
 use crate::sizes::{base_size, size, size_of, test_size};
 use crate::stmt_plans::{BranchPlan, LoopPlan, StmtPlan, TestedPlan};
 use crate::ways::{Falls, body_falls, last_falls, next_falls, none_falls};
-use qs_base::NoMemory;
+use qs_base::{NoMemory, sum};
 
 // Of all of them, one behind the other.
 fn all_size(es: &[ExprPlan]) -> Result<u32, NoMemory>

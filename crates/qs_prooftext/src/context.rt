@@ -42,16 +42,6 @@ pub struct Context<'a> {
     pub names: Option<Names<'a>>,
 }
 
-/// The number of the function at this place; a number that can't be kept is want of memory.
-pub fn function_at(index: usize) -> Result<FnId, NoMemory>
-    ensures { IfOk result (λ f. f.0 ≡ index) }
-{
-    match u32::try_from(index) {
-        Ok(number) => Ok(FnId(number)),
-        Err(_) => Err(NoMemory),
-    }
-}
-
 /// The function with this name.
 pub fn find_function(functions: &[CoreFunction], word: &[u8]) -> Result<Option<FnId>, NoMemory>
     ensures { FindsFunction functions.now word.now result }
@@ -59,7 +49,7 @@ pub fn find_function(functions: &[CoreFunction], word: &[u8]) -> Result<Option<F
     let mut index: usize = 0;
     for function in functions {
         if function.name.bytes() == word {
-            return Ok(Some(function_at(index)?));
+            return Ok(Some(FnId::at(index)?));
         }
         index += 1;
     }

@@ -8,10 +8,10 @@ ghost use Rattle.qs_prooftext.specs.Settings.{typed, words_of, temporary_word};
 ghost use Rattle.qs_triples.specs.Mentions.{has_placed_parameter};
 ghost use Rattle.qs_triples.specs.Valuations.{if_number, number_if};
 
-use crate::context::{Word, function_at};
+use crate::context::Word;
 use itoa::Buffer;
 use qs_assert::{NumberType, Var, VarKind};
-use qs_base::NoMemory;
+use qs_base::{NoMemory, count};
 use qs_calls::Parameter;
 use qs_core::{CoreFunction, CoreVariable};
 use qs_memory::Scalar;
@@ -124,7 +124,7 @@ fn put_variable(
         Some(type_of) => put_word(
             words,
             name_of(alloc, v)?,
-            VarKind::Plain(function_at(number)?.0),
+            VarKind::Plain(count(number)?),
             type_of,
         ),
     }
@@ -141,7 +141,7 @@ fn put_temporary(
     match number_of(scalar) {
         None => Ok(()),
         Some(type_of) => {
-            let index = function_at(number)?.0;
+            let index = count(number)?;
             put_word(
                 words,
                 temporary_name(alloc, index)?,

@@ -10,10 +10,9 @@ use crate::context::FunctionContext;
 use crate::entry::put_enter;
 use crate::instructions::put_instruction;
 use crate::labels::{function_label, instruction_label};
-use crate::numbers::sum;
 use crate::pieces::put_item;
 use qs_asm::Item;
-use qs_base::{FnId, NoMemory};
+use qs_base::{FnId, NoMemory, sum};
 
 /// Each instruction behind its label, and a label at the end.
 #[tactic(auto, using(crate::proofs::FunctionLaws::code_facts))]

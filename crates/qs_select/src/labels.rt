@@ -3,8 +3,7 @@ ghost use Rattle.std.specs.Prelude.{◌≡◌, IfOk};
 ghost use Rattle.qs_select.specs.ContextOf.{labels_tree};
 
 use crate::context::FunctionContext;
-use crate::numbers::sum;
-use qs_base::{FnId, NoMemory};
+use qs_base::{FnId, NoMemory, sum};
 
 /// The label of a function's entry.
 pub fn function_label(c: &FunctionContext, f: FnId) -> u32

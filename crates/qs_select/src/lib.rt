@@ -14,7 +14,6 @@ mod labels;
 mod laws;
 mod limits;
 mod mnemonics;
-mod numbers;
 mod objects;
 mod operands;
 mod operations;

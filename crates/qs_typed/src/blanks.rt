@@ -11,10 +11,9 @@ ghost use Rattle.qs_typed.specs.Results.{Gives};
 ghost use Rattle.qs_typed.specs.TypesOf.{blank_in, blanks_in, joined_tree};
 
 use crate::members::struct_members;
-use crate::places::sum;
 use crate::types::size_in;
 use indexmap::IndexMap;
-use qs_base::{Name, NoMemory};
+use qs_base::{Name, NoMemory, sum};
 use qs_memory::Blank;
 use qs_types::{CType, Env, StructLayout, StructType};
 use std::alloc::Global;

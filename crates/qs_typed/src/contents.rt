@@ -8,8 +8,7 @@ ghost use Rattle.qs_typed.specs.Results.{Makes};
 ghost use Rattle.qs_typed.specs.TreeOf.{contents_cells, data_cells};
 
 use crate::data::Datum;
-use crate::places::sum;
-use qs_base::NoMemory;
+use qs_base::{NoMemory, product, sum};
 use qs_memory::Blank;
 use std::alloc::Global;
 use std::mem::replace;
@@ -60,15 +59,6 @@ fn end_nulls(whole: &mut Vec<Datum>, nulls: &mut u32) -> Result<(), NoMemory>
     whole.push(Datum::Nulls(*nulls))?;
     *nulls = 0;
     Ok(())
-}
-
-fn product(a: u32, b: u32) -> Result<u32, NoMemory>
-    ensures { IfOk result (λ n. n ≡ a * b) }
-{
-    match a.checked_mul(b) {
-        None => Err(NoMemory),
-        Some(n) => Ok(n),
-    }
 }
 
 impl Contents {

@@ -16,11 +16,11 @@ ghost use Rattle.qs_typed.specs.TypesOf.{lent_type, types_tree};
 use crate::expressions::{Expression, Lvalue};
 use crate::forms::Form;
 use crate::places::{
-    Locals, Statics, file_variable_object, function_number, local_lvalue, number, text_object,
+    Locals, Statics, file_variable_object, function_number, local_lvalue, text_object,
 };
 use crate::types::size_in;
 use indexmap::{IndexMap, IndexSet};
-use qs_base::{FnId, Name, NoMemory};
+use qs_base::{FnId, Name, NoMemory, count};
 use qs_calls::Callee;
 use qs_memory::Scalar;
 use qs_syntax::{Base, Expr, TypeName};
@@ -88,7 +88,7 @@ fn tag_number(tags: &IndexSet<Name>, tag: &Name) -> Result<u32, NoMemory>
 {
     match tags.get_index_of(tag) {
         None => Err(NoMemory),
-        Some(i) => number(i),
+        Some(i) => count(i),
     }
 }
 

@@ -11,9 +11,8 @@ ghost use Rattle.qs_typed.specs.Results.{Gives, Makes, itself};
 ghost use Rattle.qs_typed.specs.TypesOf.{lent_type};
 
 use crate::members::{offset_at, struct_members};
-use crate::places::{number, sum};
 use crate::types::size_in;
-use qs_base::NoMemory;
+use qs_base::{NoMemory, count, product, sum};
 use qs_syntax::{Expr, Initialiser};
 use qs_types::{CType, Env};
 use std::alloc::Global;
@@ -62,16 +61,6 @@ fn part_type<'a>(env: &'a Env, t: &'a CType, i: usize) -> Result<&'a CType, NoMe
     }
 }
 
-fn product(size: u32, i: usize) -> Result<u32, NoMemory>
-    ensures { IfOk result (λ n. n ≡ size * i) }
-{
-    let i = number(i)?;
-    match size.checked_mul(i) {
-        None => Err(NoMemory),
-        Some(n) => Ok(n),
-    }
-}
-
 /// Where a part begins, by its number.
 fn part_offset(env: &Env, t: &CType, i: usize) -> Result<u32, NoMemory>
     ensures { Gives itself (part_offset (env_tree env.now) (type_tree t.now) i) result }
@@ -84,7 +73,7 @@ fn part_offset(env: &Env, t: &CType, i: usize) -> Result<u32, NoMemory>
         CType::Pointer(_) => Err(NoMemory),
         CType::Array(element, _) => {
             let size = size_in(env, element)?;
-            product(size, i)
+            product(size, count(i)?)
         }
         CType::Struct(k) => offset_at(env, *k, i),
     }

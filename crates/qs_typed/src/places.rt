@@ -9,7 +9,7 @@ ghost use Rattle.qs_typed.specs.TreeOf.{lvalue_tree, object_tree};
 
 use crate::expressions::{Expression, Lvalue, Object};
 use indexmap::IndexSet;
-use qs_base::{Name, NoMemory};
+use qs_base::{Name, NoMemory, count};
 use std::alloc::Global;
 
 /// The variables of a function, and its locals and parameters that are placed, by the numbers of
@@ -31,26 +31,6 @@ pub struct Statics {
     pub texts: IndexSet<u32>,
 }
 
-/// A number of a list's element, if it is below 2 ^ 32.
-pub fn number(i: usize) -> Result<u32, NoMemory>
-    ensures { IfOk result (λ n. n ≡ i) }
-{
-    if i > u32::MAX as usize {
-        return Err(NoMemory);
-    }
-    Ok(i as u32)
-}
-
-/// The sum of two numbers, if it is below 2 ^ 32.
-pub fn sum(a: u32, b: u32) -> Result<u32, NoMemory>
-    ensures { IfOk result (λ n. n ≡ a + b) }
-{
-    match a.checked_add(b) {
-        None => Err(NoMemory),
-        Some(n) => Ok(n),
-    }
-}
-
 /// The place of a node among others, if it is one of them.
 #[tactic(auto, using(crate::proofs::PlaceTables::place_found))]
 fn place_among(node: u32, nodes: &IndexSet<u32>) -> Result<u32, NoMemory>
@@ -58,7 +38,7 @@ fn place_among(node: u32, nodes: &IndexSet<u32>) -> Result<u32, NoMemory>
 {
     match nodes.get_index_of(&node) {
         None => Err(NoMemory),
-        Some(i) => number(i),
+        Some(i) => count(i),
     }
 }
 
@@ -96,7 +76,7 @@ pub fn text_object(statics: &Statics, node: u32) -> Result<Object, NoMemory>
     ensures { Equals object_tree (text_object (statics_tree statics.now) node) result }
 {
     let k = place_among(node, &statics.texts)?;
-    let at = number(statics.variables.len() + k as usize)?;
+    let at = count(statics.variables.len() + k as usize)?;
     Ok(Object::Static(at))
 }
 
@@ -107,6 +87,6 @@ pub fn function_number(f: &Name, functions: &IndexSet<Name>) -> Result<u32, NoMe
 {
     match functions.get_index_of(f) {
         None => Err(NoMemory),
-        Some(i) => number(i),
+        Some(i) => count(i),
     }
 }

@@ -71,7 +71,7 @@ sum_known xs = if some_none xs then None else known (joined ◌+ℤ◌ (pos 0) x
 abbrev pub product_known : List (Option ℤ) → Option ℤ
 product_known xs = if some_none xs then None else known (joined ◌*ℤ◌ (pos 1) xs)
 
--- where `whole` is a number that is known, the answer is what f makes of it
+-- where `whole` is a number, or none for one that is wide, the answer is so for what f makes of the number
 abbrev pub AppliesToNumber : (ℤ → ℤ) → Option ℤ → Option ℤ → Type 0
 AppliesToNumber f whole result = (y : ℤ) → whole ≡ known y → result ≡ known (f y)
 

@@ -133,19 +133,21 @@ ChecksFact f c ds p q old new result =
 
 -- ---- nodes without parts
 
-abbrev pub Contradicts : List Item → Walk → Result (Unit {0}) Failed → Type 0
-Contradicts items walk result =
+-- that the items contradict what is known
+abbrev pub ChecksContradiction : List Item → Walk → Result (Unit {0}) Failed → Type 0
+ChecksContradiction items walk result =
     Answers (λ k. node rules.Contradict (contradiction (items_view items) k) (λ _. None)) walk walk result
 
-abbrev pub AreDifference : List Item → AssertionTree → AssertionTree → Walk → Result (Unit {0}) Failed → Type 0
-AreDifference items p q walk result =
+-- that the items are the difference of the two
+abbrev pub ChecksDifference : List Item → AssertionTree → AssertionTree → Walk → Result (Unit {0}) Failed → Type 0
+ChecksDifference items p q walk result =
     Answers (λ k. node rules.Arithmetic (arithmetic_holds (items_view items) k p q) (λ _. None)) walk walk result
 
 -- ---- the root
 
--- its conditions without polynomials hold under the hypotheses
-abbrev pub RootStands : List CondTree → List Define → AssertionTree → AssertionTree → Certificate → Result Bool NoMemory → Type 0
-RootStands hypotheses ds p q c result = IfOk result (λ b. b ≡ verdicts.root_stands hypotheses ds p q (cert_tree c))
+-- whether its conditions without polynomials hold under the hypotheses
+abbrev pub TellsRootStands : List CondTree → List Define → AssertionTree → AssertionTree → Certificate → Result Bool NoMemory → Type 0
+TellsRootStands hypotheses ds p q c result = IfOk result (λ b. b ≡ verdicts.root_stands hypotheses ds p q (cert_tree c))
 
 -- what is known being given
 abbrev pub TellsRest : Certificate → List Define → code.Known → AssertionTree → AssertionTree → Result (Unit {0}) CertFault → Type 0

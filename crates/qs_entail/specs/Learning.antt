@@ -32,9 +32,9 @@ abbrev pub AddsApart : Sides → List Item → code.Known → Result (Vec Polyno
 AddsApart sides items known result =
     ListFollows result (apart_by sides.left sides.right (items_view items) known.polynomials.items)
 
--- the items are the difference of the two
-abbrev pub ShowsDifference : List Item → code.Known → AssertionTree → AssertionTree → Result (Unit {0}) Stop → Type 0
-ShowsDifference items known p q result = Follows result (arithmetic_holds (items_view items) (known_view known) p q)
+-- whether the items are the difference of the two
+abbrev pub TellsDifference : List Item → code.Known → AssertionTree → AssertionTree → Result (Unit {0}) Stop → Type 0
+TellsDifference items known p q result = Follows result (arithmetic_holds (items_view items) (known_view known) p q)
 
 -- ---- more is known
 

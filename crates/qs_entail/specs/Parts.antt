@@ -18,7 +18,7 @@ guarded_view g = record { condition = g.condition; body = g.body }
 abbrev pub sides_view : code_sides.Sides → Sides
 sides_view sides = record { left = sides.left; right = sides.right }
 
--- the two terms have these nodes
+-- where the nodes are those of two terms, these are the two
 abbrev pub HaveNodes : code_sides.Sides → List Node → Type 0
 HaveNodes sides nodes = (t u : TermTree) → nodes ≡ inner_term t ++ inner_term u → (sides.left ≡ t) × (sides.right ≡ u)
 

@@ -3,7 +3,7 @@ ghost use Rattle.std.specs.Prelude.{◌≡◌, IfOk};
 ghost use Rattle.qs_assert.specs.Trees.{natural, infinity};
 ghost use Rattle.qs_entail.specs.Answers.{Follows, FollowsAs};
 ghost use Rattle.qs_entail.specs.Faults.{contradiction};
-ghost use Rattle.qs_entail.specs.Learning.{ShowsDifference};
+ghost use Rattle.qs_entail.specs.Learning.{TellsDifference};
 ghost use Rattle.qs_entail.specs.Walking.{both_view, both_unfolded, branch_number};
 ghost use Rattle.qs_entail.specs.View.{items_view, known_view};
 
@@ -80,7 +80,7 @@ pub fn arithmetic_holds(
     p: &AssertionView<'_>,
     q: &AssertionView<'_>,
 ) -> Result<(), Stop>
-    ensures { ShowsDifference items.now known.now p.now q.now result }
+    ensures { TellsDifference items.now known.now p.now q.now result }
 {
     let left = assertion_polynomial(alloc, p)?;
     let right = assertion_polynomial(alloc, q)?;

@@ -1,6 +1,6 @@
 // The check of a certificate under hypotheses.
 ghost use Rattle.std.specs.Prelude.{◌≡◌, [], IfOk, OnOk};
-ghost use Rattle.qs_entail.specs.Checking.{RootStands, TellsRest, TellsUnder, TellsVerdict};
+ghost use Rattle.qs_entail.specs.Checking.{TellsRootStands, TellsRest, TellsUnder, TellsVerdict};
 ghost use Rattle.qs_entail.specs.Meaning.{AboveInOrder};
 ghost use Rattle.qs_entail.specs.Pushing.{at_first};
 ghost use Rattle.qs_entail.specs.Standing.{told};
@@ -56,7 +56,7 @@ fn root_stands(
     q: &AssertionView<'_>,
     certificate: &Certificate,
 ) -> Result<bool, NoMemory>
-    ensures { RootStands hypotheses.now defines.now p.now q.now certificate.now result }
+    ensures { TellsRootStands hypotheses.now defines.now p.now q.now certificate.now result }
 {
     let outline = outlined(alloc, hypotheses)?;
     let Outline { conditions, count } = outline;

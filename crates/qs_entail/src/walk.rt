@@ -1,7 +1,7 @@
 // Where the walk over a certificate is.
 ghost use Rattle.std.specs.Prelude.{◌≡◌, IfOk, OnOk};
 ghost use Rattle.qs_entail.specs.Answers.{Follows};
-ghost use Rattle.qs_entail.specs.Checking.{Contradicts, AreDifference};
+ghost use Rattle.qs_entail.specs.Checking.{ChecksContradiction, ChecksDifference};
 ghost use Rattle.qs_entail.specs.Extending.{trial, both_trials};
 ghost use Rattle.qs_entail.specs.Learning.{Pushes, LearnsFact};
 ghost use Rattle.qs_entail.specs.Standing.{stands_here};
@@ -133,7 +133,7 @@ impl Walk {
     /// Whether the items contradict what is known.
     #[tactic(auto, using(crate::proofs::Walks::says_settled))]
     pub fn contradicts(&self, items: &[Item]) -> Result<(), Failed>
-        ensures { Contradicts items.now self.now result }
+        ensures { ChecksContradiction items.now self.now result }
     {
         settle(
             Rule::Contradict,
@@ -149,7 +149,7 @@ impl Walk {
         p: &AssertionView<'_>,
         q: &AssertionView<'_>,
     ) -> Result<(), Failed>
-        ensures { AreDifference items.now p.now q.now self.now result }
+        ensures { ChecksDifference items.now p.now q.now self.now result }
     {
         settle(
             Rule::Arithmetic,

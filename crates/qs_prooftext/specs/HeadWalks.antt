@@ -108,7 +108,7 @@ abbrev pub Grows :
     {k : Kind} {H T R E : Type 0} → Walk k H T → (R → Of k) → (heads : Vec T Global) → Result R E → Type 0
 Grows walk tree heads result = IfOk result (λ x. tree x ≡ grown walk.shape (map walk.view heads.items) [])
 
--- one step: of what is due one head more is read
+-- one step: what is due stays the same, a head of it being read
 abbrev pub HeadStep :
     {k : Kind} {H T : Type 0} → Walk k H T → Context → (rest : List Node) → (heads heads_now : Vec T Global)
     → Result (Bor (List Node)) TextFault → Type 0

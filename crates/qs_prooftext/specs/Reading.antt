@@ -34,6 +34,6 @@ pub data Fault (u : CoreUnitTree) (text : List ℕ) : TextFault → Type 0 where
       (file : Sexps) (is_open : ℕ → Bool) (fault : TextFault) → lists.Reading text file
       → TellsOpen u (has_list u file) is_open → file_means u is_open file ≡ Err fault → Fault u text fault
 
--- no reading: for the text's first fault, or for want of memory
+-- where there is no reading, it is for the text's first fault or for want of memory
 abbrev pub Refuses : {A : Type 0} → CoreUnitTree → (text : List ℕ) → Result A TextFault → Type 0
 Refuses u text result = IfErr result (λ fault. (fault ≡ faults.NoMemory) ⊎ Fault u text fault)

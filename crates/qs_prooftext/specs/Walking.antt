@@ -41,7 +41,7 @@ Goes g text (Err fault) todo out due = (due ≡ Err fault) ⊎ (fault ≡ faults
 abbrev pub Shortens : (rest : List Node) → Result (Bor (List Node)) TextFault → Type 0
 Shortens rest result = IfOk result (λ left. 0 < length rest → length left.now < length rest)
 
--- one step: of what is due more nodes are out, and fewer are to be read
+-- one step: what is due stays the same, some of it being read
 abbrev pub Steps :
     Context → (rest : List Node) → (todo todo_now : Vec Sort Global) → (out out_now : Vec AssertNode Global)
     → Result (Bor (List Node)) TextFault → Type 0

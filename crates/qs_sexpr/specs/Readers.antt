@@ -69,8 +69,8 @@ abbrev pub Puts : Reader → ℕ → Item → Reader → Type 0
 Puts before at item now = (outer : List Layer) → (done : List Sexp) → (s : Sexp) → Holds before outer done → sexp_nodes s ≡ node at item ∷ [] → Holds now outer (done ++ s ∷ [])
 
 -- there is at most one node more
-abbrev pub AddsOneNode : Reader → Reader → Type 0
-AddsOneNode before now = length now.nodes.items ≤ length before.nodes.items + 1
+abbrev pub AddsAtMostOneNode : Reader → Reader → Type 0
+AddsAtMostOneNode before now = length now.nodes.items ≤ length before.nodes.items + 1
 
 -- a list is opened
 abbrev pub Begins : Reader → ℕ → Reader → Type 0

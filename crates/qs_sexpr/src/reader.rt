@@ -24,7 +24,7 @@ pub struct Reader {
 
 impl Reader {
     ghost use Rattle.std.specs.Prelude.{◌≡◌, [], length, IfOk};
-    ghost use Rattle.qs_sexpr.specs.Readers.{AddsOneNode, Begins, Ends, Holds, IsDepth};
+    ghost use Rattle.qs_sexpr.specs.Readers.{AddsAtMostOneNode, Begins, Ends, Holds, IsDepth};
     ghost use Rattle.qs_sexpr.specs.Readers.{IsReader, Puts};
 
     pub fn new(alloc: Global) -> Reader
@@ -49,7 +49,7 @@ impl Reader {
     pub fn put(&mut self, at: u32, item: Item) -> Result<(), NoMemory>
         requires { IsReader self.old }
         ensures puts { IfOk result (λ _. Puts self.old at item self.new) }
-        ensures few { IfOk result (λ _. AddsOneNode self.old self.new) }
+        ensures few { IfOk result (λ _. AddsAtMostOneNode self.old self.new) }
     {
         self.nodes.push(Node { at, item })?;
         self.parts += 1;
@@ -60,7 +60,7 @@ impl Reader {
     pub fn begin(&mut self, at: u32) -> Result<(), NoMemory>
         requires { IsReader self.old }
         ensures begins { IfOk result (λ _. Begins self.old at self.new) }
-        ensures few { IfOk result (λ _. AddsOneNode self.old self.new) }
+        ensures few { IfOk result (λ _. AddsAtMostOneNode self.old self.new) }
     {
         self.lists.push(OpenList {
             node: self.nodes.len() as u32,

@@ -59,7 +59,7 @@ FollowsCall c q frame certificate site k result =
 abbrev pub FollowsBalancedCall : Posts → Site → Known → Result AssertionTree Failure → Type 0
 FollowsBalancedCall q site k result = Follows result (rules.balanced_rule (posts_view q) (site_view site) (known_view k))
 
--- a variable of the caller that is missing for one of the callee's, the result aside
+-- the first of the callee's variables, the result aside, that has no term; it is told by its plain name
 abbrev pub missing_argument : Replacement → List Var → Option Var
 missing_argument r xs = option_map plain_variable (first_missing r true xs)
 

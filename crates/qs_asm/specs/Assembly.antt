@@ -103,8 +103,8 @@ abbrev pub IsCode : Option (List Instr) → Vec Instr Global → Type 0
 IsCode code instructions = code ≡ Some instructions.items
 
 -- a label is named as the fault only where there is no code
-abbrev pub IsNoCode : Option (List Instr) → AssemblyFault → Type 0
-IsNoCode code fault = fault ≡ BadLabel → code ≡ None
+abbrev pub BadLabelIsNoCode : Option (List Instr) → AssemblyFault → Type 0
+BadLabelIsNoCode code fault = fault ≡ BadLabel → code ≡ None
 
 abbrev pub joined : Option (List Instr) → Option (List Instr) → Option (List Instr)
 joined None rest = None

@@ -59,7 +59,7 @@ fn put_jump(
     distance: Option<JumpOffset>,
 ) -> Result<(), AssemblyFault>
     ensures ok { OnOk result (Appends code.old code.new (spec.jump_code rd distance)) }
-    ensures fault { IfErr result (spec.IsNoCode (spec.jump_code rd distance)) }
+    ensures fault { IfErr result (spec.BadLabelIsNoCode (spec.jump_code rd distance)) }
 {
     match distance {
         None => Err(AssemblyFault::BadLabel),
@@ -78,7 +78,7 @@ fn put_branch(
     distance: Option<JumpOffset>,
 ) -> Result<(), AssemblyFault>
     ensures ok { OnOk result (Appends code.old code.new (spec.branch_code kind rs1 rs2 distance)) }
-    ensures fault { IfErr result (spec.IsNoCode (spec.branch_code kind rs1 rs2 distance)) }
+    ensures fault { IfErr result (spec.BadLabelIsNoCode (spec.branch_code kind rs1 rs2 distance)) }
 {
     match distance {
         None => Err(AssemblyFault::BadLabel),
@@ -105,7 +105,7 @@ fn put_item(
     item: &Item,
 ) -> Result<(), AssemblyFault>
     ensures ok { OnOk result (Appends code.old code.new (item_code_by labels.now from item.now)) }
-    ensures fault { IfErr result (spec.IsNoCode (item_code_by labels.now from item.now)) }
+    ensures fault { IfErr result (spec.BadLabelIsNoCode (item_code_by labels.now from item.now)) }
 {
     match item {
         Item::Plain(i) => {
@@ -132,7 +132,7 @@ fn put_item(
 #[tactic(auto, using(crate::proofs::AssemblyLaws::code_goes_on))]
 fn instructions(alloc: Global, labels: &Labels, items: &[Item]) -> Result<Vec<Instr>, AssemblyFault>
     ensures ok { IfOk result (spec.IsCode (spec.code_from (places labels.now) 0 items.now)) }
-    ensures fault { IfErr result (spec.IsNoCode (spec.code_from (places labels.now) 0 items.now)) }
+    ensures fault { IfErr result (spec.BadLabelIsNoCode (spec.code_from (places labels.now) 0 items.now)) }
 {
     let mut code = Vec::new(alloc);
     let mut from = 0;
@@ -160,7 +160,7 @@ fn words(alloc: Global, code: &[Instr]) -> Result<Vec<u32>, NoMemory>
 pub fn assemble(alloc: Global, items: &[Item]) -> Result<Vec<u32>, AssemblyFault>
     ensures ok { IfOk result (λ words. spec.IsAssembly items.now words.items) }
     ensures small { IfOk result (λ words. All (λ word. word < 2 ^ 32) words.items) }
-    ensures fault { IfErr result (spec.IsNoCode (spec.assembled items.now)) }
+    ensures fault { IfErr result (spec.BadLabelIsNoCode (spec.assembled items.now)) }
 {
     let labels = label_offsets(alloc, items)?;
     let code = instructions(alloc, &labels, items)?;

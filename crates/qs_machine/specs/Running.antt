@@ -76,7 +76,7 @@ abbrev pub run_end_of : End → RunEnd
 run_end_of (end.Exited status) = run_end.Exited status
 run_end_of (end.Trapped cause pc) = run_end.Trapped cause pc
 
--- it has ended, answers as it did then, and nothing changes, the sink neither
+-- where it has ended it answers as it did then, and nothing changes, the sink neither
 abbrev pub EndsAgain : {Sink : Type 0} → Machine → Machine → Sink → Sink → RunEnd → Type 0
 EndsAgain m n before after answer = IfSome (end_of m) (λ e. (answer ≡ run_end_of e) × (n ≡ m) × (after ≡ before))
 

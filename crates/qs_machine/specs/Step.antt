@@ -183,7 +183,8 @@ act_on image size s (Some instruction) = act image size s instruction
 abbrev pub fetch : Image → ℕ → Option ℕ
 fetch image address = if is_code image address 4 then Some (slice_index image.code ((address - code_start) / 4)) else None
 
--- for each image with these instructions this is the one at an address, `None` where its word is no instruction
+-- for each image with these instructions this is the one at an address: `None` where no word of code stands there, and
+-- `Some None` where the word is no instruction
 abbrev pub Fetches : List (Option Instr) → ℕ → Option (Option Instr) → Type 0
 Fetches instructions address result =
     (image : Image) → instructions ≡ map decode_of image.code → result ≡ option_map decode_of (fetch image address)

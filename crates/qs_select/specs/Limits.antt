@@ -79,9 +79,10 @@ abbrev pub first_fault : TacUnitTree → List PlacesTree → Option SelectionFau
 first_fault u ps =
     if data_fit u then functions_fault ps 0 u.functions else Some faults.DataTooLarge
 
--- all functions of the unit fit, and its data do too
+-- all functions of the unit fit
 abbrev pub FunctionsFit : TacUnitTree → List PlacesTree → Type 0
 FunctionsFit u ps = functions_fault ps 0 u.functions ≡ None
 
+-- and its data do too
 abbrev pub UnitFits : TacUnitTree → List PlacesTree → Type 0
 UnitFits u ps = first_fault u ps ≡ None

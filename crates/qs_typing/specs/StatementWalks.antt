@@ -127,7 +127,7 @@ abbrev pub WalksDo : Context → Node → Stmt → Expr → (before after : Walk
 WalksDo c node s e before after =
     walk_tree after ≡ walks.statement_walked (context_tree c) (do_loop node (stmt_tree s) (expr_tree e)) (walk_tree before)
 
--- .. where no memory is wanting
+-- the walk of a `for`, where memory suffices
 abbrev pub WalksFor :
     {A E : Type 0} → Context → Node → Start → (condition step : Option Expr) → Stmt → (before after : Walk) → Result A E → Type 0
 WalksFor c node start condition step s before after result =

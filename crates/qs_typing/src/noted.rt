@@ -2,6 +2,7 @@
 ghost use Rattle.std.specs.Prelude.{◌≡◌, ◌≤◌, IfOk, OnOk, map, option_map};
 ghost use Rattle.std.specs.Option.{option_or};
 ghost use Rattle.qs_types.specs.EnvOf.{env_tree};
+ghost use Rattle.qs_types.specs.Layout.{size_limit};
 ghost use Rattle.qs_types.specs.Limits.{block_past, type_size};
 ghost use Rattle.qs_types.specs.Placed.{is_no_scalar};
 ghost use Rattle.qs_types.specs.TypeOf.{type_tree};

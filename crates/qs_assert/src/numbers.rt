@@ -106,13 +106,7 @@ fn known_product(x: i128, product: Option<i128>) -> Option<i128>
     if x == 0 {
         return Some(0);
     }
-    match product {
-        Some(y) => match x.checked_mul(y) {
-            Some(z) => known(z),
-            None => None,
-        },
-        None => None,
-    }
+    known(x.checked_mul(product?)?)
 }
 
 fn with_factor(part: Option<i128>, product: Option<i128>) -> Option<i128>

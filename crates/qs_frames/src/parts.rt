@@ -124,14 +124,10 @@ pub fn try_layout(f: &TacFunction, places: &Places) -> Option<Frame>
     if slots_among(&places.at) > MOST_SLOTS {
         return None;
     }
-    match total_within(&f.blocks) {
-        None => None,
-        Some(blocks) => {
-            if frame_cost(kept(places), blocks) <= LARGEST_FRAME {
-                Some(layout(f, places))
-            } else {
-                None
-            }
-        }
+    let blocks = total_within(&f.blocks)?;
+    if frame_cost(kept(places), blocks) <= LARGEST_FRAME {
+        Some(layout(f, places))
+    } else {
+        None
     }
 }

@@ -38,13 +38,11 @@ pub fn part_of<'a>(text: &'a [u8], nodes: &'a [Node]) -> Part<'a>
 pub fn head_of<'a>(text: &'a [u8], parts: &'a [Node]) -> Option<(&'a [u8], &'a [Node])>
     ensures { (ss : Sexps) → StandAll text.now parts.now ss → IsHead text.now ss result }
 {
-    match first_part(parts) {
-        None => None,
-        Some((first, others)) => match part_of(text, first) {
-            Part::Number(_, _) => None,
-            Part::Symbol(_, word) => Some((word, others)),
-            Part::List(_, _, _) => None,
-        },
+    let (first, others) = first_part(parts)?;
+    match part_of(text, first) {
+        Part::Number(_, _) => None,
+        Part::Symbol(_, word) => Some((word, others)),
+        Part::List(_, _, _) => None,
     }
 }
 

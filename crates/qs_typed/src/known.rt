@@ -65,20 +65,14 @@ pub struct Designator {
 pub fn type_in(types: &[Option<CType>], node: u32) -> Option<&CType>
     ensures { option_map lent_type result ≡ at_number (types_tree types.now) node }
 {
-    match types.get(node as usize) {
-        None => None,
-        Some(found) => found.as_ref(),
-    }
+    types.get(node as usize)?.as_ref()
 }
 
 /// What the name at a node stands for, if it stands for anything.
 pub fn referent_in(referents: &[Option<Referent>], node: u32) -> Option<Referent>
     ensures { result ≡ at_number referents.now node }
 {
-    match referents.get(node as usize) {
-        None => None,
-        Some(found) => *found,
-    }
+    *referents.get(node as usize)?
 }
 
 /// The number of the struct with this tag.

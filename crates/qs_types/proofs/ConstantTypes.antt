@@ -9,24 +9,14 @@ use Rattle.qs_syntax.specs.declared.types.Base.TheVariants as bases
 use Rattle.qs_syntax.specs.declared.types.TypeName.{TypeName}
 use Rattle.qs_syntax.specs.Trees.{ExprTree, expr, ShapeTree}
 use Rattle.qs_syntax.specs.Trees as trees
-use Rattle.qs_types.specs.Types.{TypeTree, int, unsigned, char, Structs}
+use Rattle.qs_types.specs.Types.{TypeTree, unsigned, Structs}
 use Rattle.qs_types.specs.Layout.{and_then}
 use Rattle.qs_types.specs.Rules.{Test, breaks_one, type_unless}
 use Rattle.qs_types.specs.Contexts.{Context}
 use Rattle.qs_types.specs.Conversions.{decayed}
 use Rattle.qs_types.specs.Expressions.{Judged, type_of, shape_judged, unary_judged, binary_judged, cast_judged, size_judged, conditional_judged}
+use Rattle.qs_types.specs.ConstantLaws.{Integer, int_is, char_is, unsigned_is, Typed}
 use Rattle.qs_types.specs.Constants.{is_built, is_built_shape, is_integer_name, is_integer_base, is_unsigned, is_unsigned_shape, is_unsigned_by, is_unsigned_base}
-
--- an integer type, and whether it is unsigned
-pub data Integer : TypeTree → Bool → Type 0 where
-  int_is : Integer int false
-  char_is : Integer char false
-  unsigned_is : Integer unsigned true
-
--- the type, where there is one
-abbrev pub Typed : Option TypeTree → Bool → Type 0
-Typed None u = Unit {0}
-Typed (Some t) u = Integer t u
 
 abbrev judged_type : Option Judged → Option TypeTree
 judged_type o = and_then o (λ j. type_unless j.tests j.type)

@@ -12,7 +12,6 @@ use Rattle.qs_types.specs.Layout.{and_then, Layouts, StructLayout as LayoutTree,
 use Rattle.qs_types.specs.StructsOf.{member_tree, struct_tree, structs_tree, layout_tree, kept_layouts, has_members, has_layout}
 use Rattle.qs_types.specs.TypeOf.{type_tree}
 use Rattle.qs_types.specs.declared.types.CType.{CType}
-use Rattle.qs_types.specs.declared.structs.StructLayout.{StructLayout}
 use Rattle.qs_types.specs.declared.structs.StructType.{StructType}
 use Rattle.qs_types.proofs.Options.{nothing, same}
 use Rattle.qs_types.proofs.LayoutSteps.{sized_is_layout}
@@ -197,19 +196,6 @@ pushed_whole true items now s e whole has =
     ∙ (ap (λ b. map has_members items ++ b ∷ []) has
     ∙ (sym (map-append has_members items (s ∷ [])) ∙ ap (map has_members) (sym e)))))
 pushed_whole false items now s e whole has = ap (map has_layout) e ∙ (whole ∙ ap (map has_members) (sym e))
-
--- ---- the layout that is kept for a struct
-
-seen : (r : Option (Bor StructLayout)) → option_map (λ l. layout_tree l.now) r ≡ option_map layout_tree (option_copied r)
-seen None = refl
-seen (Some l) = refl
-
-pub shown : (items : List StructType) (k : ℕ) (s : StructType) (r : Option (Bor StructLayout)) → KeepsLayouts items → slice_get items k ≡ Some s → option_copied r ≡ s.layout → option_map (λ l. layout_tree l.now) r ≡ layout_of (structs_tree items) k
-shown items k s r kept at e =
-    seen r ∙ (ap (option_map layout_tree) e ∙ (ap (λ o. and_then o (λ s. option_map layout_tree s.layout)) (sym at) ∙ kept k))
-
-pub hidden : (items : List StructType) (k : ℕ) → KeepsLayouts items → slice_get items k ≡ None → None ≡ layout_of (structs_tree items) k
-hidden items k kept at = ap (λ o. and_then o (λ s. option_map layout_tree s.layout)) (sym at) ∙ kept k
 
 -- what `get` answers
 pub item : {X : Type 0} (xs : List X) (k : ℕ) (r : Option (Bor X)) → ItemBy (λ (x : Bor X). x.now) xs k k r → option_copied r ≡ slice_get xs k

@@ -11,6 +11,7 @@ pub mod GivenFunctions
 pub mod Contexts
 pub mod Expressions
 pub mod Constants
+pub mod ConstantLaws
 pub mod KnownTypes
 pub mod ExpressionFaults
 pub mod Declarations
@@ -21,5 +22,6 @@ pub mod Sites
 pub mod References
 pub mod Placed
 pub mod Limits
+pub mod UnitLaws
 pub mod WellTyped
 pub mod Recorded

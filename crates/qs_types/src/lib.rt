@@ -19,7 +19,9 @@ pub use conversions::{arithmetic, promoted};
 pub use env::Env;
 pub use extent::Extent;
 pub use kinds::{is_array, is_integer, is_pointer, is_scalar, is_struct, is_unsigned, is_void};
-pub use laws::{rounds, sizes_aligned, structs_laid_out};
+pub use laws::{
+    constants_have_types, limits_are_kept, rounds, rules_are_kept, sizes_aligned, structs_laid_out,
+};
 pub use layout::{
     SIZE_LIMIT, align_of, extent_of, is_complete, members_layout, offset_of, size_of,
 };

@@ -94,6 +94,12 @@ pub record IsCause (unit : UnitTree) (f : TypeFault) : Type 0 where
   pub is_there : HasCause unit f
   pub none_before : (g : TypeFault) → HasCause unit g → place_of f ≤ place_of g
 
+-- a cause before which there is none is the one that is told
+abbrev pub FirstCausesAreTold : Type 0
+FirstCausesAreTold =
+    (unit : UnitTree) (f : TypeFault) → HasCause unit f → ((g : TypeFault) → HasCause unit g → place_of f ≤ place_of g)
+    → first_refusal unit ≡ Some f
+
 -- a fault is told of a unit: its first cause, or that there is no memory
 abbrev pub IsTold : UnitTree → TypeFault → Type 0
 IsTold unit f = (f ≡ faults.NoMemory) ⊎ IsCause unit f

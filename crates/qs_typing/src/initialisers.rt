@@ -45,16 +45,9 @@ pub struct Fit {
 fn member_at(types: &Env, k: u32, i: usize) -> Option<&CType>
     ensures { type_at result ≡ rules.member_at (struct_of (env_tree types.now) k) i }
 {
-    match types.structs().get(k as usize) {
-        None => None,
-        Some(structure) => match &structure.members {
-            None => None,
-            Some(members) => match members.get_index(i) {
-                None => None,
-                Some((_, t)) => Some(t),
-            },
-        },
-    }
+    let members = types.structs().get(k as usize)?.members.as_ref()?;
+    let (_, t) = members.get_index(i)?;
+    Some(t)
 }
 
 /// The type of a part by its number.

@@ -1,9 +1,9 @@
-// The laws of the names of functions, and what each typed unit keeps. Each is the contract of an
-// empty function.
+// The laws of the names of functions and of refusals, and what each typed unit keeps. Each is the
+// contract of an empty function.
 ghost use Rattle.qs_types.specs.Limits.{KeepsLimits};
 ghost use Rattle.qs_typing.specs.LatestHeaders.{GivenBehindFronts, GivenInBodies};
 ghost use Rattle.qs_typing.specs.LatestHeaders.{LatestBehindFronts, LatestInBodies};
-ghost use Rattle.qs_typing.specs.Refusals.{IsAccepted};
+ghost use Rattle.qs_typing.specs.Refusals.{FirstCausesAreTold, IsAccepted};
 ghost use Rattle.qs_typing.specs.TypedOf.{typed_tree};
 
 use crate::typed_unit::TypedUnit;
@@ -26,6 +26,11 @@ pub fn given_functions_keep_types()
 /// So they have where the body of a function begins.
 pub fn given_functions_keep_types_in_bodies()
     ensures { GivenInBodies }
+{}
+
+/// A cause to refuse a unit before which there is none is the one that is told.
+pub fn first_causes_are_told()
+    ensures { FirstCausesAreTold }
 {}
 
 impl TypedUnit {

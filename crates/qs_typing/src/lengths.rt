@@ -55,10 +55,8 @@ fn length(c: &Context, e: &Expr, t: &Option<CType>) -> Option<u32>
     requires { option_map type_tree t.now ≡ type_of (context_tree c.now) (expr_tree e.now) }
     ensures { result ≡ length_of (context_tree c.now) (expr_tree e.now) }
 {
-    match t {
-        None => None,
-        Some(t) => length_within(t, constant(c, e, t)?),
-    }
+    let t = t.as_ref()?;
+    length_within(t, constant(c, e, t)?)
 }
 
 fn with_length(ns: Option<Vec<u32>>, n: Option<u32>) -> Result<Option<Vec<u32>>, NoMemory>

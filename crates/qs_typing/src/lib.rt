@@ -35,8 +35,8 @@ pub use entity::{Entity, Referent, Signature};
 pub use expressions::walk_expression;
 pub use found::{Fault, Found};
 pub use laws::{
-    functions_are_latest, functions_are_latest_in_bodies, given_functions_keep_types,
-    given_functions_keep_types_in_bodies,
+    first_causes_are_told, functions_are_latest, functions_are_latest_in_bodies,
+    given_functions_keep_types, given_functions_keep_types_in_bodies,
 };
 pub use noted::{Block, Local, Noted, TextBlock};
 pub use positions::Position;

@@ -27,13 +27,8 @@ pub fn type_or_void(t: Option<CType>) -> CType
 fn member_of<'a>(types: &'a Env, k: u32, name: &Name) -> Option<&'a CType>
     ensures { type_at result ≡ member_of types.now k name.now }
 {
-    match types.structs().get(k as usize) {
-        None => None,
-        Some(structure) => match &structure.members {
-            None => None,
-            Some(members) => members.get(name),
-        },
-    }
+    let members = types.structs().get(k as usize)?.members.as_ref()?;
+    members.get(name)
 }
 
 /// The type of a member of a struct of this type, if it has such a member.

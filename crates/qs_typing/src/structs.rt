@@ -39,10 +39,7 @@ fn option_extent(structs: &Env, t: &Option<CType>) -> Option<Extent>
     ensures extent { result ≡ rules.option_extent (env_tree structs.now) (option_type t.now) }
     ensures small { IfSome result IsSmall }
 {
-    match t {
-        None => None,
-        Some(t) => extent_of(structs, t),
-    }
+    extent_of(structs, t.as_ref()?)
 }
 
 /// What a member declares behind this end.

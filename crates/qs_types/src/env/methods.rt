@@ -42,10 +42,7 @@ impl Env {
     pub fn layout_at(&self, place: usize) -> Option<&StructLayout>
         ensures { option_map (λ l. layout_tree l.now) result ≡ layout_of (env_tree self.now) place }
     {
-        match self.structs.get(place) {
-            Some(structure) => structure.layout.as_ref(),
-            None => None,
-        }
+        self.structs.get(place)?.layout.as_ref()
     }
 
     /// Declares one more struct, without members (C11 6.7.2.3).

@@ -34,25 +34,19 @@ impl Scopes {
     pub fn find(&self, name: &Name) -> Option<&Entity>
         ensures { entity_at result ≡ lookup name.now (all_bindings self.now) }
     {
-        match self.place_of(name) {
-            Some(place) => Some(&self.bindings[place].entity),
-            None => None,
-        }
+        let place = self.place_of(name)?;
+        Some(&self.bindings[place].entity)
     }
 
     /// What a name stands for that is declared in the innermost scope.
     pub fn find_here(&self, name: &Name) -> Option<&Entity>
         ensures { entity_at result ≡ lookup name.now (inner_bindings self.now) }
     {
-        match self.place_of(name) {
-            Some(place) => {
-                if place < self.start {
-                    None
-                } else {
-                    Some(&self.bindings[place].entity)
-                }
-            }
-            None => None,
+        let place = self.place_of(name)?;
+        if place < self.start {
+            None
+        } else {
+            Some(&self.bindings[place].entity)
         }
     }
 

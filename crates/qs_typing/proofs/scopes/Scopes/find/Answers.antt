@@ -1,15 +1,18 @@
-use Rattle.std.proofs.Common.{◌∙◌, sym, arith}
+use Rattle.std.proofs.Common.{rules, ◌≡◌, None, ap, ◌∙◌, arith}
+use Rattle.qs_typing.specs.EntityOf.{entity_at}
 use Rattle.qs_typing.proofs.Latest.{within, found, not_found}
 use Rattle.qs_typing.proofs.scopes.Scopes.find.Goals as goal
 
+pub returns-in_err-place : goal.returns-in_err-place
+returns-in_err-place c =
+    let none : c.from_residual.result ≡ None = search rules in
+    ap entity_at none ∙ not_found c.args.name.now c.args.self.now.bindings.items c.args.self.now.start c.in_err-place.ensures
+
 pub index-requires : goal.index-requires
 index-requires c =
-    let low = within c.args.name.now c.args.self.now.bindings.items c.in-Some.place (sym c.in-Some.is ∙ c.place_of.ensures) in
+    let low = within c.args.name.now c.args.self.now.bindings.items c.in_ok-place.place c.in_ok-place.ensures in
     omega arith
 
-pub returns-in-Some : goal.returns-in-Some
-returns-in-Some c =
-    found c.args.name.now c.args.self.now.bindings.items c.args.self.now.start c.in-Some.place c.index.result.now (sym c.in-Some.is ∙ c.place_of.ensures) c.index.ensures
-
-pub returns-in-None : goal.returns-in-None
-returns-in-None c = not_found c.args.name.now c.args.self.now.bindings.items c.args.self.now.start (sym c.in-None.is ∙ c.place_of.ensures)
+pub returns : goal.returns
+returns c =
+    found c.args.name.now c.args.self.now.bindings.items c.args.self.now.start c.in_ok-place.place c.index.result.now c.in_ok-place.ensures c.index.ensures

@@ -1,7 +1,7 @@
 -- `run`: an image on a stack of a given size.
 use Rattle.std.specs.Prelude.{◌≡◌, ◌≢◌, ℕ, ℤ, ◌<◌, ◌≤◌, List, [], ◌∷◌, length, IsTrue, ltb, eqb, if◌then◌else◌, Option, Some, None, Result, Ok, Err, Vec}
 use Rattle.std.specs.declared.alloc.Global.{Global}
-use Rattle.qs_ports.specs.StoreView.{StoreView}
+use Rattle.qs_ports.specs.StoreView.{StoreView, Files}
 use Rattle.qs_ports.specs.SinkView.{SinkView}
 use Rattle.qs_image.specs.Image.{Image, IsImage}
 use Rattle.qs_image.specs.Bytes.{image_of}
@@ -208,10 +208,6 @@ pub data IsOfRun : Status → Type 0 where
   step_limit : (steps : ℕ) → IsOfRun (StepLimit steps)
 
 -- ---- the status, by the words and the files alone: the tests in their order, then the machine
-
--- the file of a name, if there is one
-abbrev pub Files : Type 0
-Files = List ℕ → Option (List ℕ)
 
 -- at the outcome of the machine
 abbrev pub at_outcome : RunWords → Image → List ℕ → Status

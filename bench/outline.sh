@@ -1,5 +1,5 @@
 #!/usr/bin/env bash
-# Times a command on units of up to 10,000 nodes, on 4 MiB of native stack: bench/outline.sh [PROGRAM] (by default ./qsc,
+# Times `outline` on units of up to 10,000 nodes, on 4 MiB of native stack: bench/outline.sh [PROGRAM] (by default ./qsc,
 # which is proved and built at its first call). Prints a line for each shape and size: 2,500, 5,000 and 10,000 nodes or as
 # many as the other limits allow. Ends with 1 where a unit has no outline, or the largest takes more than 100 ms.
 set -u

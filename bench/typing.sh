@@ -1,7 +1,7 @@
 #!/usr/bin/env bash
-# Times a command on units of up to 10,000 nodes, on 4 MiB of native stack: bench/typing.sh [PROGRAM] (by default ./qsc,
+# Times `check` on units of up to 10,000 nodes, on 4 MiB of native stack: bench/typing.sh [PROGRAM] (by default ./qsc,
 # which is proved and built at its first call). Prints a line for each shape and size: 2,500, 5,000 and 10,000 nodes or as
-# many as the other limits allow. Ends with 1 where a unit isn't typed to its end, or the largest takes more than 100 ms.
+# many as the other limits allow. Ends with 1 where a unit isn't checked to its end, or the largest takes more than 100 ms.
 set -u
 here=$(dirname "$(readlink -f "${BASH_SOURCE[0]}")")
 source "$here/program.sh"
@@ -13,10 +13,10 @@ for shape in $shapes; do
   for nodes in 2500 5000 10000; do
     unit_of $shape $nodes >a.c
     TIMEFORMAT=%U
-    spent=$({ time "$program" build a.c --out a.img >out 2>line; } 2>&1)
+    spent=$({ time "$program" check a.c >out 2>line; } 2>&1)
     milliseconds=$((10#${spent/./}))
-    printf '%-12s %6d nodes %8d bytes %6d ms  %s\n' $shape $nodes "$(wc -c <a.c)" $milliseconds "$(cut -c1-60 line)"
-    [ "$(cat line)" = 'a.c: not in the first form' ] || slow=1
+    printf '%-12s %6d nodes %8d bytes %6d ms  %s\n' $shape $nodes "$(wc -c <a.c)" $milliseconds "$(cat out line | cut -c1-60)"
+    [[ $(cat out line) = 'checked 0 derived '* ]] || slow=1
   done
   [ $milliseconds -le 100 ] || slow=1
 done

@@ -122,10 +122,16 @@ fn named(alloc: Global, name: &str, words: &[String]) -> Result<Command, CliFaul
 /// operand or a VALUE isn't empty and doesn't begin with `-`; a VALUE behind `=` isn't empty. Each
 /// option stands at most once.
 ///
-/// | Command | Options, the required ones with a star | |---|---| | `build SRC` | `--proof`,
-/// `--out`* | | `check SRC` | `--proof` | | `bound SRC` | `--proof`, `--args` | | `derive SRC` |
-/// `--out`* | | `outline SRC` | | | `run IMG` | `--stack`*, `--args`, `--input`, `--steps` | |
-/// `exec SRC` | `--proof`, `--args`, `--input`, `--steps` | | `sample N` | `--out` |
+/// The commands and their options, the required ones with a star:
+///
+/// - `build SRC`: `--proof`, `--out`*
+/// - `check SRC`: `--proof`
+/// - `bound SRC`: `--proof`, `--args`
+/// - `derive SRC`: `--out`*
+/// - `outline SRC`: none
+/// - `run IMG`: `--stack`*, `--args`, `--input`, `--steps`
+/// - `exec SRC`: `--proof`, `--args`, `--input`, `--steps`
+/// - `sample N`: `--out`
 ///
 /// `--stack` and N have 1 to 19 decimal digits, and N is 1 to 500. `--steps` has 1 to 10 digits and
 /// is 1 to 1,000,000,000, and 100,000,000 where it isn't given. `--args` has 1 to 8 numbers with

@@ -21,6 +21,7 @@ pub mod OneSource
 pub mod MadeLaws
 pub mod MadeFollows
 pub mod StepsLaws
+pub mod StartingLaws
 pub mod CountLaws
 pub mod HeadlineLaws
 pub mod SampleTrees

@@ -14,7 +14,7 @@ use Rattle.qs_certify.proofs.RefusalLaws.{units_without_recursion_are_certified}
 use Rattle.qs_driver.specs.Certified.{TellsFault}
 use Rattle.qs_driver.specs.SampleLaws.{IsGoodSource}
 use Rattle.qs_driver.specs.Source.{IsTypedAs, RefusesText, has_lex_fault, has_syntax_fault, has_type_fault, lacks_memory}
-use Rattle.qs_driver.specs.commands.Exec.{IsStackOf}
+use Rattle.qs_driver.specs.Starting.{IsStackOf}
 use Rattle.qs_driver.specs.declared.status.Status.{Status}
 use Rattle.qs_driver.specs.declared.status.Status.TheVariants.{NoMemory}
 use Rattle.qs_driver.proofs.SourceLaws.{no_unit, syntax_no_unit, lex_or_unit, ill_typed_or_typed, same_trees}

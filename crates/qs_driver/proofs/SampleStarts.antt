@@ -10,7 +10,8 @@ use Rattle.qs_driver.specs.Made as made
 use Rattle.qs_driver.specs.SampleLaws.{HasSmallBound, IsSampleCount}
 use Rattle.qs_driver.specs.SampleSource.{sample_text}
 use Rattle.qs_driver.specs.Source.{IsTypedAs, RefusesText}
-use Rattle.qs_driver.specs.commands.Exec.{ExecWords, as_run, IsStackOf, LoadsImage}
+use Rattle.qs_driver.specs.Starting.{RunWords, IsStackOf, LoadsImage}
+use Rattle.qs_driver.specs.commands.Exec.{as_run}
 use Rattle.qs_driver.specs.commands.Sample.{as_exec, CanStart}
 use Rattle.qs_driver.specs.declared.certified.CertifiedUnit.{CertifiedUnit}
 use Rattle.qs_driver.specs.declared.made.Made.{Made}
@@ -20,7 +21,7 @@ use Rattle.qs_driver.proofs.CertifiedLaws.{HoldsCertified, holds_certified}
 use Rattle.qs_driver.proofs.SampleLaws.{samples_are_good}
 use Rattle.qs_driver.proofs.SampleStacks.{samples_have_stacks}
 use Rattle.qs_driver.proofs.SampleRefusals.{good_text_is_typed, good_core, good_core_is_certified, stack_is_there}
-use Rattle.qs_driver.proofs.rooms.Exec.{lacks_none, no_load}
+use Rattle.qs_driver.proofs.StartingLaws.{lacks_none, no_load}
 use Rattle.qs_driver.proofs.rooms.Sample.{image_of, bound_of_held}
 
 pub not_refused : (text : List ℕ) (status : Status) → RefusesText text status → CanStart text → status ≡ NoMemory
@@ -39,7 +40,7 @@ pub not_unmade : {text : List ℕ} {unit : List DeclTree} {c : CertifiedUnit} (s
 not_unmade {c = c} status t read k (made.lacks_words image compiled lacks) can =
     let h = holds_certified None c t read k in
     let bound : HasSmallBound h.source image = small_bound h image (image_of h compiled) can in
-    lacks_none image as_exec status bound.arguments lacks
+    lacks_none image [] status bound.arguments lacks
 not_unmade status t read k (made.lacks_memory e) can = e
 
 pub not_without_stack : {text : List ℕ} {unit : List DeclTree} {c : CertifiedUnit} {m : Made} (status : Status) → IsTypedAs text unit → IsRead unit → IsCertifiedUnit unit None c → IsMadeOf c [] m → IsStackOf m.bound (Err status) → CanStart text → status ≡ NoMemory
@@ -50,10 +51,10 @@ not_without_stack {c = c} {m = m} status t read k is none can =
 
 is_loaded : {c : CertifiedUnit} {m : Made} (stack : ℕ) (status : Status) → IsMadeOf c [] m → IsStackOf m.bound (Ok stack) → LoadsImage m.image (as_run as_exec stack) (Err status) → status ≡ NoMemory
 is_loaded stack status is (found, small) (inl e) = cc
-is_loaded {m = m} stack status is (found, small) (inr l) = no_load as_exec stack l.bytes m.image status is.arguments small l.is_image l.loads
+is_loaded {m = m} stack status is (found, small) (inr l) = no_load (as_run as_exec stack) l.bytes m.image status is.arguments small l.is_image l.loads
 
-pub not_unloaded : {c : CertifiedUnit} {m : Made} (words : ExecWords) (stack : ℕ) (status : Status) → words ≡ as_exec → IsMadeOf c [] m → IsStackOf m.bound (Ok stack) → LoadsImage m.image (as_run words stack) (Err status) → status ≡ NoMemory
-not_unloaded {m = m} words stack status same is found l = is_loaded stack status is found (subst (λ (x : ExecWords). LoadsImage m.image (as_run x stack) (Err status)) same l)
+pub not_unloaded : {c : CertifiedUnit} {m : Made} (words : RunWords) (stack : ℕ) (status : Status) → words ≡ as_run as_exec stack → IsMadeOf c [] m → IsStackOf m.bound (Ok stack) → LoadsImage m.image words (Err status) → status ≡ NoMemory
+not_unloaded {m = m} words stack status same is found l = is_loaded stack status is found (subst (λ (r : RunWords). LoadsImage m.image r (Err status)) same l)
 
 -- each sample can be started
 pub samples_start : (n : ℕ) → IsSampleCount n → CanStart (sample_text n)

@@ -15,6 +15,7 @@ pub mod Bounds
 pub mod Sizes
 pub mod Arguments
 pub mod Made
+pub mod Starting
 pub mod SampleSource
 pub mod KeptOutput
 pub mod Task

@@ -4,12 +4,12 @@ use Rattle.std.specs.declared.alloc.Global.{Global}
 use Rattle.std.specs.declared.string.String.{String}
 use Rattle.qs_cli.specs.Reading.{text_of}
 use Rattle.qs_driver.specs.Certified.{CertifyWords, certify_words}
+use Rattle.qs_driver.specs.Starting.{RunWords, run_words}
 use Rattle.qs_driver.specs.commands.Bound.{BoundWords, bound_words}
 use Rattle.qs_driver.specs.commands.Build.{BuildWords, build_words}
 use Rattle.qs_driver.specs.commands.Derive.{DeriveWords, derive_words}
 use Rattle.qs_driver.specs.commands.Exec.{ExecWords, exec_words}
 use Rattle.qs_driver.specs.commands.Outline.{OutlineWords, outline_words}
-use Rattle.qs_driver.specs.commands.Run.{RunWords, run_words}
 use Rattle.qs_driver.specs.commands.Sample.{SampleWords, sample_words}
 
 abbrev pub to_build : String Global → Option (String Global) → String Global → BuildWords

@@ -8,12 +8,13 @@ use Rattle.qs_cli.specs.Commands.{Command, meaning, Build, Check, Bound, Derive,
 use Rattle.qs_driver.specs.Task.{Task}
 use Rattle.qs_driver.specs.commands.Usage.{none}
 use Rattle.qs_driver.specs.Certified.{certify_words}
+use Rattle.qs_driver.specs.Starting.{run_words}
 use Rattle.qs_driver.specs.commands.Build.{build, build_words}
 use Rattle.qs_driver.specs.commands.Bound.{bound, bound_words}
 use Rattle.qs_driver.specs.commands.Check.{check}
 use Rattle.qs_driver.specs.commands.Derive.{derive, derive_words}
 use Rattle.qs_driver.specs.commands.Outline.{outline, outline_words}
-use Rattle.qs_driver.specs.commands.Run.{run, run_words}
+use Rattle.qs_driver.specs.commands.Run.{run}
 use Rattle.qs_driver.specs.commands.Exec.{exec, exec_words}
 use Rattle.qs_driver.specs.commands.Sample.{sample, sample_words}
 

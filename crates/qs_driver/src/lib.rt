@@ -18,6 +18,7 @@ mod names;
 mod orders;
 mod sample_source;
 mod source;
+mod starting;
 mod status;
 mod told;
 mod tool;

@@ -5,12 +5,12 @@ ghost use Rattle.qs_driver.specs.Certified as certified;
 ghost use Rattle.qs_driver.specs.Names.{name_in};
 ghost use Rattle.qs_driver.specs.Orders.{to_bound, to_build, to_check, to_derive, to_exec};
 ghost use Rattle.qs_driver.specs.Orders.{to_outline, to_run, to_sample};
+ghost use Rattle.qs_driver.specs.Starting as run;
 ghost use Rattle.qs_driver.specs.commands.Bound as bound;
 ghost use Rattle.qs_driver.specs.commands.Build as build;
 ghost use Rattle.qs_driver.specs.commands.Derive as derive;
 ghost use Rattle.qs_driver.specs.commands.Exec as exec;
 ghost use Rattle.qs_driver.specs.commands.Outline as outline;
-ghost use Rattle.qs_driver.specs.commands.Run as run;
 ghost use Rattle.qs_driver.specs.commands.Sample as sample;
 
 use crate::certified::CertifyOrder;
@@ -19,8 +19,8 @@ use crate::commands::build::BuildOrder;
 use crate::commands::derive::DeriveOrder;
 use crate::commands::exec::ExecOrder;
 use crate::commands::outline::OutlineOrder;
-use crate::commands::run::RunOrder;
 use crate::commands::sample::SampleOrder;
+use crate::starting::RunOrder;
 
 fn name_in(name: &Option<String>) -> Option<&str>
     ensures { name_in result ≡ text_of name.now }

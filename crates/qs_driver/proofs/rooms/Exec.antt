@@ -1,27 +1,21 @@
 -- How `exec` comes to a machine and its input, and what it came to.
-use Rattle.std.proofs.Common.{◌≡◌, ℕ, ◌≤◌, List, [], ◌∷◌, Option, Some, None, Result, Ok, Err, refl, sym, ap, subst, inl, inr, arith}
+use Rattle.std.proofs.Common.{◌≡◌, ℕ, List, [], ◌∷◌, Option, Some, None, Result, Ok, Err, refl, sym, ap, subst, inl, inr, arith}
 use Rattle.std.specs.Prelude.{Vec}
 use Rattle.std.specs.declared.alloc.Global.{Global}
 use Rattle.qs_assert.specs.declared.define.Amount.{Amount}
 use Rattle.qs_meaning.specs.Typed.{TypedProgram}
 use Rattle.qs_ports.specs.StoreView.{StoreView}
 use Rattle.qs_ports.specs.SinkView.{SinkView, Appends, IsCut}
-use Rattle.qs_image.specs.Image.{Image, IsImage}
-use Rattle.qs_image.proofs.Images.{reads, one_image}
+use Rattle.qs_image.specs.Image.{Image}
 use Rattle.qs_machine.specs.Arguments.{AreArguments, words_of}
-use Rattle.qs_machine.specs.Run.{Outcome, Exited, Trapped as HasTrapped, Going, machine, start, output_so_far}
+use Rattle.qs_machine.specs.Run.{Outcome, Exited, Trapped as HasTrapped, Going, machine, output_so_far}
 use Rattle.qs_machine.specs.Running.{Shows}
-use Rattle.qs_machine.specs.Standing.{Stands}
-use Rattle.qs_machine.specs.State.{stack_limit}
 use Rattle.qs_machine.specs.declared.answers.RunEnd.{RunEnd}
 use Rattle.qs_machine.specs.declared.answers.RunEnd.TheVariants as end
-use Rattle.qs_machine.specs.declared.machine.Machine.{Machine}
 use Rattle.qs_emit.specs.Agree.{Agree}
 use Rattle.qs_compile.specs.Agree.{IsInput}
 use Rattle.qs_report.specs.Lines.{bound_line, end_line}
 use Rattle.qs_report.specs.declared.fault_texts.Shown.TheVariants as shown
-use Rattle.qs_driver.specs.Arguments.{LacksWords}
-use Rattle.qs_driver.specs.Arguments as arguments
 use Rattle.qs_driver.specs.Bounds.{bytes_by, if_finite, seen_runs}
 use Rattle.qs_driver.specs.Faults.{status_line}
 use Rattle.qs_driver.specs.Devices.{streams, views_of}
@@ -30,33 +24,18 @@ use Rattle.qs_driver.specs.Due.{Due, refusal, EndsWith, IsWritten}
 use Rattle.qs_driver.specs.Files.{IsUntouched}
 use Rattle.qs_driver.specs.Made.{MakeWords, HasMade, IsMade, CannotMake}
 use Rattle.qs_driver.specs.Task.{Answers}
-use Rattle.qs_driver.specs.commands.Run.{CannotLoad, Finishes, ReadInput, ReadsNamed, WasLoaded}
-use Rattle.qs_driver.specs.commands.Run as run_meant
-use Rattle.qs_driver.specs.commands.Exec.{ExecWords, names_of, to_make, as_run, exec, after_run, refused_after, HasStack, IsDueAt, IsDueToExec, IsSourcesEnd, IsStackOf, LoadsImage, CannotExec, HasStarted, Starts, IsFresh}
+use Rattle.qs_driver.specs.Starting.{ReadInput, IsStackOf, LoadsImage, ReadsNamed, Finishes}
+use Rattle.qs_driver.specs.commands.Exec.{ExecWords, names_of, to_make, as_run, exec, after_run, refused_after, HasStack, IsDueAt, IsDueToExec, IsSourcesEnd, CannotExec, HasStarted, Starts, IsFresh}
 use Rattle.qs_driver.specs.commands.Exec as meant
 use Rattle.qs_driver.specs.declared.commands.exec.Started.{Started}
-use Rattle.qs_driver.specs.declared.commands.run.Ready.{Ready}
+use Rattle.qs_driver.specs.declared.starting.Ready.{Ready}
 use Rattle.qs_driver.specs.declared.made.Made.{Made}
 use Rattle.qs_driver.specs.declared.status.Status.{Status}
 use Rattle.qs_driver.specs.declared.status.Status.TheVariants.{Done, Trapped, StepLimit, SinkFailed, NoMemory}
 use Rattle.qs_driver.proofs.BoundsLaws.{image_takes}
 use Rattle.qs_driver.proofs.LaterLaws.{both_untouched, unread_later, was_read_before}
+use Rattle.qs_driver.proofs.StartingLaws.{no_load, stands_at}
 use Rattle.qs_driver.proofs.StepsLaws.{due_of, put_goes_on, put_fails, log_last, then_log, out_fails}
-
--- ---- the image in memory
-
--- where the arguments are those of the image, they have words
-pub lacks_none : (image : Image) (e : ExecWords) (status : Status) → AreArguments image e.args → LacksWords image e.args status → status ≡ NoMemory
-lacks_none image e status are (arguments.count_differs ne x) = absurd (ne are.count)
-lacks_none image e status are (arguments.misfit i count first x) = absurd (let none = are.fit in let never : ⊥ = cc in never)
-lacks_none image e status are (arguments.no_memory x) = x
-
--- an image that has a stack is loaded, where memory is found
-pub no_load : (e : ExecWords) (stack : ℕ) (bytes : List ℕ) (image : Image) (status : Status) → AreArguments image e.args → stack ≤ stack_limit → IsImage bytes image → CannotLoad bytes (as_run e stack) status → status ≡ NoMemory
-no_load e stack bytes image status are small is (run_meant.bad_image fault first x) = absurd (let none = (reads bytes image is).0 in let never : ⊥ = cc in never)
-no_load e stack bytes image status are small is (run_meant.no_words other also l) = lacks_none image e status are (subst (λ (i : Image). LacksWords i e.args status) (one_image bytes other image also is) l)
-no_load e stack bytes image status are small is (run_meant.too_large other also fit large x) = absurd (omega (arith, small, large))
-no_load e stack bytes image status are small is (run_meant.lacks_memory x) = x
 
 -- ---- how it comes to a machine and its input
 
@@ -76,7 +55,7 @@ no_stack e v w made status h (is, none) = meant.no_stack made.bound h.untouched 
 
 pub not_loaded : (e : ExecWords) (v w : StoreView) (made : Made) (stack : ℕ) (status : Status) → HasMade (to_make e) v w made → IsStackOf made.bound (Ok stack) → LoadsImage made.image (as_run e stack) (Err status) → Starts e v w (Err status)
 not_loaded e v w made stack status h is (inl x) = let same : status ≡ NoMemory = cc in meant.no_memory h.untouched same
-not_loaded e v w made stack status h (is, small) (inr l) = meant.no_memory h.untouched (no_load e stack l.bytes made.image status (images_arguments h.is_made) small l.is_image l.loads)
+not_loaded e v w made stack status h (is, small) (inr l) = meant.no_memory h.untouched (no_load (as_run e stack) l.bytes made.image status (images_arguments h.is_made) small l.is_image l.loads)
 
 input_refused : (e : ExecWords) (u v w : StoreView) (image : Image) (stack : ℕ) (input : Option (List ℕ)) (status : Status) → e.input ≡ input → IsUntouched u v → HasStack e u image stack → ReadsNamed v w input (Err status) → Starts e u w (Err status)
 input_refused e u v w image stack None status is f h r = absurd r
@@ -94,10 +73,6 @@ read_later : (u v w : StoreView) (name : Option (List ℕ)) (input : Vec ℕ Glo
 read_later u v w None input f (empty, g) = record { read = empty; untouched = both_untouched f g }
 read_later u v w (Some name) input f r = record { read = was_read_before f r.read_as; untouched = both_untouched f r.untouched }
 
--- the machine stands at the start of the image that was made
-pub stands_at : (e : ExecWords) (bytes : List ℕ) (image : Image) (stack : ℕ) (machine : Machine) (input : List ℕ) → IsImage bytes image → (l : WasLoaded bytes (as_run e stack) machine) → Stands machine image stack input (start image (words_of e.args) input)
-stands_at e bytes image stack machine input is l = subst (λ (i : Image). Stands machine i stack input (start i (words_of e.args) input)) (one_image bytes l.image image l.is_image is) (l.stands input)
-
 pub has_started : (e : ExecWords) (u v w : StoreView) (made : Made) (stack : ℕ) (ready : Ready) → HasMade (to_make e) u v made → IsStackOf made.bound (Ok stack) → LoadsImage made.image (as_run e stack) (Ok ready.machine) → ReadsNamed v w e.input (Ok ready.input) → IsInput ready.input.items → Starts e u w (Ok (record { stack = stack; ready = ready }))
 has_started e u v w made stack ready h is (inl never) r bytes = absurd (let none : ⊥ = cc in none)
 has_started e u v w made stack ready h is (inr l) r bytes =
@@ -109,7 +84,7 @@ has_started e u v w made stack ready h is (inr l) r bytes =
       bytes = bytes;
       untouched = later.untouched;
       none_taken = l.loads.none_taken;
-      stands = stands_at e l.bytes made.image stack ready.machine ready.input.items l.is_image l.loads;
+      stands = stands_at (as_run e stack) l.bytes made.image ready.machine ready.input.items l.is_image l.loads;
     }
 
 pub fresh : (e : ExecWords) (v w : StoreView) (started : Result Started Status) → Starts e v w started → IsFresh started

@@ -15,8 +15,8 @@ use Rattle.qs_driver.specs.Files as files
 use Rattle.qs_driver.specs.Made as made_meant
 use Rattle.qs_driver.specs.Made.{FitsMain, IsOfMade}
 use Rattle.qs_driver.specs.Promises.{StoreHeld, SaysStoreFailed}
-use Rattle.qs_driver.specs.commands.Run.{HasInput, ReadInput, status_at}
-use Rattle.qs_driver.specs.commands.Exec.{ExecWords, to_make, exec, HasRun, IsNoStack, HasStack, HasNoStack, ComesToInput, CannotExec, IsDueAt, IsDueToExec, LacksInput, HasLongInput, Ends, Accepts, Refuses, IsOfExec}
+use Rattle.qs_driver.specs.Starting.{HasInput, ReadInput, IsNoStack, status_at}
+use Rattle.qs_driver.specs.commands.Exec.{ExecWords, to_make, exec, HasRun, HasStack, HasNoStack, ComesToInput, CannotExec, IsDueAt, IsDueToExec, LacksInput, HasLongInput, Ends, Accepts, Refuses, IsOfExec}
 use Rattle.qs_driver.specs.commands.Exec as meant
 use Rattle.qs_driver.specs.declared.status.Status.{Status}
 use Rattle.qs_driver.specs.declared.status.Status.TheVariants.{Source, Missing, NoBound, NoMemory}

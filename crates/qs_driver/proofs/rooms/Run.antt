@@ -1,5 +1,5 @@
 -- How `run` comes to a machine and its input, and what it came to.
-use Rattle.std.proofs.Common.{◌≡◌, ℕ, ◌≤◌, List, length, Option, Some, None, Result, Ok, Err, refl, sym, subst, arith}
+use Rattle.std.proofs.Common.{◌≡◌, ℕ, List, Option, Some, None, Result, Ok, Err, refl, sym, subst}
 use Rattle.qs_ports.specs.StoreView.{StoreView}
 use Rattle.qs_ports.specs.SinkView.{SinkView}
 use Rattle.qs_image.specs.Image.{Image, IsImage}
@@ -18,9 +18,11 @@ use Rattle.qs_machine.specs.Arguments.{words_of}
 use Rattle.qs_driver.specs.Arguments.{LacksWords}
 use Rattle.qs_driver.specs.Arguments as arguments
 use Rattle.qs_driver.specs.Task.{Answers}
-use Rattle.qs_driver.specs.commands.Run.{RunWords, names_of, run, ReadImage, ReadInput, CannotRun, IsDueToRun, IsDueAt, after_output, refused_after, CannotLoad, WasLoaded, IsReady, ReadsNamed, Prepares, IsFresh, Finishes}
+use Rattle.qs_driver.specs.Starting.{RunWords, names_of, ReadInput, CannotLoad, WasLoaded, ReadsNamed, Finishes}
+use Rattle.qs_driver.specs.Starting as starting
+use Rattle.qs_driver.specs.commands.Run.{run, ReadImage, CannotRun, IsDueToRun, IsDueAt, after_output, refused_after, IsReady, Prepares, IsFresh}
 use Rattle.qs_driver.specs.commands.Run as meant
-use Rattle.qs_driver.specs.declared.commands.run.Ready.{Ready}
+use Rattle.qs_driver.specs.declared.starting.Ready.{Ready}
 use Rattle.qs_driver.specs.declared.status.Status.{Status}
 use Rattle.qs_driver.specs.declared.status.Status.TheVariants.{Done, Trapped, StepLimit}
 use Rattle.qs_driver.specs.declared.status.FileKind.TheVariants as kinds
@@ -49,15 +51,15 @@ no_words r read i (arguments.no_memory e) = meant.no_memory read.untouched e
 
 -- the image was read, and wasn't loaded
 pub not_loaded : (r : RunWords) (v w : StoreView) (bytes : List ℕ) (status : Status) → WasRead v w r.image image_limit bytes → CannotLoad bytes r status → CannotRun r v w status
-not_loaded r v w bytes status read (meant.bad_image fault f e) = meant.no_image fault read.untouched (record { content = bytes; read_as = read.read_as; has = f }) e
-not_loaded r v w bytes status read (meant.no_words image i f) = no_words r read i f
-not_loaded r v w bytes status read (meant.too_large image i are large e) = meant.stack_too_large read.untouched (record {
+not_loaded r v w bytes status read (starting.bad_image fault f e) = meant.no_image fault read.untouched (record { content = bytes; read_as = read.read_as; has = f }) e
+not_loaded r v w bytes status read (starting.no_words image i f) = no_words r read i f
+not_loaded r v w bytes status read (starting.too_large image i are large e) = meant.stack_too_large read.untouched (record {
   image = image;
   image_read = read_image r read i;
   arguments = are;
   large = large;
 }) e
-not_loaded r v w bytes status read (meant.lacks_memory e) = meant.no_memory read.untouched e
+not_loaded r v w bytes status read (starting.lacks_memory e) = meant.no_memory read.untouched e
 
 -- ---- the input, which is read after the image
 
@@ -94,9 +96,6 @@ input_is_refused r u v w bytes machine status read l h = input_refused r u v w b
 pub fresh : (r : RunWords) (v w : StoreView) (prepared : Result Ready Status) → Prepares r v w prepared → IsFresh prepared
 fresh r v w (Ok ready) h = h.none_taken
 fresh r v w (Err status) h = tt
-
-pub may_run : (taken : ℕ) (input : List ℕ) → taken ≡ 0 → taken ≤ length input
-may_run taken input e = omega arith
 
 -- what is due at an outcome, with its output on `out` first
 record IsDueWith (r : RunWords) (outcome : Outcome) : Type 0 where

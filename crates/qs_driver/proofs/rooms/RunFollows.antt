@@ -1,7 +1,7 @@
 -- What follows from what is due to `run`.
 use Rattle.std.proofs.Common.{◌≡◌, ◌≢◌, ◌⊎◌, ℕ, ◌<◌, List, length, Bool, true, false, ltb, eqb, if◌then◌else◌, Option, Some, None, sym, ◌∙◌, ap, subst, inl, inr, IsTrue}
 use Rattle.std.proofs.lemmas.Bool.{le-ltb, lt-ltb, eq-eqb, ne_eqb}
-use Rattle.qs_ports.specs.StoreView.{StoreView}
+use Rattle.qs_ports.specs.StoreView.{StoreView, Files}
 use Rattle.qs_image.specs.Image.{Image}
 use Rattle.qs_image.specs.Faults.{first_fault}
 use Rattle.qs_image.proofs.Images.{reads}
@@ -13,7 +13,8 @@ use Rattle.qs_driver.specs.Files.{HoldsContent, IsTooLong, CannotRead}
 use Rattle.qs_driver.specs.Files as files
 use Rattle.qs_machine.specs.Arguments.{first_misfit, words_of}
 use Rattle.qs_driver.specs.Promises.{StoreHeld, SaysStoreFailed}
-use Rattle.qs_driver.specs.commands.Run.{RunWords, run, CannotRun, ComesToInput, IsDueToRun, IsDueAt, HasInput, ReadInput, HoldsImage, CanRun, IsGood, outcome, IsOfRun, Accepts, Files, status_at, at_outcome, at_input, at_start, at_arguments, at_image, at_bytes, at_file, run_status}
+use Rattle.qs_driver.specs.Starting.{RunWords, CanRun, HasInput, ReadInput, status_at}
+use Rattle.qs_driver.specs.commands.Run.{run, CannotRun, ComesToInput, IsDueToRun, IsDueAt, HoldsImage, IsGood, outcome, IsOfRun, Accepts, at_outcome, at_input, at_start, at_arguments, at_image, at_bytes, at_file, run_status}
 use Rattle.qs_driver.specs.commands.Run as meant
 use Rattle.qs_driver.specs.declared.status.Status.{Status}
 use Rattle.qs_driver.specs.declared.status.Status.TheVariants.{Source, Words, Missing, StackTooLarge, NoMemory}

@@ -28,7 +28,8 @@ use Rattle.qs_driver.specs.Made.{IsMadeOf}
 use Rattle.qs_driver.specs.SampleSource.{sample_text}
 use Rattle.qs_driver.specs.Source.{IsTypedAs}
 use Rattle.qs_driver.specs.Task.{Answers}
-use Rattle.qs_driver.specs.commands.Exec.{as_run, IsSourcesEnd, IsStackOf, LoadsImage}
+use Rattle.qs_driver.specs.Starting.{IsStackOf, LoadsImage}
+use Rattle.qs_driver.specs.commands.Exec.{as_run, IsSourcesEnd}
 use Rattle.qs_driver.specs.commands.Sample.{SampleWords, names_of, as_exec, counted, outcome, sample, sample_lines, due_of, HasStarted, HasWritten, IsDueAt, IsDueToSample, ComesTo, RunsCounted, Samples, WritesText}
 use Rattle.qs_driver.specs.commands.Sample as meant
 use Rattle.qs_driver.specs.declared.certified.CertifiedUnit.{CertifiedUnit}
@@ -40,7 +41,8 @@ use Rattle.qs_driver.specs.declared.status.Status.{Status}
 use Rattle.qs_driver.specs.declared.status.Status.TheVariants.{Done, Trapped, StepLimit, NoMemory}
 use Rattle.qs_driver.proofs.BoundsLaws.{compiled_is_image, is_compiled}
 use Rattle.qs_driver.proofs.CertifiedLaws.{HoldsCertified, holds_certified}
-use Rattle.qs_driver.proofs.rooms.Exec.{sources_end, stands_at}
+use Rattle.qs_driver.proofs.StartingLaws.{stands_at}
+use Rattle.qs_driver.proofs.rooms.Exec.{sources_end}
 use Rattle.qs_driver.proofs.rooms.Follows.{untouched}
 use Rattle.qs_driver.proofs.StepsLaws.{log_last, out_last}
 
@@ -75,7 +77,7 @@ has_started {c = c} {made = made} started typed_as read k m (is, small) (inr l) 
       };
       functions_are = functions_are;
       none_taken = l.loads.none_taken;
-      stands = stands_at as_exec l.bytes made.image started.stack started.machine [] l.is_image l.loads;
+      stands = stands_at (as_run as_exec started.stack) l.bytes made.image started.machine [] l.is_image l.loads;
     }
 
 -- ---- the run

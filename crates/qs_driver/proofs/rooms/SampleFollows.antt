@@ -7,7 +7,7 @@ use Rattle.qs_cli.specs.Numbers.{default_steps}
 use Rattle.qs_driver.specs.Due.{Due}
 use Rattle.qs_driver.specs.Promises.{StoreHeld, SaysStoreFailed}
 use Rattle.qs_driver.specs.SampleSource.{sample_text}
-use Rattle.qs_driver.specs.commands.Run.{status_at}
+use Rattle.qs_driver.specs.Starting.{status_at}
 use Rattle.qs_driver.specs.commands.Sample.{SampleWords, outcome, sample, HasWritten, IsDueAt, HasRun, CannotSample, IsDueToSample, Accepts, Refuses, IsOfSample}
 use Rattle.qs_driver.specs.commands.Sample as meant
 use Rattle.qs_driver.specs.declared.status.Status.{Status}

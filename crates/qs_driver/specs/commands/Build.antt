@@ -138,6 +138,6 @@ due_of b (Err status) = refusal (names_of b) status
 abbrev pub due_to : BuildOrder → Result Image Status → Due
 due_to order work = due_of (words_in order) work
 
--- the answer of `build_image`
+-- the answer of `build_file`
 abbrev pub Builds : BuildWords → StoreView → StoreView → Result Image Status → Type 0
 Builds b before after work = IsDueToBuild b before after (due_of b work)

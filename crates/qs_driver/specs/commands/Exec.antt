@@ -1,13 +1,12 @@
 -- `exec`: a source is certified and compiled, and its image is run on a stack of exactly its bound.
-use Rattle.std.specs.Prelude.{◌≡◌, ◌⊎◌, ◌↔◌, ℕ, ◌<◌, ◌≤◌, ℤ, List, [], ◌∷◌, IsTrue, Option, Some, None, Result, Ok, Err}
+use Rattle.std.specs.Prelude.{◌≡◌, ◌⊎◌, ◌↔◌, ℕ, ◌≤◌, ℤ, List, [], ◌∷◌, IsTrue, Option, Some, None, Result, Ok, Err}
 use Rattle.qs_assert.specs.declared.define.Amount.{Amount}
-use Rattle.qs_assert.specs.declared.define.Amount.TheVariants.{Finite, Infinite, Wide}
+use Rattle.qs_assert.specs.declared.define.Amount.TheVariants.{Finite}
 use Rattle.qs_meaning.specs.Typed.{TypedProgram}
 use Rattle.qs_ports.specs.SinkView.{SinkView}
 use Rattle.qs_ports.specs.StoreView.{StoreView}
-use Rattle.qs_image.specs.Image.{Image, IsImage}
+use Rattle.qs_image.specs.Image.{Image}
 use Rattle.qs_machine.specs.declared.answers.Cause.{Cause}
-use Rattle.qs_machine.specs.declared.machine.Machine.{Machine}
 use Rattle.qs_machine.specs.Arguments.{words_of}
 use Rattle.qs_machine.specs.Run.{Outcome, Exited, Trapped as HasTrapped, Going, machine, start}
 use Rattle.qs_machine.specs.Standing.{Stands, taken_of}
@@ -28,8 +27,8 @@ use Rattle.qs_driver.specs.Files.{IsUntouched, IsTooLong, CannotRead}
 use Rattle.qs_driver.specs.Certified.{certify_words, proof_name}
 use Rattle.qs_driver.specs.Made.{MakeWords, make_words, IsMade, CannotMake, FitsMain, IsOfMade, RefusesMade}
 use Rattle.qs_driver.specs.Bounds.{seen_runs}
+use Rattle.qs_driver.specs.Starting.{RunWords, run_words, input_name, ReadInput, HasInput, IsNoStack, status_at}
 use Rattle.qs_driver.specs.Task.{Task, Answers}
-use Rattle.qs_driver.specs.commands.Run.{RunWords, run_words, input_name, ReadInput, HasInput, status_at, Loads}
 use Rattle.qs_driver.specs.declared.commands.exec.ExecOrder.{ExecOrder}
 use Rattle.qs_driver.specs.declared.commands.exec.Started.{Started}
 use Rattle.qs_driver.specs.declared.status.Status.{Status}
@@ -122,12 +121,6 @@ pub record HasRun (e : ExecWords) (before after : StoreView) (due : Due) : Type 
       IsSourcesEnd has_stack.is_made.makes.image_of.compiled.program e input
       (machine image stack (words_of e.args) input e.steps)
   pub is_due : IsDueAt e stack (machine image stack (words_of e.args) input e.steps) due
-
--- there is no stack of so many bytes
-abbrev pub IsNoStack : Amount → Type 0
-IsNoStack (Finite bytes) = stack_limit < bytes
-IsNoStack Infinite = Unit {0}
-IsNoStack Wide = Unit {0}
 
 -- the source's image is made, and there is no stack for its bound
 pub record HasNoStack (e : ExecWords) (before : StoreView) (amount : Amount) : Type 0 where
@@ -237,21 +230,6 @@ abbrev pub to_do : ExecOrder → Task
 to_do order = exec (words_in order)
 
 -- ---- what the parts of the code answer
-
--- the answer of `stack_of`
-abbrev pub IsStackOf : Amount → Result ℕ Status → Type 0
-IsStackOf amount (Ok stack) = (amount ≡ Finite stack) × (stack ≤ stack_limit)
-IsStackOf amount (Err status) = (status ≡ NoBound amount) × IsNoStack amount
-
--- the answer of `load_bytes` on the bytes of the image
-pub record LoadsBytes (image : Image) (r : RunWords) (answer : Result Machine Status) : Type 0 where
-  pub bytes : List ℕ
-  pub is_image : IsImage bytes image
-  pub loads : Loads bytes r answer
-
--- the answer of `loaded`: no memory was found for the bytes, or they were loaded or not
-abbrev pub LoadsImage : Image → RunWords → Result Machine Status → Type 0
-LoadsImage image r answer = (answer ≡ Err NoMemory) ⊎ LoadsBytes image r answer
 
 -- a machine at the start of the source's image, on a stack of its bound, and the input
 pub record HasStarted (e : ExecWords) (before after : StoreView) (started : Started) : Type 0 where

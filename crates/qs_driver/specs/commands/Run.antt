@@ -1,7 +1,6 @@
 -- `run`: an image on a stack of a given size.
-use Rattle.std.specs.Prelude.{◌≡◌, ◌≢◌, ℕ, ℤ, ◌<◌, ◌≤◌, List, [], ◌∷◌, length, IsTrue, ltb, eqb, if◌then◌else◌, Option, Some, None, Result, Ok, Err, Vec}
-use Rattle.std.specs.declared.alloc.Global.{Global}
-use Rattle.qs_ports.specs.StoreView.{StoreView}
+use Rattle.std.specs.Prelude.{◌≡◌, ◌≢◌, ℕ, ◌<◌, List, [], ◌∷◌, length, IsTrue, ltb, eqb, if◌then◌else◌, Option, Some, None, Result, Ok, Err}
+use Rattle.qs_ports.specs.StoreView.{StoreView, Files}
 use Rattle.qs_ports.specs.SinkView.{SinkView}
 use Rattle.qs_image.specs.Image.{Image, IsImage}
 use Rattle.qs_image.specs.Bytes.{image_of}
@@ -10,54 +9,24 @@ use Rattle.qs_image.specs.declared.fault.ImageFault.{ImageFault}
 use Rattle.qs_machine.specs.State.{stack_limit}
 use Rattle.qs_machine.specs.Run.{Outcome, Exited, Trapped as HasTrapped, Going, machine, start}
 use Rattle.qs_machine.specs.Standing.{Stands, taken_of}
-use Rattle.qs_machine.specs.declared.machine.Machine.{Machine}
 use Rattle.qs_machine.specs.declared.answers.Cause.{Cause}
-use Rattle.qs_machine.specs.declared.answers.RunEnd.{RunEnd}
-use Rattle.qs_machine.specs.declared.answers.RunEnd.TheVariants as end
 use Rattle.qs_driver.specs.Limits.{image_limit, input_limit}
-use Rattle.qs_driver.specs.Names.{Names, no_names, name_in}
 use Rattle.qs_report.specs.Lines.{end_line}
 use Rattle.qs_driver.specs.Faults.{status_line}
 use Rattle.qs_driver.specs.Devices.{Streams, streams, views_of}
 use Rattle.qs_driver.specs.Steps.{on_out, on_log}
-use Rattle.qs_driver.specs.Due.{Due, IsRefusal, EndsWith}
-use Rattle.qs_driver.specs.Files.{IsUntouched, HoldsContent, HoldsWith, WasReadAs, WasReadWith, CannotRead, ReadsFile}
+use Rattle.qs_driver.specs.Due.{Due, IsRefusal}
+use Rattle.qs_driver.specs.Files.{IsUntouched, HoldsWith, WasReadWith, CannotRead}
 use Rattle.qs_machine.specs.Arguments.{AreArguments, first_misfit, words_of}
-use Rattle.qs_driver.specs.Arguments.{LacksWords}
+use Rattle.qs_driver.specs.Starting.{RunWords, words_in, names_of, CanRun, HasInput, ReadInput, status_at}
 use Rattle.qs_driver.specs.Task.{Task, Answers}
-use Rattle.qs_driver.specs.declared.commands.run.RunOrder.{RunOrder}
-use Rattle.qs_driver.specs.declared.commands.run.Ready.{Ready}
+use Rattle.qs_driver.specs.declared.starting.RunOrder.{RunOrder}
+use Rattle.qs_driver.specs.declared.starting.Ready.{Ready}
 use Rattle.qs_driver.specs.declared.status.Status.{Status}
-use Rattle.qs_driver.specs.declared.status.Status.TheVariants.{Done, Source, Words, Missing, Image as NotAnImage, Trapped, StepLimit, StackTooLarge, SinkFailed, NoMemory}
+use Rattle.qs_driver.specs.declared.status.Status.TheVariants.{Done, Source, Words, Missing, Image as NotAnImage, Trapped, StepLimit, StackTooLarge, NoMemory}
 use Rattle.qs_driver.specs.declared.status.SourceFault.TheVariants.{TooLong}
 use Rattle.qs_driver.specs.declared.status.WordsFault.TheVariants.{ArgCount, ArgRange}
 use Rattle.qs_driver.specs.declared.status.FileKind.TheVariants as kinds
-
--- ---- the words
-
--- the files, the bytes of stack, the arguments, the most steps
-pub record RunWords : Type 0 where
-  pub image : List ℕ
-  pub stack : ℕ
-  pub args : List ℤ
-  pub input : Option (List ℕ)
-  pub steps : ℕ
-
-abbrev pub run_words : List ℕ → ℕ → List ℤ → Option (List ℕ) → ℕ → RunWords
-run_words image stack args input steps =
-    record { image = image; stack = stack; args = args; input = input; steps = steps }
-
--- the words as the code holds them
-abbrev pub words_in : RunOrder → RunWords
-words_in order =
-    run_words order.image.now order.stack order.args.now (name_in order.input) order.steps
-
-abbrev pub input_name : Option (List ℕ) → List ℕ
-input_name None = []
-input_name (Some name) = name
-
-abbrev pub names_of : RunWords → Names
-names_of r = record no_names { image = r.image; input = input_name r.input }
 
 -- ---- the files
 
@@ -74,22 +43,7 @@ abbrev pub ReadNoImage : StoreView → RunWords → ImageFault → Type 0
 ReadNoImage before r fault =
     WasReadWith before r.image image_limit (λ content. first_fault content ≡ Some fault)
 
--- the input that is named is there, or none is named and the input is empty
-abbrev pub HasInput : StoreView → Option (List ℕ) → List ℕ → Type 0
-HasInput before None input = input ≡ []
-HasInput before (Some name) input = HoldsContent (before.files name) input_limit input
-
--- these bytes were read as the input that is named, or none is named and the input is empty
-abbrev pub ReadInput : StoreView → Option (List ℕ) → List ℕ → Type 0
-ReadInput before None input = input ≡ []
-ReadInput before (Some name) input = WasReadAs before name input_limit input
-
 -- ---- what is due
-
--- the arguments and the stack are those that the image can be run with
-pub record CanRun (r : RunWords) (image : Image) : Type 0 where
-  pub arguments : AreArguments image r.args
-  pub small : r.stack ≤ stack_limit
 
 -- the output on `out`, then a line on `log`
 abbrev pub after_output : List ℕ → Status → List ℕ → Due
@@ -183,12 +137,6 @@ pub record IsGood (r : RunWords) (before : StoreView) : Type 0 where
 abbrev pub outcome : {r : RunWords} {before : StoreView} → IsGood r before → Outcome
 outcome {r} g = machine g.image r.stack (words_of r.args) g.input r.steps
 
--- the status at an outcome
-abbrev pub status_at : ℕ → Outcome → Status
-status_at steps (Exited output status) = Done
-status_at steps (HasTrapped cause pc output) = Trapped cause pc
-status_at steps (Going output) = StepLimit steps
-
 -- each image that can be run is run to its outcome
 abbrev pub Accepts : RunWords → StoreView → Status → Type 0
 Accepts r before status = (g : IsGood r before) → status ≡ status_at r.steps (outcome g)
@@ -208,10 +156,6 @@ pub data IsOfRun : Status → Type 0 where
   step_limit : (steps : ℕ) → IsOfRun (StepLimit steps)
 
 -- ---- the status, by the words and the files alone: the tests in their order, then the machine
-
--- the file of a name, if there is one
-abbrev pub Files : Type 0
-Files = List ℕ → Option (List ℕ)
 
 -- at the outcome of the machine
 abbrev pub at_outcome : RunWords → Image → List ℕ → Status
@@ -270,44 +214,6 @@ to_do order = run (words_in order)
 
 -- ---- what the parts of the code answer
 
--- why bytes aren't loaded
-pub data CannotLoad (bytes : List ℕ) (r : RunWords) (status : Status) : Type 0 where
-  bad_image : (fault : ImageFault) → first_fault bytes ≡ Some fault → status ≡ NotAnImage fault
-      → CannotLoad bytes r status
-  no_words : (image : Image) → IsImage bytes image → LacksWords image r.args status
-      → CannotLoad bytes r status
-  too_large : (image : Image) → IsImage bytes image → AreArguments image r.args
-      → stack_limit < r.stack
-      → status ≡ StackTooLarge r.stack → CannotLoad bytes r status
-  lacks_memory : status ≡ NoMemory → CannotLoad bytes r status
-
--- the machine stands at the start of the image that the bytes are
-pub record WasLoaded (bytes : List ℕ) (r : RunWords) (machine : Machine) : Type 0 where
-  pub image : Image
-  pub is_image : IsImage bytes image
-  pub can_run : CanRun r image
-  pub none_taken : taken_of machine ≡ 0
-  pub stands : (input : List ℕ)
-      → Stands machine image r.stack input (start image (words_of r.args) input)
-
--- the answer of `load_bytes`
-abbrev pub Loads : List ℕ → RunWords → Result Machine Status → Type 0
-Loads bytes r (Ok machine) = WasLoaded bytes r machine
-Loads bytes r (Err status) = CannotLoad bytes r status
-
--- the answer of `read_input`, where the input has this name or none
-abbrev pub ReadsNamed :
-    StoreView → StoreView → Option (List ℕ) → Result (Vec ℕ Global) Status → Type 0
-ReadsNamed before after None (Ok input) = (input.items ≡ []) × IsUntouched before after
-ReadsNamed before after None (Err status) = ⊥
-ReadsNamed before after (Some name) (Ok input) =
-    ReadsFile before after name kinds.Input input_limit (Ok input)
-ReadsNamed before after (Some name) (Err status) =
-    ReadsFile before after name kinds.Input input_limit (Err status)
-
-abbrev pub ReadsInput : RunWords → StoreView → StoreView → Result (Vec ℕ Global) Status → Type 0
-ReadsInput r before after answer = ReadsNamed before after r.input answer
-
 -- a machine at the start of the image that the words name, and the input that they name
 pub record IsReady (r : RunWords) (before after : StoreView) (ready : Ready) : Type 0 where
   pub image : Image
@@ -324,15 +230,6 @@ pub record IsReady (r : RunWords) (before after : StoreView) (ready : Ready) : T
 abbrev pub Prepares : RunWords → StoreView → StoreView → Result Ready Status → Type 0
 Prepares r before after (Ok ready) = IsReady r before after ready
 Prepares r before after (Err status) = CannotRun r before after status
-
--- the line at the end of a run was put on `log`
-abbrev pub Finishes : RunWords → RunEnd → SinkView → SinkView → Status → Type 0
-Finishes r (end.Exited status) v w result = EndsWith (end_line status) Done v w result
-Finishes r (end.Trapped cause pc) v w result =
-    EndsWith (status_line (names_of r) (Trapped cause pc)) (Trapped cause pc) v w result
-Finishes r end.StepLimit v w result =
-    EndsWith (status_line (names_of r) (StepLimit r.steps)) (StepLimit r.steps) v w result
-Finishes r end.SinkFailed v w result = (result ≡ SinkFailed) × (w ≡ v)
 
 -- a machine that was prepared has taken no input yet
 abbrev pub IsFresh : Result Ready Status → Type 0

@@ -22,9 +22,9 @@ use Rattle.qs_driver.specs.Certified.{CertifiedSource, IsCertifiedAs}
 use Rattle.qs_driver.specs.Bounds.{IsImageOf, bound_by, costs_in}
 use Rattle.qs_driver.specs.SampleSource.{sample_text}
 use Rattle.qs_driver.specs.SampleLaws.{IsGoodSource, HasSmallBound}
+use Rattle.qs_driver.specs.Starting.{status_at}
 use Rattle.qs_driver.specs.Task.{Task}
 use Rattle.qs_driver.specs.commands.Exec.{ExecWords, exec_words, IsSourcesEnd}
-use Rattle.qs_driver.specs.commands.Run.{status_at}
 use Rattle.qs_driver.specs.declared.commands.sample.SampleOrder.{SampleOrder}
 use Rattle.qs_driver.specs.declared.commands.sample.SampleStart.{SampleStart}
 use Rattle.qs_driver.specs.declared.commands.sample.SampleEnd.{SampleEnd}

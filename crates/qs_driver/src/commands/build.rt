@@ -69,7 +69,7 @@ fn names_one_twice(order: &BuildOrder<'_>) -> bool
 }
 
 // Writes the image of the source into the out file, and gives it back.
-fn build_image<S: Store>(
+fn build_file<S: Store>(
     alloc: Global,
     order: &BuildOrder<'_>,
     store: &mut S,
@@ -110,5 +110,5 @@ pub fn build<S: Store, O: Sink, L: Sink>(
     ensures { AnswersOn S.view O.view L.view devices.entry devices.exit (to_do order.now) result }
 {
     let Devices { store, out, log } = devices;
-    report(build_image(alloc, order, store), order, out, log)
+    report(build_file(alloc, order, store), order, out, log)
 }

@@ -3,22 +3,19 @@ ghost use Rattle.std.specs.Prelude.{◌≡◌, Ok};
 ghost use Rattle.qs_machine.specs.Standing.{taken_of};
 ghost use Rattle.qs_driver.specs.Certified as meant;
 ghost use Rattle.qs_driver.specs.Names.{names_in};
+ghost use Rattle.qs_driver.specs.Starting as run_meant;
 ghost use Rattle.qs_driver.specs.Task.{AnswersOn};
 ghost use Rattle.qs_driver.specs.commands.Exec.{as_run, names_of, to_do, to_make, words_in};
-ghost use Rattle.qs_driver.specs.commands.Exec.{IsFresh, IsStackOf, LoadsImage, RunsOn, Starts};
-ghost use Rattle.qs_driver.specs.commands.Run as run_meant;
+ghost use Rattle.qs_driver.specs.commands.Exec.{IsFresh, RunsOn, Starts};
 
 use crate::Status;
 use crate::certified::CertifyOrder;
-use crate::commands::run::{Ready, RunOrder, finish, load_bytes, read_input};
 use crate::devices::Devices;
 use crate::due::refuse;
 use crate::laws::consists_of_bytes;
 use crate::made::make;
 use crate::names::{FileNames, nameless};
-use qs_assert::Amount;
-use qs_image::{Image, write};
-use qs_machine::{Machine, STACK_LIMIT};
+use crate::starting::{Ready, RunOrder, finish, loaded, read_input, stack_of};
 use qs_ports::{Sink, Store};
 use qs_report::{Shown, put_bound};
 use std::alloc::Global;
@@ -75,36 +72,6 @@ pub struct Started {
     pub ready: Ready,
 }
 
-/// The bytes of stack that a bound is, if there is a stack of so many.
-pub fn stack_of(bound: Amount) -> Result<u64, Status>
-    ensures { IsStackOf bound result }
-{
-    match bound {
-        Amount::Finite(bytes) => {
-            if bytes <= u128::from(STACK_LIMIT) {
-                Ok(bytes as u64)
-            } else {
-                Err(Status::NoBound(bound))
-            }
-        }
-        Amount::Infinite => Err(Status::NoBound(bound)),
-        Amount::Wide => Err(Status::NoBound(bound)),
-    }
-}
-
-/// The machine at the start of the image.
-pub fn loaded(
-    alloc: Global,
-    order: &ExecOrder<'_>,
-    image: &Image,
-    stack: u64,
-) -> Result<Machine, Status>
-    ensures { LoadsImage image.now (as_run (words_in order.now) stack) result }
-{
-    let bytes = write(alloc, image)?;
-    load_bytes(alloc, &bytes, &run_order(order, stack))
-}
-
 // Certifies and compiles the source, loads its image and reads the input.
 fn start_source<S: Store>(
     alloc: Global,
@@ -115,8 +82,9 @@ fn start_source<S: Store>(
 {
     let made = make(alloc, store, &inputs_of(order), order.args)?;
     let stack = stack_of(made.bound)?;
-    let machine = loaded(alloc, order, &made.image, stack)?;
-    let input = read_input(alloc, &run_order(order, stack), store)?;
+    let run = run_order(order, stack);
+    let machine = loaded(alloc, &made.image, &run)?;
+    let input = read_input(alloc, &run, store)?;
     consists_of_bytes(&input);
     Ok(Started {
         stack,

@@ -7,13 +7,13 @@ ghost use Rattle.qs_driver.specs.Due.{Writes};
 ghost use Rattle.qs_driver.specs.Names.{name_in, names_in};
 ghost use Rattle.qs_driver.specs.Task.{AnswersOn};
 ghost use Rattle.qs_driver.specs.SampleLaws.{IsSampleCount};
-ghost use Rattle.qs_driver.specs.commands.Exec as run_meant;
+ghost use Rattle.qs_driver.specs.Starting as run_meant;
+ghost use Rattle.qs_driver.specs.commands.Exec.{as_run};
 ghost use Rattle.qs_driver.specs.commands.Sample.{as_exec, due_to, lines_of, names_of, to_do};
 ghost use Rattle.qs_driver.specs.commands.Sample.{words_in, RunsCounted, Samples, StartsText};
 ghost use Rattle.qs_driver.specs.commands.Sample.{WritesText};
 
 use crate::certified::certify_typed;
-use crate::commands::exec::{ExecOrder, loaded, stack_of};
 use crate::devices::Devices;
 use crate::due::{refuse, status_after};
 use crate::kept_output::KeptOutput;
@@ -22,6 +22,7 @@ use crate::made::make_certified;
 use crate::names::{FileNames, nameless};
 use crate::sample_source::sample_text;
 use crate::source::typed_text;
+use crate::starting::{RunOrder, loaded, stack_of};
 use crate::{FileKind, SourceFault, Status};
 use qs_cli::DEFAULT_STEPS;
 use qs_image::Image;
@@ -47,13 +48,13 @@ fn names_of<'a>(order: &SampleOrder<'a>) -> FileNames<'a>
     }
 }
 
-// The words of its run: no arguments, no input and the default steps.
-fn run_order() -> ExecOrder<'static>
-    ensures { run_meant.words_in result ≡ as_exec }
+// The words of its run on this stack: no arguments, no input and the default steps.
+fn run_order(stack: u64) -> RunOrder<'static>
+    ensures { run_meant.words_in result ≡ as_run as_exec stack }
 {
-    ExecOrder {
-        source: "",
-        proof: None,
+    RunOrder {
+        image: "",
+        stack,
         args: &[],
         input: None,
         steps: DEFAULT_STEPS,
@@ -112,7 +113,7 @@ fn start_text(alloc: Global, text: &[u8]) -> Result<SampleStart, Status>
     let certified = certify_typed(alloc, typed, None)?;
     let made = make_certified(alloc, &certified, &[])?;
     let stack = stack_of(made.bound)?;
-    let machine = loaded(alloc, &run_order(), &made.image, stack)?;
+    let machine = loaded(alloc, &made.image, &run_order(stack))?;
     Ok(SampleStart {
         functions: count_functions(&made.image),
         stack,

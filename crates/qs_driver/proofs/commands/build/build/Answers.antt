@@ -3,4 +3,4 @@ use Rattle.qs_driver.proofs.rooms.Build.{build_answers}
 use Rattle.qs_driver.proofs.commands.build.build.Goals as goal
 
 pub returns : goal.returns
-returns g c = build_answers (words_in c.args.order.now) _ _ _ _ _ _ c.build_image.result _ c.build_image.ensures c.report.ensures
+returns g c = build_answers (words_in c.args.order.now) _ _ _ _ _ _ c.build_file.result _ c.build_file.ensures c.report.ensures

@@ -1,7 +1,7 @@
 use Rattle.std.proofs.Common.{ℕ, List, ap, subst}
 use Rattle.std.proofs.lemmas.Result.{err_from_is_err_and}
 use Rattle.qs_compile.specs.Agree.{IsInput}
-use Rattle.qs_driver.specs.commands.Run.{RunWords}
+use Rattle.qs_driver.specs.Starting.{RunWords}
 use Rattle.qs_driver.specs.commands.Exec.{words_in}
 use Rattle.qs_driver.proofs.rooms.Exec.{has_started, input_is_refused, no_stack, not_loaded, not_made}
 use Rattle.qs_driver.proofs.commands.exec.start_source.Goals as goal
@@ -19,14 +19,14 @@ returns-in_err-stack g c =
 pub returns-in_err-machine : goal.returns-in_err-machine
 returns-in_err-machine g c =
     let p = err_from_is_err_and c.from_residual-in_err-machine.result c.from_residual-in_err-machine.ensures.1 in
-    rw (p.1, p.2) (not_loaded (words_in c.args.order.now) _ _ _ _ _ (rw c.inputs_of.ensures at c.in_ok-made.ensures) c.in_ok-stack.ensures c.in_err-machine.ensures)
+    rw (p.1, p.2) (not_loaded (words_in c.args.order.now) _ _ _ _ _ (rw c.inputs_of.ensures at c.in_ok-made.ensures) c.in_ok-stack.ensures (rw c.run_order-run.ensures at c.in_err-machine.ensures))
 
 pub returns-in_err-input : goal.returns-in_err-input
 returns-in_err-input g c =
     let p = err_from_is_err_and c.from_residual-in_err-input.result c.from_residual-in_err-input.ensures.1 in
-    rw (p.1, p.2) (input_is_refused (words_in c.args.order.now) _ _ _ _ _ _ (rw c.inputs_of.ensures at c.in_ok-made.ensures) c.in_ok-stack.ensures (rw (ap (λ (r : RunWords). r.input) c.run_order.ensures) at c.in_err-input.ensures))
+    rw (p.1, p.2) (input_is_refused (words_in c.args.order.now) _ _ _ _ _ _ (rw c.inputs_of.ensures at c.in_ok-made.ensures) c.in_ok-stack.ensures (rw (ap (λ (r : RunWords). r.input) c.run_order-run.ensures) at c.in_err-input.ensures))
 
 pub returns : goal.returns
 returns g c =
-    has_started (words_in c.args.order.now) _ _ _ _ _ _ (rw c.inputs_of.ensures at c.in_ok-made.ensures) c.in_ok-stack.ensures c.in_ok-machine.ensures (rw (ap (λ (r : RunWords). r.input) c.run_order.ensures) at c.in_ok-input.ensures)
+    has_started (words_in c.args.order.now) _ _ _ _ _ _ (rw c.inputs_of.ensures at c.in_ok-made.ensures) c.in_ok-stack.ensures (rw c.run_order-run.ensures at c.in_ok-machine.ensures) (rw (ap (λ (r : RunWords). r.input) c.run_order-run.ensures) at c.in_ok-input.ensures)
     (subst (λ (bytes : List ℕ). IsInput bytes) c.deref.ensures.value c.consists_of_bytes.ensures)

@@ -1,5 +1,5 @@
 use Rattle.std.proofs.lemmas.Result.{err_from_is_err_and}
-use Rattle.qs_driver.specs.commands.Run.{words_in}
+use Rattle.qs_driver.specs.Starting.{words_in}
 use Rattle.qs_driver.proofs.rooms.Run.{not_loaded, is_ready, input_is_refused}
 use Rattle.qs_driver.proofs.commands.run.prepare.Goals as goal
 

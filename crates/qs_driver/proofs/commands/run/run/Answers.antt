@@ -1,4 +1,4 @@
-use Rattle.qs_driver.specs.commands.Run.{words_in}
+use Rattle.qs_driver.specs.Starting.{words_in}
 use Rattle.qs_driver.proofs.rooms.Run.{fresh}
 use Rattle.qs_driver.proofs.commands.run.run.Goals as goal
 

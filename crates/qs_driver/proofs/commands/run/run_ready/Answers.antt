@@ -3,8 +3,10 @@ use Rattle.qs_machine.specs.Run.{start}
 use Rattle.qs_machine.specs.Standing.{taken_of}
 use Rattle.qs_machine.proofs.Runs.{shows_machine}
 use Rattle.qs_machine.specs.Arguments.{words_of}
-use Rattle.qs_driver.specs.commands.Run.{words_in, CannotRun, IsReady}
-use Rattle.qs_driver.proofs.rooms.Run.{run_answers, fault_put, may_run}
+use Rattle.qs_driver.specs.Starting.{words_in}
+use Rattle.qs_driver.specs.commands.Run.{CannotRun, IsReady}
+use Rattle.qs_driver.proofs.StartingLaws.{may_run}
+use Rattle.qs_driver.proofs.rooms.Run.{run_answers, fault_put}
 use Rattle.qs_driver.proofs.commands.run.run_ready.Goals as goal
 
 pub run-end-requires : goal.run-end-requires

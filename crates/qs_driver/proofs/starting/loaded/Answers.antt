@@ -1,6 +1,6 @@
 use Rattle.std.proofs.Common.{ap, inl, inr, Err, ◌∙◌}
 use Rattle.std.proofs.lemmas.Result.{err_from_is_err_and}
-use Rattle.qs_driver.proofs.commands.exec.loaded.Goals as goal
+use Rattle.qs_driver.proofs.starting.loaded.Goals as goal
 
 pub returns-in_err-bytes : goal.returns-in_err-bytes
 returns-in_err-bytes c =
@@ -11,5 +11,5 @@ pub returns : goal.returns
 returns c = inr (record {
   bytes = c.in_ok-bytes.bytes.items;
   is_image = c.in_ok-bytes.ensures;
-  loads = rw (c.deref.ensures.value, c.run_order.ensures) at c.load_bytes.ensures;
+  loads = rw c.deref.ensures.value at c.load_bytes.ensures;
 })

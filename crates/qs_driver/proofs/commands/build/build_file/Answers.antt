@@ -2,7 +2,7 @@ use Rattle.std.proofs.Common.{rules}
 use Rattle.std.proofs.lemmas.Result.{err_from_is_err_and}
 use Rattle.qs_driver.specs.commands.Build.{words_in}
 use Rattle.qs_driver.proofs.rooms.Build.{not_certified, not_written, out_of_memory, was_built}
-use Rattle.qs_driver.proofs.commands.build.build_image.Goals as goal
+use Rattle.qs_driver.proofs.commands.build.build_file.Goals as goal
 
 pub returns-in_err-certified : goal.returns-in_err-certified
 returns-in_err-certified g c =

@@ -1,7 +1,7 @@
 use Rattle.std.proofs.Common.{refl}
 use Rattle.std.proofs.lemmas.Result.{err_from_is_err_and}
-use Rattle.qs_driver.specs.commands.Run.{bad_image, no_words, too_large}
-use Rattle.qs_driver.proofs.commands.run.load_bytes.Goals as goal
+use Rattle.qs_driver.specs.Starting.{bad_image, no_words, too_large}
+use Rattle.qs_driver.proofs.starting.load_bytes.Goals as goal
 
 pub returns-in_err-image : goal.returns-in_err-image
 returns-in_err-image c =

@@ -15,8 +15,8 @@ use Rattle.qs_syntax.specs.TreeOf.{expr_tree, parameter_tree, stmt_tree, stmts_t
 use Rattle.qs_syntax.specs.Reads as reads
 use Rattle.qs_parser.specs.declared.expressions.Form as forms
 use Rattle.qs_parser.specs.declared.expressions.Form.TheVariants as variants
-use Rattle.qs_parser.specs.declared.fault.Halt.{Halt}
-use Rattle.qs_parser.specs.declared.fault.Halt.TheVariants as halts
+use Rattle.qs_parser.specs.declared.halt.Halt.{Halt}
+use Rattle.qs_parser.specs.declared.halt.Halt.TheVariants as halts
 use Rattle.qs_parser.specs.declared.units.Header.{Header}
 use Rattle.qs_grammar.specs.Parse.{Stop, Unexpected, Deep, Parse}
 

@@ -18,7 +18,7 @@ ghost use Rattle.qs_parser.specs.Readers.{lengths_of, initialisers, initialised,
 
 use crate::context::Context;
 use crate::expressions::{Form, followed, part};
-use crate::fault::Halt;
+use crate::halt::Halt;
 use crate::heads::{
     begins_one, expect, expect_name, is_keyword, is_punctuator, place, starts, strip,
 };

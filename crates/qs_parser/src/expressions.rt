@@ -17,7 +17,7 @@ ghost use Rattle.qs_parser.specs.Readers.{operations, climb, after_or, after_ope
 ghost use Rattle.qs_parser.specs.Readers.{assignment_of, after_unary, commas};
 
 use crate::context::Context;
-use crate::fault::Halt;
+use crate::halt::Halt;
 use crate::heads::{
     access_at, assign_at, begins_cast, begins_one, expect, expect_name, is_punctuator,
     level_operator_at, place, starts, starts_suffix, starts_with, strip,

@@ -15,7 +15,7 @@ ghost use Rattle.qs_parser.specs.Turns.{step_tree, turn_tree, step_and_body, tur
 use crate::context::Context;
 use crate::declarations::declaration_within;
 use crate::expressions::{Form, followed, part};
-use crate::fault::Halt;
+use crate::halt::Halt;
 use crate::heads::{
     begins_one, begins_type, expect, is_keyword, is_punctuator, place, starts, starts_with, strip,
 };

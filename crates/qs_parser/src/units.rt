@@ -9,7 +9,7 @@ ghost use Rattle.qs_parser.specs.Readers.{body_of};
 
 use crate::context::Context;
 use crate::declarations::{declared, groups, head};
-use crate::fault::Halt;
+use crate::halt::Halt;
 use crate::heads::{expect, expect_name, is_keyword, place, starts, strip};
 use crate::statements::items;
 use crate::types::{outer_type, stars};

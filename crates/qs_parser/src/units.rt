@@ -1,10 +1,10 @@
 // What stands at file scope (C11 6.9). What is read is at most `context.room + 2` high.
 ghost use Rattle.std.specs.Prelude.{◌≡◌, ◌+◌, ◌-◌, ◌<◌, ◌≤◌, [], IfOk};
-ghost use Rattle.qs_syntax.specs.TreeOf.{decl_tree};
+ghost use Rattle.qs_syntax.specs.TreeOf.{body_tree, decl_tree};
 ghost use Rattle.qs_syntax.specs.Units.{height_limit};
 ghost use Rattle.qs_grammar.specs.ParseStatements.{is_named, struct_of, forward_of, function_of};
 ghost use Rattle.qs_grammar.specs.ParseStatements.{typed, external, is_empty, externals, unit};
-ghost use Rattle.qs_parser.specs.View.{Gives, Reads, ReadsAll, body_tree, function_with, unit_of};
+ghost use Rattle.qs_parser.specs.View.{Gives, Reads, ReadsList, function_with, unit_of};
 ghost use Rattle.qs_parser.specs.Readers.{body_of};
 
 use crate::context::Context;
@@ -204,7 +204,7 @@ fn is_empty(tokens: &[Terminal]) -> bool
 #[tactic(auto, using(crate::proofs::CodeStatements::external_steps))]
 fn externals(context: Context, tokens: &[Terminal]) -> Result<(Vec<Decl>, u32, &[Terminal]), Halt>
     requires fits { context.room < 255 }
-    ensures gives { ReadsAll decl_tree result (externals context.room) tokens.now }
+    ensures gives { ReadsList decl_tree result (externals context.room) tokens.now }
     ensures low { IfOk result (λ x. (x.1 ≤ context.room + 2) × (x.2.now ≡ [])) }
 {
     let mut found = Vec::new(context.alloc);

@@ -21,6 +21,10 @@ use Rattle.qs_parser.specs.declared.context.Context.{Context}
 use Rattle.qs_parser.specs.declared.units.Header.{Header}
 use Rattle.qs_parser.specs.View.{boxed_expr, parameters_of}
 
+-- the most levels that a context can leave: its room is a number of 8 bits
+abbrev pub most_levels : ℕ
+most_levels = 255
+
 -- what has expressions as its parts
 abbrev pub with_parts : {X : Type 0} → Context → (ℕ → (Form → Parse E) → X) → X
 with_parts context read = read context.room (part context.room)

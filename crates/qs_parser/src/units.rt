@@ -5,7 +5,7 @@ ghost use Rattle.qs_syntax.specs.Units.{height_limit};
 ghost use Rattle.qs_grammar.specs.ParseStatements.{is_named, struct_of, forward_of, function_of};
 ghost use Rattle.qs_grammar.specs.ParseStatements.{typed, external, is_empty, externals, unit};
 ghost use Rattle.qs_parser.specs.View.{Gives, Reads, ReadsList, function_with, unit_of};
-ghost use Rattle.qs_parser.specs.Readers.{body_of};
+ghost use Rattle.qs_parser.specs.Readers.{body_of, most_levels};
 
 use crate::context::Context;
 use crate::declarations::{declared, groups, head};
@@ -153,7 +153,7 @@ fn typed(
     base: Base,
     tokens: &[Terminal],
 ) -> Result<(Decl, u32, &[Terminal]), Halt>
-    requires fits { context.room < 255 }
+    requires fits { context.room < most_levels }
     ensures gives { Reads decl_tree result (typed context.room start base tokens.now) }
     ensures low { IfOk result (λ x. x.1 ≤ context.room + 2) }
 {
@@ -172,7 +172,7 @@ fn typed(
 /// A struct, a function or variables (C11 6.9).
 #[tactic(auto, unfolding(qs_grammar::specs::ParseStatements::external))]
 fn external(context: Context, tokens: &[Terminal]) -> Result<(Decl, u32, &[Terminal]), Halt>
-    requires fits { context.room < 255 }
+    requires fits { context.room < most_levels }
     ensures gives { Reads decl_tree result (external context.room tokens.now) }
     ensures low { IfOk result (λ x. x.1 ≤ context.room + 2) }
 {
@@ -203,7 +203,7 @@ fn is_empty(tokens: &[Terminal]) -> bool
 /// All that stands at file scope, up to the end.
 #[tactic(auto, using(crate::proofs::CodeStatements::external_steps))]
 fn externals(context: Context, tokens: &[Terminal]) -> Result<(Vec<Decl>, u32, &[Terminal]), Halt>
-    requires fits { context.room < 255 }
+    requires fits { context.room < most_levels }
     ensures gives { ReadsList decl_tree result (externals context.room) tokens.now }
     ensures low { IfOk result (λ x. (x.1 ≤ context.room + 2) × (x.2.now ≡ [])) }
 {

@@ -28,7 +28,7 @@ use Rattle.qs_typing.specs.Findings.{is_before, lesser, least_with}
 use Rattle.qs_typing.specs.Refusals.{limit_fault, rule_fault, main_fault, undefined_fault, early_refusal, late_refusal, first_refusal}
 use Rattle.qs_types.specs.declared.limits.LimitKind.{LimitKind}
 use Rattle.qs_types.specs.declared.limits.LimitKind.TheVariants as kinds
-use Rattle.qs_typing.specs.declared.refusals.TypeFault.{TypeFault}
+use Rattle.qs_typing.specs.declared.checking.TypeFault.{TypeFault}
 use Rattle.qs_parser.specs.Answers.{ReadsAs}
 use Rattle.qs_driver.specs.Source.{node_of}
 use Rattle.qs_driver.proofs.NodeTokens.{Each, each_both, all_ids_low}

@@ -23,8 +23,8 @@ use Rattle.qs_parser.specs.declared.syntax_fault.SyntaxFault.{SyntaxFault}
 use Rattle.qs_parser.specs.declared.syntax_fault.SyntaxFault.TheVariants as syntax
 use Rattle.qs_grammar.proofs.UnitsComplete.{one_reading}
 use Rattle.qs_typing.specs.Refusals.{IsAccepted, IsCause, IsTold, first_refusal}
-use Rattle.qs_typing.specs.declared.refusals.TypeFault.{TypeFault}
-use Rattle.qs_typing.specs.declared.refusals.TypeFault.TheVariants as type_faults
+use Rattle.qs_typing.specs.declared.checking.TypeFault.{TypeFault}
+use Rattle.qs_typing.specs.declared.checking.TypeFault.TheVariants as type_faults
 use Rattle.qs_typing.proofs.Checked.{nothing_refused}
 use Rattle.qs_ports.specs.StoreView.{StoreView}
 use Rattle.qs_driver.specs.Limits.{source_limit}

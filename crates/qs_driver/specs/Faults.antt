@@ -9,8 +9,8 @@ use Rattle.qs_image.specs.declared.fault.ImageFault.{ImageFault}
 use Rattle.qs_image.specs.declared.fault.ImageFault.TheVariants as fault
 use Rattle.qs_machine.specs.declared.answers.Cause.{Cause}
 use Rattle.qs_machine.specs.declared.answers.Cause.TheVariants as cause
-use Rattle.qs_typing.specs.declared.refusals.TypeFault.{TypeFault}
-use Rattle.qs_typing.specs.declared.refusals.TypeFault.TheVariants as typing
+use Rattle.qs_typing.specs.declared.checking.TypeFault.{TypeFault}
+use Rattle.qs_typing.specs.declared.checking.TypeFault.TheVariants as typing
 use Rattle.qs_assert.specs.declared.define.Amount.{Amount}
 use Rattle.qs_assert.specs.declared.define.Amount.TheVariants.{Finite, Infinite, Wide}
 use Rattle.qs_prooftext.specs.declared.fault.TextFault.{TextFault}

@@ -20,8 +20,8 @@ use Rattle.qs_types.specs.Limits.{IsWithinLimits}
 use Rattle.qs_typing.specs.Refusals.{IsCause}
 use Rattle.qs_typing.specs.TypedOf.{typed_tree}
 use Rattle.qs_typing.specs.declared.typed_unit.TypedUnit.{TypedUnit}
-use Rattle.qs_typing.specs.declared.refusals.TypeFault.{TypeFault}
-use Rattle.qs_typing.specs.declared.refusals.TypeFault.TheVariants as type_faults
+use Rattle.qs_typing.specs.declared.checking.TypeFault.{TypeFault}
+use Rattle.qs_typing.specs.declared.checking.TypeFault.TheVariants as type_faults
 use Rattle.qs_ports.specs.StoreView.{StoreView}
 use Rattle.qs_driver.specs.Limits.{source_limit}
 use Rattle.qs_driver.specs.Files.{IsUntouched, HoldsWith, IsTooLong, WasRead, WasReadWith, CannotRead}

@@ -68,10 +68,14 @@ pub fn statement(
     match s {
         Statement::Evaluate(a) => effect(a, alloc, out, ts),
         Statement::Block(ss) => statements(ss, alloc, out, ts),
-        Statement::Branch(e, a, b) => {
-            let v = expression(e, alloc, out, ts)?;
-            let met = one(a, alloc, ts)?;
-            let unmet = one(b, alloc, ts)?;
+        Statement::Branch {
+            condition,
+            then,
+            otherwise,
+        } => {
+            let v = expression(condition, alloc, out, ts)?;
+            let met = one(then, alloc, ts)?;
+            let unmet = one(otherwise, alloc, ts)?;
             push_branch(alloc, out, v, met, unmet)?;
             Ok(())
         }

@@ -9,7 +9,7 @@ use crate::scan::next;
 use qs_syntax::Token;
 use std::alloc::Global;
 
-/// The length of the longest text, in bytes.
+/// The length of the longest text: 1,048,576 bytes (1 MiB).
 pub const SOURCE_LIMIT: usize = 1_048_576;
 
 fn read(alloc: Global, text: &[u8]) -> Result<Vec<Token>, LexFault>

@@ -7,8 +7,8 @@ use Rattle.qs_syntax.specs.Trees.{unnumbered, ExprTree, StartTree, StmtTree, for
 use Rattle.qs_grammar.specs.Heads.{starts}
 use Rattle.qs_parser.specs.View.{Fails}
 use Rattle.qs_parser.specs.Turns.{TurnTree, step_and_body, turn_of}
-use Rattle.qs_parser.specs.declared.fault.Halt.{Halt}
-use Rattle.qs_parser.specs.declared.fault.Halt.TheVariants as halts
+use Rattle.qs_parser.specs.declared.halt.Halt.{Halt}
+use Rattle.qs_parser.specs.declared.halt.Halt.TheVariants as halts
 use Rattle.qs_parser.proofs.CodeExpressions.{map_more}
 use Rattle.qs_grammar.specs.Parse.{Parse, Stop, bind, unexpected, deep, expect}
 use Rattle.qs_grammar.specs.ParseStatements.{S, optional, start_of, begins_statement, after_for, item, items, statement_at, statement, external, is_empty, externals}

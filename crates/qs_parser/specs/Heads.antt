@@ -9,6 +9,6 @@ use Rattle.qs_grammar.specs.Heads.{is_keyword, starts}
 abbrev pub is_marked : List Terminal → Bool
 is_marked ts = starts punctuators.OpenParenthesis ts || (starts punctuators.Increment ts || starts punctuators.Decrement ts)
 
--- a statement that begins with this token has a statement as a part
+-- `if`, `while`, `do` or `for` stands here (C11 6.8.4, 6.8.5)
 abbrev pub is_nesting : Terminal → Bool
 is_nesting t = is_keyword keywords.If t || (is_keyword keywords.While t || (is_keyword keywords.Do t || is_keyword keywords.For t))

@@ -1,4 +1,5 @@
--- The grammar's readers, with the room that a context leaves for the parts. What the code's functions are given stands in their order.
+-- The grammar's readers, with the room that a context leaves for the parts. What the code's functions are given stands in their order;
+-- `initialisers` has the turns, the items and the height besides, as the reader of a list.
 use Rattle.std.specs.Prelude.{ℕ, List, [], Option, Bool, length, Box}
 use Rattle.std.specs.declared.alloc.Global.{Global}
 use Rattle.qs_syntax.specs.declared.terminal.Terminal.{Terminal}
@@ -20,11 +21,15 @@ use Rattle.qs_parser.specs.declared.context.Context.{Context}
 use Rattle.qs_parser.specs.declared.units.Header.{Header}
 use Rattle.qs_parser.specs.View.{boxed_expr, parameters_of}
 
+-- the most levels that a context can leave: its room is a number of 8 bits
+abbrev pub most_levels : ℕ
+most_levels = 255
+
 -- what has expressions as its parts
 abbrev pub with_parts : {X : Type 0} → Context → (ℕ → (Form → Parse E) → X) → X
 with_parts context read = read context.room (part context.room)
 
--- what has statements as its parts
+-- a form's reader, handed the reader of statements, also where the form has no statement as a part
 abbrev pub with_statements : {X : Type 0} → Context → (ℕ → Parse S → X) → X
 with_statements context read = read context.room (statement context.room)
 

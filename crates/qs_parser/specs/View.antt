@@ -11,12 +11,12 @@ use Rattle.qs_syntax.specs.declared.units.Decl.{Decl}
 use Rattle.qs_syntax.specs.declared.declarations.Parameter.{Parameter}
 use Rattle.qs_syntax.specs.declared.types.TypeName.{TypeName}
 use Rattle.qs_syntax.specs.Trees.{unnumbered, ExprTree, ParameterTree, StmtTree, Stmts, DeclTree, function}
-use Rattle.qs_syntax.specs.TreeOf.{expr_tree, parameter_tree, stmt_tree, stmts_tree, decl_tree}
+use Rattle.qs_syntax.specs.TreeOf.{expr_tree, parameter_tree, stmt_tree, decl_tree}
 use Rattle.qs_syntax.specs.Reads as reads
 use Rattle.qs_parser.specs.declared.expressions.Form as forms
 use Rattle.qs_parser.specs.declared.expressions.Form.TheVariants as variants
-use Rattle.qs_parser.specs.declared.fault.Halt.{Halt}
-use Rattle.qs_parser.specs.declared.fault.Halt.TheVariants as halts
+use Rattle.qs_parser.specs.declared.halt.Halt.{Halt}
+use Rattle.qs_parser.specs.declared.halt.Halt.TheVariants as halts
 use Rattle.qs_parser.specs.declared.units.Header.{Header}
 use Rattle.qs_grammar.specs.Parse.{Stop, Unexpected, Deep, Parse}
 
@@ -67,9 +67,10 @@ ReadsParameter result given = Reads parameter_tree result given
 abbrev pub listed : {X Y : Type 0} → (X → Y) → Vec X Global → List Y
 listed view items = map view items.items
 
--- what this list is read as, with turns for all of the tokens
-abbrev pub ReadsAll : {X Y : Type 0} → (X → Y) → Result (Vec X Global × ℕ × Bor (List Terminal)) Halt → (ℕ → List Y → ℕ → Parse (List Y × ℕ)) → List Terminal → Type 0
-ReadsAll view result read tokens = Reads (listed view) result (read (length tokens) [] 0 tokens)
+-- What is answered is what the list's reader gives that starts with as many turns as there are tokens, no items and height 0. Tokens may be
+-- left behind the list.
+abbrev pub ReadsList : {X Y : Type 0} → (X → Y) → Result (Vec X Global × ℕ × Bor (List Terminal)) Halt → (ℕ → List Y → ℕ → Parse (List Y × ℕ)) → List Terminal → Type 0
+ReadsList view result read tokens = Reads (listed view) result (read (length tokens) [] 0 tokens)
 
 -- an expression in a box of its own
 abbrev pub boxed_expr : Box Expr Global → ExprTree
@@ -98,10 +99,6 @@ form_of variants.Expression = reads.Expression
 -- the parameters of a header
 abbrev pub parameters_of : Header → List ParameterTree
 parameters_of h = listed parameter_tree h.parameters
-
--- the items of a body that may be there
-abbrev pub body_tree : Option (Vec Stmt Global) → Option Stmts
-body_tree body = option_map (λ items. stmts_tree items.items) body
 
 -- a function of this header with this body
 abbrev pub function_with : Header → Option Stmts → DeclTree

@@ -13,12 +13,12 @@ ghost use Rattle.qs_grammar.specs.ParseDeclarations.{declaration, declaration_wi
 ghost use Rattle.qs_grammar.specs.ParseDeclarations.{members, groups, with_name, is_void_alone};
 ghost use Rattle.qs_grammar.specs.ParseDeclarations.{without_first, parameter, parameters};
 ghost use Rattle.qs_grammar.specs.ParseDeclarations.{is_void_head, head};
-ghost use Rattle.qs_parser.specs.View.{Reads, ReadsAll, ReadsParameter, listed};
+ghost use Rattle.qs_parser.specs.View.{Reads, ReadsList, ReadsParameter, listed};
 ghost use Rattle.qs_parser.specs.Readers.{lengths_of, initialisers, initialised, bracketed};
 
 use crate::context::Context;
 use crate::expressions::{Form, followed, part};
-use crate::fault::Halt;
+use crate::halt::Halt;
 use crate::heads::{
     begins_one, expect, expect_name, is_keyword, is_punctuator, place, starts, strip,
 };
@@ -35,7 +35,7 @@ fn given_lengths(
     context: Context,
     tokens: &[Terminal],
 ) -> Result<(Vec<Expr>, u32, &[Terminal]), Halt>
-    ensures gives { ReadsAll expr_tree result (given_lengths context.room) tokens.now }
+    ensures gives { ReadsList expr_tree result (given_lengths context.room) tokens.now }
     ensures low { IfOk result (λ x. x.1 ≤ context.room) }
 {
     let mut given = Vec::new(context.alloc);
@@ -133,7 +133,7 @@ fn initialisers(
     context: Context,
     tokens: &[Terminal],
 ) -> Result<(Vec<Initialiser>, u32, &[Terminal]), Halt>
-    ensures gives { ReadsAll initialiser_tree result (initialisers context) tokens.now }
+    ensures gives { ReadsList initialiser_tree result (initialisers context) tokens.now }
     ensures low { IfOk result (λ x. x.1 ≤ context.room) }
 {
     let mut items = Vec::new(context.alloc);
@@ -251,7 +251,7 @@ fn variables(
     context: Context,
     tokens: &[Terminal],
 ) -> Result<(Vec<Variable>, u32, &[Terminal]), Halt>
-    ensures gives { ReadsAll variable_tree result (variables context.room) tokens.now }
+    ensures gives { ReadsList variable_tree result (variables context.room) tokens.now }
     ensures low { IfOk result (λ x. x.1 ≤ context.room + 1) }
 {
     let mut variables = Vec::new(context.alloc);
@@ -316,7 +316,7 @@ fn declarators(
     context: Context,
     tokens: &[Terminal],
 ) -> Result<(Vec<Declarator>, u32, &[Terminal]), Halt>
-    ensures gives { ReadsAll declarator_tree result (declarators context.room) tokens.now }
+    ensures gives { ReadsList declarator_tree result (declarators context.room) tokens.now }
     ensures low { IfOk result (λ x. x.1 ≤ context.room + 1) }
 {
     let mut declarators = Vec::new(context.alloc);
@@ -351,7 +351,7 @@ pub fn groups(
     context: Context,
     tokens: &[Terminal],
 ) -> Result<(Vec<Members>, u32, &[Terminal]), Halt>
-    ensures gives { ReadsAll members_tree result (groups context.room) tokens.now }
+    ensures gives { ReadsList members_tree result (groups context.room) tokens.now }
     ensures low { IfOk result (λ x. x.1 ≤ context.room + 1) }
 {
     let mut groups = Vec::new(context.alloc);
@@ -454,7 +454,7 @@ fn parameters(
     context: Context,
     tokens: &[Terminal],
 ) -> Result<(Vec<Parameter>, u32, &[Terminal]), Halt>
-    ensures gives { ReadsAll parameter_tree result (parameters context.room) tokens.now }
+    ensures gives { ReadsList parameter_tree result (parameters context.room) tokens.now }
     ensures low { IfOk result (λ x. x.1 ≤ context.room + 1) }
 {
     let mut parameters = Vec::new(context.alloc);

@@ -10,14 +10,14 @@ ghost use Rattle.qs_grammar.specs.Parse.{in_parentheses, primary, postfix, step_
 ghost use Rattle.qs_grammar.specs.Parse.{operator_of, beyond, size_at_limit, size_of, unary_of_all};
 ghost use Rattle.qs_grammar.specs.Parse.{cast_of, cast_or_unary, assignment, expression, part};
 ghost use Rattle.qs_grammar.specs.Operands.{right_operand};
-ghost use Rattle.qs_parser.specs.View.{Gives, Reads, ReadsAll, ReadsExpr, behind_of, boxed_expr};
+ghost use Rattle.qs_parser.specs.View.{Gives, Reads, ReadsList, ReadsExpr, behind_of, boxed_expr};
 ghost use Rattle.qs_parser.specs.View.{texts_of, form_of};
 ghost use Rattle.qs_parser.specs.Readers.{with_parts, index_of, member_of, suffix, suffixes};
 ghost use Rattle.qs_parser.specs.Readers.{operations, climb, after_or, after_operand};
 ghost use Rattle.qs_parser.specs.Readers.{assignment_of, after_unary, commas};
 
 use crate::context::Context;
-use crate::fault::Halt;
+use crate::halt::Halt;
 use crate::heads::{
     access_at, assign_at, begins_cast, begins_one, expect, expect_name, is_punctuator,
     level_operator_at, place, starts, starts_suffix, starts_with, strip,
@@ -135,7 +135,7 @@ fn boxed(
 #[cycle(parser)]
 #[tactic(auto, using(crate::proofs::CodeExpressions::argument_steps))]
 fn arguments(context: Context, tokens: &[Terminal]) -> Result<(Vec<Expr>, u32, &[Terminal]), Halt>
-    ensures gives { ReadsAll expr_tree result (with_parts context arguments) tokens.now }
+    ensures gives { ReadsList expr_tree result (with_parts context arguments) tokens.now }
     ensures low { IfOk result (λ x. x.1 ≤ context.room) }
 {
     let mut items = Vec::new(context.alloc);

@@ -9,7 +9,7 @@ ghost use Rattle.qs_grammar.specs.Parse.{starts_suffix, operator_of_level};
 ghost use Rattle.qs_parser.specs.View.{Gives, rest_of, name_of};
 ghost use Rattle.qs_parser.specs.Heads.{is_marked};
 
-use crate::fault::Halt;
+use crate::halt::Halt;
 use qs_base::Name;
 use qs_syntax::{
     Access, AssignmentOperator, BinaryOperator, Keyword, Punctuator, Terminal, UnaryOperator,

@@ -6,7 +6,7 @@ pub fn one_reading()
     ensures { OneReading }
 {}
 
-/// Tokens have at most one fault.
+/// Tokens have at most one fault besides want of memory.
 pub fn faults_are_unique()
     ensures { OneFault }
 {}

@@ -5,7 +5,7 @@
 mod context;
 mod declarations;
 mod expressions;
-mod fault;
+mod halt;
 mod heads;
 mod laws;
 mod nodes;

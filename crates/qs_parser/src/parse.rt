@@ -6,7 +6,7 @@ ghost use Rattle.qs_lexer.specs.Tokens.{Tokens};
 ghost use Rattle.qs_lexer.specs.Terminals.{terminals};
 ghost use Rattle.qs_parser.specs.Answers.{Answers, IsDecision};
 
-use crate::fault::Halt;
+use crate::halt::Halt;
 use crate::syntax_fault::SyntaxFault;
 use crate::units::read_unit;
 use qs_lexer::terminals;

@@ -7,7 +7,7 @@ ghost use Rattle.qs_grammar.specs.ParseStatements.{optional, condition, start_of
 ghost use Rattle.qs_grammar.specs.ParseStatements.{item, items, in_block, otherwise, after_if};
 ghost use Rattle.qs_grammar.specs.ParseStatements.{after_while, expect_while, after_do, after_for};
 ghost use Rattle.qs_grammar.specs.ParseStatements.{after_return, running, statement_at, statement};
-ghost use Rattle.qs_parser.specs.View.{Gives, Reads, ReadsAll, boxed_stmt, second_tree, rest_of};
+ghost use Rattle.qs_parser.specs.View.{Gives, Reads, ReadsList, boxed_stmt, second_tree, rest_of};
 ghost use Rattle.qs_parser.specs.Heads.{is_nesting};
 ghost use Rattle.qs_parser.specs.Readers.{with_statements, plain_statement, keyword_statement};
 ghost use Rattle.qs_parser.specs.Turns.{step_tree, turn_tree, step_and_body, turn_of};
@@ -15,7 +15,7 @@ ghost use Rattle.qs_parser.specs.Turns.{step_tree, turn_tree, step_and_body, tur
 use crate::context::Context;
 use crate::declarations::declaration_within;
 use crate::expressions::{Form, followed, part};
-use crate::fault::Halt;
+use crate::halt::Halt;
 use crate::heads::{
     begins_one, begins_type, expect, is_keyword, is_punctuator, place, starts, starts_with, strip,
 };
@@ -152,7 +152,7 @@ fn plain_statement<'a>(
     running(context, tokens)
 }
 
-/// Whether a statement that begins with this token has a statement as a part.
+/// Whether the token is `if`, `while`, `do` or `for` (C11 6.8.4, 6.8.5).
 fn is_nesting(first: &Terminal) -> bool
     ensures { result ≡ is_nesting first.now }
 {
@@ -205,7 +205,7 @@ fn item(context: Context, tokens: &[Terminal]) -> Result<(Stmt, u32, &[Terminal]
 #[cycle(statement)]
 #[tactic(auto, using(crate::proofs::CodeStatements::item_steps))]
 pub fn items(context: Context, tokens: &[Terminal]) -> Result<(Vec<Stmt>, u32, &[Terminal]), Halt>
-    ensures gives { ReadsAll stmt_tree result (with_statements context items) tokens.now }
+    ensures gives { ReadsList stmt_tree result (with_statements context items) tokens.now }
     ensures low { IfOk result (λ x. x.1 ≤ context.room) }
 {
     let mut items = Vec::new(context.alloc);

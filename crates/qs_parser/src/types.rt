@@ -5,7 +5,7 @@ ghost use Rattle.qs_grammar.specs.Parse.{type, stars_from, stars, type_name};
 ghost use Rattle.qs_grammar.specs.ParseDeclarations.{skip_prefixes, outer_type};
 ghost use Rattle.qs_parser.specs.View.{Gives, base_of, stars_of, type_name_of};
 
-use crate::fault::Halt;
+use crate::halt::Halt;
 use crate::heads::{expect_name, is_keyword, is_punctuator, starts};
 use qs_syntax::{Base, Keyword, Punctuator, Terminal, TypeName};
 use std::alloc::Global;

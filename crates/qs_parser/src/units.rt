@@ -1,15 +1,15 @@
 // What stands at file scope (C11 6.9). What is read is at most `context.room + 2` high.
 ghost use Rattle.std.specs.Prelude.{◌≡◌, ◌+◌, ◌-◌, ◌<◌, ◌≤◌, [], IfOk};
-ghost use Rattle.qs_syntax.specs.TreeOf.{decl_tree};
+ghost use Rattle.qs_syntax.specs.TreeOf.{body_tree, decl_tree};
 ghost use Rattle.qs_syntax.specs.Units.{height_limit};
 ghost use Rattle.qs_grammar.specs.ParseStatements.{is_named, struct_of, forward_of, function_of};
 ghost use Rattle.qs_grammar.specs.ParseStatements.{typed, external, is_empty, externals, unit};
-ghost use Rattle.qs_parser.specs.View.{Gives, Reads, ReadsAll, body_tree, function_with, unit_of};
-ghost use Rattle.qs_parser.specs.Readers.{body_of};
+ghost use Rattle.qs_parser.specs.View.{Gives, Reads, ReadsList, function_with, unit_of};
+ghost use Rattle.qs_parser.specs.Readers.{body_of, most_levels};
 
 use crate::context::Context;
 use crate::declarations::{declared, groups, head};
-use crate::fault::Halt;
+use crate::halt::Halt;
 use crate::heads::{expect, expect_name, is_keyword, place, starts, strip};
 use crate::statements::items;
 use crate::types::{outer_type, stars};
@@ -153,7 +153,7 @@ fn typed(
     base: Base,
     tokens: &[Terminal],
 ) -> Result<(Decl, u32, &[Terminal]), Halt>
-    requires fits { context.room < 255 }
+    requires fits { context.room < most_levels }
     ensures gives { Reads decl_tree result (typed context.room start base tokens.now) }
     ensures low { IfOk result (λ x. x.1 ≤ context.room + 2) }
 {
@@ -172,7 +172,7 @@ fn typed(
 /// A struct, a function or variables (C11 6.9).
 #[tactic(auto, unfolding(qs_grammar::specs::ParseStatements::external))]
 fn external(context: Context, tokens: &[Terminal]) -> Result<(Decl, u32, &[Terminal]), Halt>
-    requires fits { context.room < 255 }
+    requires fits { context.room < most_levels }
     ensures gives { Reads decl_tree result (external context.room tokens.now) }
     ensures low { IfOk result (λ x. x.1 ≤ context.room + 2) }
 {
@@ -203,8 +203,8 @@ fn is_empty(tokens: &[Terminal]) -> bool
 /// All that stands at file scope, up to the end.
 #[tactic(auto, using(crate::proofs::CodeStatements::external_steps))]
 fn externals(context: Context, tokens: &[Terminal]) -> Result<(Vec<Decl>, u32, &[Terminal]), Halt>
-    requires fits { context.room < 255 }
-    ensures gives { ReadsAll decl_tree result (externals context.room) tokens.now }
+    requires fits { context.room < most_levels }
+    ensures gives { ReadsList decl_tree result (externals context.room) tokens.now }
     ensures low { IfOk result (λ x. (x.1 ≤ context.room + 2) × (x.2.now ≡ [])) }
 {
     let mut found = Vec::new(context.alloc);

@@ -121,7 +121,11 @@ fn statement(alloc: Global, k: &Known<'_>, s: &Stmt) -> Result<Statement, NoMemo
             let c = condition(alloc, k, c)?;
             let a = statement(alloc, k, then)?;
             let b = otherwise_of(alloc, k, otherwise)?;
-            Ok(Statement::Branch(c, Box::new(alloc, a)?, Box::new(alloc, b)?))
+            Ok(Statement::Branch {
+                condition: c,
+                then: Box::new(alloc, a)?,
+                otherwise: Box::new(alloc, b)?,
+            })
         }
         Stmt::While {
             condition: c,

@@ -40,8 +40,15 @@ pub enum Form {
         /// the address from which
         from: Box<Expression>,
     },
-    /// the effect of the left operand of a comma, then the right one, with its type (C11 6.5.17)
-    Comma(Box<Effect>, CType, Box<Form>),
+    /// a comma: the left operand for its effect, then the right one (C11 6.5.17)
+    Comma {
+        /// the effect of the left operand
+        effect: Box<Effect>,
+        /// the type of the right operand
+        of: CType,
+        /// what the right operand is
+        form: Box<Form>,
+    },
 }
 
 /// A step behind its operand.
@@ -119,7 +126,11 @@ impl Form {
                 to: _,
                 from: _,
             } => Err(NoMemory),
-            Form::Comma(_, _, _) => Err(NoMemory),
+            Form::Comma {
+                effect: _,
+                of: _,
+                form: _,
+            } => Err(NoMemory),
         }
     }
 
@@ -148,9 +159,9 @@ impl Form {
                 to: _,
                 from: _,
             } => Err(NoMemory),
-            Form::Comma(a, u, b) => {
-                let value = Box::into_inner(b).into_value(alloc, &u)?;
-                Ok(Expression::Sequence(a, Box::new(alloc, value)?))
+            Form::Comma { effect, of, form } => {
+                let value = Box::into_inner(form).into_value(alloc, &of)?;
+                Ok(Expression::Sequence(effect, Box::new(alloc, value)?))
             }
         }
     }
@@ -177,9 +188,9 @@ impl Form {
                 to: Box::into_inner(to),
                 from: Box::into_inner(from),
             }),
-            Form::Comma(a, u, b) => {
-                let then = Box::into_inner(b).into_effect(alloc, &u)?;
-                Ok(Effect::InOrder(a, Box::new(alloc, then)?))
+            Form::Comma { effect, of, form } => {
+                let then = Box::into_inner(form).into_effect(alloc, &of)?;
+                Ok(Effect::InOrder(effect, Box::new(alloc, then)?))
             }
         }
     }
@@ -201,7 +212,11 @@ impl Drop for Form {
                 to: _,
                 from: _,
             } => {}
-            Form::Comma(_, _, _) => {}
+            Form::Comma {
+                effect: _,
+                of: _,
+                form: _,
+            } => {}
         }
     }
 }

@@ -285,5 +285,9 @@ pub fn comma_form(alloc: Global, a: Typed<'_>, b: Typed<'_>) -> Result<Form, NoM
 {
     let before = effect_in_use(alloc, a)?;
     let of = b.of.copy(alloc)?;
-    Ok(Form::Comma(Box::new(alloc, before)?, of, Box::new(alloc, b.form)?))
+    Ok(Form::Comma {
+        effect: Box::new(alloc, before)?,
+        of,
+        form: Box::new(alloc, b.form)?,
+    })
 }

@@ -9,8 +9,15 @@ pub enum Statement {
     Evaluate(Effect),
     /// a block (C11 6.8.2)
     Block(Vec<Statement>),
-    /// `if`; without `else` the second statement evaluates nothing (C11 6.8.4.1)
-    Branch(Expression, Box<Statement>, Box<Statement>),
+    /// `if` (C11 6.8.4.1)
+    Branch {
+        /// the condition
+        condition: Expression,
+        /// what is done where it is met
+        then: Box<Statement>,
+        /// what is done where it is not met; without `else` it evaluates nothing
+        otherwise: Box<Statement>,
+    },
     /// `while` (C11 6.8.5.1)
     WhileLoop(Expression, Box<Statement>),
     /// `do` (C11 6.8.5.2)
@@ -43,7 +50,11 @@ impl Drop for Statement {
         match self {
             Statement::Evaluate(_) => {}
             Statement::Block(_) => {}
-            Statement::Branch(_, _, _) => {}
+            Statement::Branch {
+                condition: _,
+                then: _,
+                otherwise: _,
+            } => {}
             Statement::WhileLoop(_, _) => {}
             Statement::DoLoop(_, _) => {}
             Statement::ForLoop {

@@ -10,8 +10,8 @@ use Rattle.qs_types.specs.Rules.{Fault, rule_number}
 use Rattle.qs_types.specs.UnitRules.{faults_in, is_among}
 use Rattle.qs_types.specs.WellTyped.{has_main, first_undefined}
 use Rattle.qs_types.proofs.RuleLaws.{numbers_differ}
-use Rattle.qs_typing.specs.declared.refusals.TypeFault.{TypeFault}
-use Rattle.qs_typing.specs.declared.refusals.TypeFault.TheVariants as faults
+use Rattle.qs_typing.specs.declared.checking.TypeFault.{TypeFault}
+use Rattle.qs_typing.specs.declared.checking.TypeFault.TheVariants as faults
 use Rattle.qs_typing.specs.Findings.{least_with, IsFirst}
 use Rattle.qs_typing.specs.Refusals.{IsCause, HasCause, IsLeastViolation, first_past, limit_place, place_of, limit_fault, rule_fault, main_fault, undefined_fault, late_refusal, first_refusal}
 use Rattle.qs_typing.proofs.First.{first_found, none_found}

@@ -10,8 +10,8 @@ use Rattle.qs_types.specs.References.{unit_calls}
 use Rattle.qs_types.specs.Rules.{Fault, is_any}
 use Rattle.qs_types.specs.UnitRules.{faults_in}
 use Rattle.qs_types.specs.WellTyped.{WellTyped, end_context, has_main, first_undefined, undefined_from, runs}
-use Rattle.qs_typing.specs.declared.refusals.TypeFault.{TypeFault}
-use Rattle.qs_typing.specs.declared.refusals.TypeFault.TheVariants as faults
+use Rattle.qs_typing.specs.declared.checking.TypeFault.{TypeFault}
+use Rattle.qs_typing.specs.declared.checking.TypeFault.TheVariants as faults
 use Rattle.qs_typing.specs.Findings.{least_with}
 use Rattle.qs_typing.specs.Refusals.{IsAccepted, IsTold, limit_fault, rule_fault, main_fault, undefined_fault, early_refusal, late_refusal, first_refusal, late_by}
 use Rattle.qs_typing.specs.UnitWalk.{WalkTree, unit_walked}

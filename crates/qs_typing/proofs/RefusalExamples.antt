@@ -8,8 +8,8 @@ use Rattle.qs_syntax.specs.Trees.{unnumbered, ExprTree, StmtTree, DeclTree, Unit
 use Rattle.qs_syntax.specs.Trees as trees
 use Rattle.qs_types.specs.declared.rules.Rule.TheVariants as rules
 use Rattle.qs_types.specs.GivenFunctions.{main_name}
-use Rattle.qs_typing.specs.declared.refusals.TypeFault.{TypeFault}
-use Rattle.qs_typing.specs.declared.refusals.TypeFault.TheVariants as faults
+use Rattle.qs_typing.specs.declared.checking.TypeFault.{TypeFault}
+use Rattle.qs_typing.specs.declared.checking.TypeFault.TheVariants as faults
 use Rattle.qs_typing.specs.Refusals.{first_refusal}
 use Rattle.qs_typing.proofs.ExampleTrees.{e, number, a, b, one, many, global, local, f_name, header, body, call_f}
 

@@ -8,7 +8,7 @@ use Rattle.qs_types.specs.Limits.{block_past, global_limit, text_block}
 use Rattle.qs_types.specs.WellTyped.{end_context, undefined_from}
 use Rattle.qs_typing.specs.declared.context.Context.{Context}
 use Rattle.qs_typing.specs.declared.noted.Noted.{Noted}
-use Rattle.qs_typing.specs.declared.refusals.TypeFault.{TypeFault}
+use Rattle.qs_typing.specs.declared.checking.TypeFault.{TypeFault}
 use Rattle.qs_typing.specs.declared.walk.Walk.{Walk}
 use Rattle.qs_typing.specs.ContextOf.{context_tree}
 use Rattle.qs_typing.specs.NotedOf.{block_tree, text_tree}

@@ -11,8 +11,8 @@ use Rattle.qs_types.specs.UnitRules.{faults_in, Violates}
 use Rattle.qs_types.specs.Contexts.{Context, entity_of}
 use Rattle.qs_types.specs.GivenFunctions.{main_name}
 use Rattle.qs_types.specs.WellTyped.{WellTyped, has_main, first_undefined, undefined_from, entity_runs, entity_has_body}
-use Rattle.qs_typing.specs.declared.refusals.TypeFault.{TypeFault}
-use Rattle.qs_typing.specs.declared.refusals.TypeFault.TheVariants as faults
+use Rattle.qs_typing.specs.declared.checking.TypeFault.{TypeFault}
+use Rattle.qs_typing.specs.declared.checking.TypeFault.TheVariants as faults
 use Rattle.qs_typing.specs.Findings.{least_with}
 use Rattle.qs_typing.specs.UnitWalk.{WalkTree}
 

@@ -2,6 +2,7 @@
 #![tactic(auto)]
 
 mod assignments;
+mod checking;
 mod context;
 mod declared_types;
 mod entity;
@@ -19,7 +20,6 @@ mod noted;
 mod operands;
 mod operators;
 mod positions;
-mod refusals;
 mod scopes;
 mod sites;
 mod statements;
@@ -30,6 +30,7 @@ mod units;
 mod variables;
 mod walk;
 
+pub use checking::{TypeFault, check};
 pub use context::{Context, is_void_base};
 pub use entity::{Entity, Referent, Signature};
 pub use expressions::walk_expression;
@@ -40,6 +41,5 @@ pub use laws::{
 };
 pub use noted::{Block, Local, Noted, TextBlock};
 pub use positions::Position;
-pub use refusals::{TypeFault, check};
 pub use typed_unit::TypedUnit;
 pub use walk::Walk;

@@ -13,7 +13,7 @@ ghost use Rattle.qs_typing.specs.Refusals.{IsAccepted, IsTold, early_refusal, fi
 ghost use Rattle.qs_typing.specs.Refusals.{has_main_in, limit_fault};
 ghost use Rattle.qs_typing.specs.Sets.{names_once};
 ghost use Rattle.qs_typing.specs.TypedOf.{typed_tree};
-ghost use Rattle.qs_typing.specs.declared.refusals.TypeFault.TheVariants as faults;
+ghost use Rattle.qs_typing.specs.declared.checking.TypeFault.TheVariants as faults;
 
 use crate::context::Context;
 use crate::entity::Entity;
@@ -52,7 +52,7 @@ pub enum TypeFault {
 }
 
 impl From<NoMemory> for TypeFault {
-    ghost use Rattle.qs_typing.specs.declared.refusals.TypeFault.TheVariants as faults;
+    ghost use Rattle.qs_typing.specs.declared.checking.TypeFault.TheVariants as faults;
     ghost use Rattle.std.specs.Prelude.{◌≡◌};
 
     ghost from_gives = { λ e r. r ≡ faults.NoMemory };

@@ -3,7 +3,7 @@ use Rattle.qs_syntax.specs.TreeOf.{decl_tree}
 use Rattle.qs_types.specs.WellTyped.{undefined_from}
 use Rattle.qs_typing.specs.ContextOf.{context_tree}
 use Rattle.qs_typing.specs.Refusals.{runs_in}
-use Rattle.qs_typing.proofs.refusals.undefined_from.Given as goal
+use Rattle.qs_typing.proofs.checking.undefined_from.Given as goal
 
 abbrev pub invariant-loop-d : goal.invariant-loop-d
 invariant-loop-d l =

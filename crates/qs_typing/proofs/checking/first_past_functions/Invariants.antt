@@ -1,7 +1,7 @@
 use Rattle.std.proofs.Common.{◌≡◌, ◌≤◌, [], drop, length, map}
 use Rattle.qs_syntax.specs.TreeOf.{decl_tree}
 use Rattle.qs_types.specs.Limits.{function_limit, header_past}
-use Rattle.qs_typing.proofs.refusals.first_past_functions.Given as goal
+use Rattle.qs_typing.proofs.checking.first_past_functions.Given as goal
 
 abbrev pub invariant-loop-d : goal.invariant-loop-d
 invariant-loop-d l = record {

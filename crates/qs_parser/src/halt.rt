@@ -1,6 +1,6 @@
 // Why the parser stops.
 ghost use Rattle.std.specs.Prelude.{◌≡◌};
-ghost use Rattle.qs_parser.specs.declared.fault.Halt.TheVariants.{NoMemory};
+ghost use Rattle.qs_parser.specs.declared.halt.Halt.TheVariants.{NoMemory};
 
 use std::alloc::{AllocError, AllocFailed};
 

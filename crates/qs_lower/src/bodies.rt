@@ -45,7 +45,7 @@ fn copy_plan(
     let a = lowered(alloc, v, a)?;
     let b = lowered(alloc, v, b)?;
     Ok(StmtPlan::Copy {
-        location: free,
+        free,
         size,
         alignment,
         to: a,

@@ -11,6 +11,7 @@ use Rattle.qs_core.specs.Trees.{CoreFunctionTree, CoreParameterTree, CoreUnitTre
 use Rattle.qs_core.specs.Units.{initial_memory}
 use Rattle.qs_core.specs.Fits.{unit_fits}
 use Rattle.qs_core.proofs.FitLaws.{function_at_fits}
+use Rattle.qs_isa.specs.Addresses.{code_start}
 use Rattle.qs_image.specs.Image.{Image, FunctionRecord, IsWellFormed}
 use Rattle.qs_tac.specs.Trees.{TacFunctionTree, TacUnitTree}
 use Rattle.qs_tac.specs.Places.{PlacesTree}
@@ -72,14 +73,14 @@ own_parts u t ps functions code bytes is places m =
 pub record IsMade (u : CoreUnitTree) (image : Image) : Type 0 where
   pub fits : unit_fits u ≡ true
   pub parts : AreParts u (linear u) (own_slots (linear u)) image.functions image.code image.bytes
-  pub entry : image.entry ≡ 65536
+  pub entry : image.entry ≡ code_start
   pub parameters : image.parameters ≡ length (main_types u)
   pub unsigned : image.unsigned_set ≡ set_of (main_types u)
 
 pub image_made :
     (u : CoreUnitTree) (functions : List FunctionRecord) (code bytes : List ℕ) (types : List Scalar) (count set : ℕ) → unit_fits u ≡ true
     → AreParts u (linear u) (own_slots (linear u)) functions code bytes → types ≡ main_types u → count ≡ length types → set ≡ set_of types
-    → IsMade u (record { entry = 65536; parameters = count; unsigned_set = set; functions = functions; code = code; bytes = bytes })
+    → IsMade u (record { entry = code_start; parameters = count; unsigned_set = set; functions = functions; code = code; bytes = bytes })
 image_made u functions code bytes types count set fits parts is long holds = record {
   fits = fits;
   parts = parts;

@@ -4,13 +4,13 @@ use Rattle.std.specs.Prelude.{slice_index_or, unwrap_or}
 use Rattle.std.proofs.Math.ListN.{drop_of_length-le}
 use Rattle.std.proofs.lemmas.Bool.{cases_lt}
 use Rattle.std.proofs.lemmas.List.{length-map, length-append, get_or-map, get_or_append_left, get_or_at}
+use Rattle.qs_isa.specs.Addresses.{code_start}
 use Rattle.qs_asm.specs.declared.item.Item.{Item}
 use Rattle.qs_asm.specs.Assembly.{AreOffsets}
 use Rattle.qs_core.specs.declared.units.CoreFunction.{CoreFunction}
 use Rattle.qs_core.specs.TreeOf as core
 use Rattle.qs_core.specs.Trees.{CoreFunctionTree}
 use Rattle.qs_image.specs.Image.{FunctionRecord}
-use Rattle.qs_machine.specs.State.{code_start}
 use Rattle.qs_tac.specs.Trees.{TacFunctionTree}
 use Rattle.qs_tac.specs.Places.{PlacesTree, places_tree, no_places}
 use Rattle.qs_tac.specs.TreeOf.{function_tree}

@@ -14,9 +14,9 @@ use Rattle.qs_core.specs.Units.{initial_memory}
 use Rattle.qs_core.specs.Fits.{differ, main_name, is_main, unit_fits}
 use Rattle.qs_core.specs.Scalars.{is_type}
 use Rattle.qs_core.proofs.FitLaws.{both, function_at_fits, unit_parts}
+use Rattle.qs_isa.specs.Addresses.{code_start}
 use Rattle.qs_asm.specs.Assembly.{label_offset}
 use Rattle.qs_image.specs.Image.{Image, FunctionRecord, joined_names, IsAddress, IsCost, IsWellFormed}
-use Rattle.qs_machine.specs.State.{code_start}
 use Rattle.qs_tac.specs.Trees.{TacUnitTree}
 use Rattle.qs_tac.specs.Places.{PlacesTree}
 use Rattle.qs_frames.specs.Layout.{total, kept}

@@ -1,10 +1,11 @@
 -- The records of functions: where each begins, and the bytes of its frame.
 use Rattle.std.specs.Prelude.{◌≡◌, ℕ, ◌+◌, ◌<◌, ◌≤◌, List, length, map, Option, unwrap_or, slice_index_or}
+use Rattle.qs_isa.specs.Addresses.{code_start}
 use Rattle.qs_asm.specs.declared.item.Item.{Item}
 use Rattle.qs_asm.specs.Assembly.{label_at}
 use Rattle.qs_core.specs.Trees.{CoreFunctionTree}
 use Rattle.qs_image.specs.Image.{FunctionRecord}
-use Rattle.qs_machine.specs.State.{code_start, stack_limit}
+use Rattle.qs_machine.specs.State.{stack_limit}
 use Rattle.qs_tac.specs.Trees.{TacFunctionTree}
 use Rattle.qs_tac.specs.Places.{PlacesTree, no_places}
 use Rattle.qs_frames.specs.Layout.{layout}

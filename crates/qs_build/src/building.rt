@@ -23,12 +23,13 @@ use crate::data::data_bytes;
 use crate::fault::BuildFault;
 use crate::parameters::{parameter_types, unsigned_set};
 use crate::places::own_slots;
-use crate::records::{CODE_START, addresses, costs, records};
+use crate::records::{addresses, costs, records};
 use qs_asm::{AssemblyFault, Item, assemble, label_offsets};
 use qs_base::{NoMemory, count};
 use qs_core::{CoreFunction, CoreUnit};
 use qs_frames::laid_from;
 use qs_image::{FunctionRecord, Image, MOST_FUNCTIONS, MOST_NAME_BYTES};
+use qs_isa::{CODE_START, DATA_START};
 use qs_lower::lower;
 use qs_memory::Scalar;
 use qs_select::{data_sizes, first_labels, select};
@@ -36,9 +37,6 @@ use qs_tac::{Places, TacUnit};
 use std::alloc::Global;
 
 const REACHED_WORDS: usize = 1 << 18;
-
-// Where data begin.
-const DATA_START: u32 = 0x1000_0000;
 
 // ---- sizes
 

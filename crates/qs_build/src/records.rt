@@ -12,11 +12,9 @@ use qs_base::{NoMemory, count, sum};
 use qs_core::CoreFunction;
 use qs_frames::{Starts, layout};
 use qs_image::FunctionRecord;
+use qs_isa::CODE_START;
 use qs_tac::{Places, TacFunction};
 use std::alloc::Global;
-
-/// The address of the first instruction.
-pub const CODE_START: u32 = 0x0001_0000;
 
 // Where a label stands.
 fn address(labels: &Labels, label: u32) -> Result<u32, NoMemory>

@@ -21,6 +21,6 @@ declared_parameters ps = map names.declared_parameter (map parameter_tree ps)
 abbrev pub declared_in : Function → (body : List Stmt) → List names.Declared
 declared_in f body = names.function_declares (function_tree f) (stmts_tree body)
 
--- these are declared behind those from before
+-- these are declared behind those from before; it says so only where the result is Ok
 abbrev pub Declares : {A E : Type 0} → List names.Declared → (old new : Vec Declared) → Result A E → Type 0
 Declares ds old new result = OnOk result (map declared_of new.items ≡ map declared_of old.items ++ ds)

@@ -45,7 +45,7 @@ function_trees fs = map function_tree fs.items
 abbrev pub functions : List FunctionNames → List TypedFunction → List CoreFunctionTree
 functions names gs = units.functions_core (map names_of names) (map typed.function_tree gs)
 
--- the answer is this function
+-- the answer is this function; it says so only where the result is Ok
 abbrev pub GivesFunction : {E : Type 0} → CoreFunctionTree → Result CoreFunction E → Type 0
 GivesFunction f result = IfOk result (λ g. function_tree g ≡ f)
 

@@ -37,7 +37,8 @@ pub record Known (names : ℕ → Option VariableName) (counts : List ℕ → Op
   pub names_are : (node : ℕ) → names node ≡ name_among node ds
   pub counts_are : (x : List ℕ) → times (counts x) ≡ count_of x ds
 
--- ---- what code does; a table of names by nodes, and one of counts by names
+-- ---- what code does; a table of names by nodes, and one of counts by names; what speaks of a result says so only where
+-- it is Ok
 
 abbrev pub name_in : {S : Type 0} → IndexMap ℕ code_names.VariableName S → (node : ℕ) → Option VariableName
 name_in names node = option_map variable_name_of (get nat_eq names node)

@@ -55,7 +55,7 @@ is_empty (b ∷ bs) = false
 abbrev pub is_one_run : List ℕ → ℕ → Bool
 is_one_run bs n = is_empty bs || n == 0
 
--- ---- what code does
+-- ---- what code does; what speaks of a result says so only where it is Ok
 
 -- these pieces stand behind those from before
 abbrev pub Appends : {A E : Type 0} → List PieceTree → (old new : Vec Piece) → Result A E → Type 0

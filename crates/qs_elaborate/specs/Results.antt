@@ -1,4 +1,4 @@
--- What functions in code do with the lists that they are passed, and answer.
+-- What functions in code do with the lists that they are passed, and answer. Each says so only where the result is Ok.
 use Rattle.std.specs.Prelude.{◌≡◌, List, ◌++◌, Result, IfOk, OnOk}
 use Rattle.std.specs.Global.{Vec}
 use Rattle.qs_memory.specs.declared.scalar.Scalar.{Scalar}

@@ -26,6 +26,6 @@ function_named nodes f = unit_names.function_named nodes (function_tree f) (func
 abbrev pub names_in : List (Vec ℕ) → List Decl → List names.FunctionNames
 names_in all ds = unit_names.declarations_named (map numbers all) (map decl_tree ds)
 
--- these names stand behind those from before
+-- these names stand behind those from before; it says so only where the result is Ok
 abbrev pub AddsNames : {A E : Type 0} → List names.FunctionNames → (old new : Vec FunctionNames) → Result A E → Type 0
 AddsNames ns old new result = OnOk result (map names_of new.items ≡ map names_of old.items ++ ns)

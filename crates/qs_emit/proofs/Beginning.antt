@@ -13,9 +13,10 @@ use Rattle.qs_memory.specs.Soundness.{IsLive}
 use Rattle.qs_memory.proofs.BlockLaws.{live_known}
 use Rattle.qs_events.specs.Weights.{Costs}
 use Rattle.qs_calls.specs.World.{World}
+use Rattle.qs_isa.specs.Addresses.{code_start, data_start}
 use Rattle.qs_isa.specs.Registers.{a0}
 use Rattle.qs_image.specs.Image.{Image, word_bytes, words_bytes}
-use Rattle.qs_machine.specs.State.{register, stack_top, code_start, data_start, is_code, is_data}
+use Rattle.qs_machine.specs.State.{register, stack_top, is_code, is_data}
 use Rattle.qs_machine.specs.Run.{start_registers, start_memory, start}
 use Rattle.qs_tac.specs.Trees.{TacUnitTree}
 use Rattle.qs_tac.specs.Places.{PlacesTree}

@@ -3,12 +3,12 @@ use Rattle.std.proofs.Common.{◌≡◌, inl, inr, ℕ, zero, suc, ◌+◌, ◌*
 use Rattle.std.specs.Prelude.{◌&&◌, slice_get, slice_index_or}
 use Rattle.std.specs.List.{list_all}
 use Rattle.std.proofs.lemmas.List.{length-map}
+use Rattle.qs_isa.specs.Addresses.{code_start}
 use Rattle.qs_isa.specs.declared.instruction.Instr.{Instr}
 use Rattle.qs_asm.specs.declared.item.Item.{Item}
 use Rattle.qs_asm.specs.declared.item.Item.TheVariants.{Plain, Label, Jump, Branch}
 use Rattle.qs_asm.specs.Items.{Lays, plain}
 use Rattle.qs_asm.proofs.LaidLaws.{laid_split, takes_words}
-use Rattle.qs_machine.specs.State.{code_start}
 use Rattle.qs_tac.specs.Trees.{InstructionTree, TacFunctionTree}
 use Rattle.qs_tac.specs.Places.{place_of, no_places, slots_from}
 use Rattle.qs_tac.specs.declared.places.Place.{Place}

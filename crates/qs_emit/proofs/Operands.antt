@@ -9,6 +9,7 @@ use Rattle.qs_memory.specs.Values.{null, into, Value, integer, address, as_integ
 use Rattle.qs_memory.specs.Memory.{Memory}
 use Rattle.qs_memory.specs.declared.scalar.Scalar.TheVariants as scalars
 use Rattle.qs_memory.proofs.Options.{some_same, followed}
+use Rattle.qs_isa.specs.Registers.{x0, a0}
 use Rattle.qs_isa.specs.declared.instruction.Instr.{Instr}
 use Rattle.qs_isa.specs.declared.instruction.LoadKind.TheVariants.{Lw, Lbu}
 use Rattle.qs_isa.specs.declared.instruction.StoreKind.TheVariants.{Sw}
@@ -28,7 +29,7 @@ use Rattle.qs_tac.specs.Steps.{Waiting}
 use Rattle.std.specs.List.{slice_get}
 use Rattle.qs_frames.specs.Layout.{offset, kept}
 use Rattle.qs_frames.proofs.FrameLaws.{offset_inside}
-use Rattle.qs_select.specs.Pieces.{x0, a0, constant}
+use Rattle.qs_select.specs.Pieces.{constant}
 use Rattle.qs_select.specs.Operands.{Context, frame_of, slot_offset, local_offset, place_into, byte_into, into as operand_into, register_of, unless_there, operand_code, operand_register, result_register, put_place, result_code}
 use Rattle.qs_emit.specs.Machine.{Watched}
 use Rattle.qs_emit.specs.Lies.{number_at, StandsFor, SameOwn}

@@ -5,10 +5,11 @@ use Rattle.std.proofs.lemmas.Bool.Decides.{nat_tests}
 use Rattle.std.proofs.lemmas.List.{length-append, get_or_at}
 use Rattle.qs_memory.specs.Partial.{◌>>=◌}
 use Rattle.qs_memory.specs.Memory.{Memory}
+use Rattle.qs_isa.specs.Addresses.{code_start}
 use Rattle.qs_isa.specs.Table.{decode_of}
 use Rattle.qs_asm.specs.Assembly.{HasWords, label_at}
 use Rattle.qs_image.specs.Image.{Image}
-use Rattle.qs_machine.specs.State.{code_start, is_code}
+use Rattle.qs_machine.specs.State.{is_code}
 use Rattle.qs_tac.specs.Trees.{TacUnitTree}
 use Rattle.qs_tac.specs.Places.{PlacesTree}
 use Rattle.qs_select.proofs.Sizes.{units_keep_words}

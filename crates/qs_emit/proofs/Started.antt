@@ -9,10 +9,11 @@ use Rattle.qs_events.specs.Events.{Event, output_of}
 use Rattle.qs_events.specs.Runs.{Left, Ending, has_ended, is_undefined, is_short, events_of, ending_of}
 use Rattle.qs_events.specs.Weights.{weight}
 use Rattle.qs_calls.specs.World.{World}
+use Rattle.qs_isa.specs.Addresses.{code_start}
 use Rattle.qs_isa.specs.declared.instruction.Instr.TheVariants as instructions
 use Rattle.qs_image.specs.Image.{Image}
 use Rattle.qs_asm.proofs.LaidLaws.{laid_split}
-use Rattle.qs_machine.specs.State.{State, register, with_value, code_start}
+use Rattle.qs_machine.specs.State.{State, register, with_value}
 use Rattle.qs_tac.specs.Fits.{function_fits, data_fits}
 use Rattle.std.specs.List.{list_all}
 use Rattle.qs_select.specs.Pieces.{addi}

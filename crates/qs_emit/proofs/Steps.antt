@@ -3,6 +3,7 @@ use Rattle.std.proofs.Common.{◌≡◌, ◌⊎◌, inl, inr, ℕ, suc, ◌+◌,
 use Rattle.std.specs.Prelude.{nat_lt, nat_le, ◌&&◌, ◌||◌, not, min, if◌then◌else◌}
 use Rattle.std.proofs.lemmas.Bool.Decides.{nat_tests}
 use Rattle.qs_base.specs.Words as words
+use Rattle.qs_isa.specs.Addresses.{data_start}
 use Rattle.qs_isa.specs.declared.instruction.Instr.{Instr}
 use Rattle.qs_isa.specs.declared.instruction.Instr.TheVariants as instructions
 use Rattle.qs_isa.specs.declared.instruction.LoadKind.{LoadKind}
@@ -12,7 +13,7 @@ use Rattle.qs_isa.specs.declared.instruction.OpKind.{OpKind}
 use Rattle.qs_isa.specs.declared.instruction.OpImmKind.{OpImmKind}
 use Rattle.qs_isa.specs.declared.instruction.ShiftImmKind.{ShiftImmKind}
 use Rattle.qs_image.specs.Image.{Image}
-use Rattle.qs_machine.specs.State.{State, register, with_value, stack_pointer, stack_top, data_start, is_code, is_data, is_stack, can_read, can_write}
+use Rattle.qs_machine.specs.State.{State, register, with_value, stack_pointer, stack_top, is_code, is_data, is_stack, can_read, can_write}
 use Rattle.qs_machine.specs.Step as machine
 use Rattle.qs_machine.specs.Step.{Next, act, write, load_width, store_width, loaded, stored, op_result, op_imm_result, shift_result}
 use Rattle.qs_asm.specs.declared.item.Item.{Item}

@@ -9,12 +9,11 @@ use Rattle.qs_events.specs.Runs.{Left, Ending, has_ended, is_undefined, is_short
 use Rattle.qs_events.specs.Weights.{Costs, weight}
 use Rattle.qs_calls.specs.World.{World, RootRun}
 use Rattle.qs_machine.specs.State.{register, stack_pointer}
-use Rattle.qs_isa.specs.Registers.{a0}
+use Rattle.qs_isa.specs.Registers.{ra, a0}
 use Rattle.qs_tac.specs.Holders.{is_saved_register}
 use Rattle.qs_tac.specs.Trees.{TacUnitTree}
 use Rattle.qs_tac.specs.Units.{tac_run}
 use Rattle.qs_emit.specs.Machine.{Watched, goes, base, watched}
-use Rattle.qs_select.specs.Pieces.{ra}
 use Rattle.qs_emit.specs.Lies.{AreBytes, StandsFor}
 use Rattle.qs_emit.specs.Surroundings.{Surroundings, Lay, ground, HasBlocks}
 use Rattle.qs_emit.specs.Relation.{Setup, entry, function_at, around}

@@ -5,11 +5,11 @@ use Rattle.qs_memory.specs.Values.{Pointer, null, into}
 use Rattle.qs_memory.specs.Memory.{Cell, unset, byte, part, Block, Memory, cells_from}
 use Rattle.qs_memory.specs.Soundness.{IsLive, IsSound}
 use Rattle.qs_events.specs.Weights.{Costs}
+use Rattle.qs_isa.specs.Addresses.{code_start}
 use Rattle.qs_asm.specs.declared.item.Item.{Item}
 use Rattle.qs_asm.specs.Assembly.{label_at, IsAssembly}
 use Rattle.qs_image.specs.Image.{Image, FunctionRecord}
 use Rattle.qs_image.specs.Limits.{most_code_words, most_data_bytes}
-use Rattle.qs_machine.specs.State.{code_start}
 use Rattle.qs_tac.specs.Trees.{TacUnitTree}
 use Rattle.qs_tac.specs.Places.{PlacesTree}
 use Rattle.qs_tac.specs.declared.units.TacData.{TacData}

@@ -4,8 +4,8 @@ use Rattle.std.specs.Prelude.{if◌then◌else◌, List, [], ◌∷◌, length}
 use Rattle.qs_memory.specs.Values.{Pointer, null, into, Value, integer, address}
 use Rattle.qs_memory.specs.Memory.{Cell, unset, byte, part, Block, Memory, block_at}
 use Rattle.qs_memory.specs.Soundness.{IsLive}
+use Rattle.qs_isa.specs.Addresses.{data_start}
 use Rattle.qs_image.specs.Image.{Image}
-use Rattle.qs_machine.specs.State.{data_start}
 use Rattle.qs_emit.specs.Machine.{Room}
 
 -- ---- bytes

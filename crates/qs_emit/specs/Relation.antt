@@ -6,10 +6,11 @@ use Rattle.qs_memory.specs.Memory.{Memory, block_at}
 use Rattle.qs_memory.specs.Soundness.{IsLive}
 use Rattle.qs_calls.specs.World.{World}
 use Rattle.qs_calls.specs.declared.callee.Callee.{Callee}
+use Rattle.qs_isa.specs.Addresses.{code_start, data_start}
 use Rattle.qs_tac.specs.declared.operands.Operand.{Operand}
 use Rattle.qs_image.specs.Image.{Image}
 use Rattle.qs_image.specs.Limits.{most_code_words, most_data_bytes}
-use Rattle.qs_machine.specs.State.{stack_pointer, code_start, data_start, stack_top, stack_limit}
+use Rattle.qs_machine.specs.State.{stack_pointer, stack_top, stack_limit}
 use Rattle.qs_asm.specs.Items.{Lays, plain}
 use Rattle.qs_tac.specs.Trees.{InstructionTree, call, TacFunctionTree, TacUnitTree}
 use Rattle.qs_tac.specs.Fits.{unit_fits}

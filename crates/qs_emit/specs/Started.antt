@@ -6,9 +6,10 @@ use Rattle.qs_events.specs.Events.{Event, output_of}
 use Rattle.qs_events.specs.Runs.{Left, Ending, has_ended, is_undefined, is_short, events_of, ending_of}
 use Rattle.qs_events.specs.Weights.{weight}
 use Rattle.qs_calls.specs.World.{World, RootRun}
+use Rattle.qs_isa.specs.Addresses.{code_start}
 use Rattle.qs_isa.specs.Registers.{a0}
 use Rattle.qs_machine.specs.declared.answers.Cause.{Cause}
-use Rattle.qs_machine.specs.State.{register, stack_pointer, code_start}
+use Rattle.qs_machine.specs.State.{register, stack_pointer}
 use Rattle.qs_tac.specs.Holders.{is_saved_register}
 use Rattle.qs_tac.specs.Units.{tac_run}
 use Rattle.qs_emit.specs.Machine.{Watched, exits, traps, breaks, base, watched}

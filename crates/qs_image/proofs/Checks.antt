@@ -9,6 +9,7 @@ use Rattle.std.proofs.lemmas.Slice.Eq.{bytes_eq-Decides}
 use Rattle.std.proofs.lemmas.List.Elements.{All-head, All-tail, All-cons, All-nil}
 use Rattle.std.proofs.lemmas.List.Folds.{list_any_none, list_any_at}
 use Rattle.qs_base.specs.Bytes.{is_between}
+use Rattle.qs_isa.specs.Addresses.{code_start}
 use Rattle.qs_image.specs.Image.{FunctionRecord, IsBetween, IsAddress, IsCost}
 use Rattle.qs_image.specs.Faults.{all_differ, is_address, is_cost}
 
@@ -22,17 +23,17 @@ between-holds low high n h = grind (arith, nat_tests)
 
 pub address-means : (count a : ℕ) → is_address count a ≡ true → IsAddress count a
 address-means count a e =
-    let both = and_parts (nat_le 65536 a && nat_lt a (65536 + 4 * count)) (a % 4 == 0) e in
-    let ends = and_parts (nat_le 65536 a) (nat_lt a (65536 + 4 * count)) both.0 in
-    let low : 65536 ≤ a = grind (arith, nat_tests) in
-    let high : a < 65536 + 4 * count = grind (arith, nat_tests) in
+    let both = and_parts (nat_le code_start a && nat_lt a (code_start + 4 * count)) (a % 4 == 0) e in
+    let ends = and_parts (nat_le code_start a) (nat_lt a (code_start + 4 * count)) both.0 in
+    let low : code_start ≤ a = grind (arith, nat_tests) in
+    let high : a < code_start + 4 * count = grind (arith, nat_tests) in
     let whole : a % 4 ≡ 0 = grind (arith, nat_tests) in
-    record { k = (a - 65536) / 4; below = omega arith; at = omega arith }
+    record { k = (a - code_start) / 4; below = omega arith; at = omega arith }
 
 pub address-holds : (count a : ℕ) → IsAddress count a → is_address count a ≡ true
 address-holds count a h =
-    let low : nat_le 65536 a ≡ true = let le : 65536 ≤ a = omega arith in grind (arith, nat_tests) in
-    let high : nat_lt a (65536 + 4 * count) ≡ true = let lt : a < 65536 + 4 * count = omega arith in grind (arith, nat_tests) in
+    let low : nat_le code_start a ≡ true = let le : code_start ≤ a = omega arith in grind (arith, nat_tests) in
+    let high : nat_lt a (code_start + 4 * count) ≡ true = let lt : a < code_start + 4 * count = omega arith in grind (arith, nat_tests) in
     let whole : (a % 4 == 0) ≡ true = let e : a % 4 ≡ 0 = omega arith in grind (arith, nat_tests) in
     and_from _ _ (and_from _ _ low high) whole
 

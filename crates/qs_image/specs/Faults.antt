@@ -3,6 +3,7 @@ use Rattle.std.specs.Prelude.{◌≡◌, ℕ, ◌+◌, ◌*◌, ◌^◌, ◌%◌
 use Rattle.std.specs.List.{list_all, list_any, position_from}
 use Rattle.qs_base.specs.Bytes.{is_between}
 use Rattle.qs_base.specs.Names.{is_name}
+use Rattle.qs_isa.specs.Addresses.{code_start}
 use Rattle.qs_image.specs.declared.fault.ImageFault.{ImageFault}
 use Rattle.qs_image.specs.declared.fault.ImageFault.TheVariants.{Short, Magic, Count, Trailing, Entry, Cost, Names}
 use Rattle.qs_image.specs.Limits.{most_code_words, most_data_bytes, most_functions, most_name_bytes, most_parameters, largest_cost}
@@ -18,9 +19,9 @@ all_differ (f ∷ fs) = not (list_any (λ g. bytes_eq g.name f.name) fs) && all_
 abbrev pub are_names : List FunctionRecord → Bool
 are_names fs = list_all (λ f. is_name f.name) fs && all_differ fs && list_any (λ f. bytes_eq f.name (codes "main")) fs
 
--- the address of one of so many instructions, the first of which lies at 65,536
+-- the address of one of so many instructions
 abbrev pub is_address : ℕ → ℕ → Bool
-is_address count address = nat_le 65536 address && nat_lt address (65536 + 4 * count) && address % 4 == 0
+is_address count address = nat_le code_start address && nat_lt address (code_start + 4 * count) && address % 4 == 0
 
 abbrev pub are_addresses : Image → Bool
 are_addresses image = is_address (length image.code) image.entry && list_all (λ f. is_address (length image.code) f.address) image.functions

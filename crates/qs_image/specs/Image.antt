@@ -1,6 +1,7 @@
 -- The image as a pure value, and its bytes.
 use Rattle.std.specs.Prelude.{◌≡◌, ℕ, ◌+◌, ◌*◌, ◌/◌, ◌%◌, ◌^◌, ◌<◌, ◌≤◌, ◌≢◌, List, [], ◌∷◌, ◌++◌, length, map, codes, All, AllPairs, Contains, IsTrue}
 use Rattle.qs_base.specs.Names.{is_name}
+use Rattle.qs_isa.specs.Addresses.{code_start}
 use Rattle.qs_image.specs.Limits.{most_code_words, most_data_bytes, most_functions, most_name_bytes, most_parameters, largest_cost}
 
 -- a function with a body
@@ -71,11 +72,11 @@ image_bytes image =
 abbrev pub IsBetween : ℕ → ℕ → ℕ → Type 0
 IsBetween low high n = (low ≤ n) × (n ≤ high)
 
--- the address of one of so many instructions, the first of which lies at 65,536
+-- the address of one of so many instructions
 pub record IsAddress (count address : ℕ) : Type 0 where
   pub k : ℕ
   pub below : k < count
-  pub at : address ≡ 65536 + 4 * k
+  pub at : address ≡ code_start + 4 * k
 
 -- a positive multiple of 16 bytes, up to the largest
 pub record IsCost (cost : ℕ) : Type 0 where

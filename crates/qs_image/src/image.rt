@@ -7,7 +7,7 @@ use std::marker::Model;
 pub struct FunctionRecord {
     /// The name.
     pub name: Name,
-    /// The address of the first instruction, from 65,536 on.
+    /// The address of the first instruction, from `CODE_START` of qs_isa on.
     pub address: u32,
     /// The bytes of stack that a call costs, the saved return address included.
     pub cost: u32,

@@ -10,6 +10,7 @@ use crate::fault::ImageFault;
 use crate::limits::LARGEST_COST;
 use crate::word::word;
 use qs_base::is_name;
+use qs_isa::CODE_START;
 
 /// A record is three words: the length of the name, the address, the cost.
 pub const RECORD_BYTES: usize = 12;
@@ -57,7 +58,7 @@ pub fn is_address(count: u32, address: u32) -> bool
     requires { count ≤ most_code_words }
     ensures { result ≡ is_address count address }
 {
-    65_536 <= address && address < 65_536 + 4 * count && address % 4 == 0
+    CODE_START <= address && address < CODE_START + 4 * count && address % 4 == 0
 }
 
 fn is_cost(cost: u32) -> bool

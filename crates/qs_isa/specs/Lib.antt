@@ -1,4 +1,5 @@
 pub mod Registers
+pub mod Addresses
 pub mod Ranges
 pub mod Fields
 pub mod Table

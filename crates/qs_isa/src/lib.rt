@@ -1,7 +1,9 @@
 //! The instructions of RV32I 2.1 and of the M extension 2.0, and their words
-//! (RISC-V Unprivileged ISA 20191213, chapters 2, 7 and 24).
+//! (RISC-V Unprivileged ISA 20191213, chapters 2, 7 and 24); where code and data
+//! begin.
 #![tactic(auto)]
 
+mod addresses;
 mod decoding;
 mod encoding;
 mod fields;
@@ -10,6 +12,7 @@ mod instruction;
 mod kinds;
 mod register;
 
+pub use addresses::{CODE_START, DATA_START};
 pub use decoding::decode;
 pub use encoding::encode;
 pub use immediate::{BranchOffset, Immediate, JumpOffset, ShiftAmount, UpperImmediate};

@@ -29,8 +29,29 @@ impl Register {
     /// x2, the stack pointer.
     pub const SP: Register = Register { number: 2 };
 
+    /// x5, a temporary, which calls don't keep.
+    pub const T0: Register = Register { number: 5 };
+
     /// x10, the first argument and the result.
     pub const A0: Register = Register { number: 10 };
+
+    /// x11, the second argument.
+    pub const A1: Register = Register { number: 11 };
+
+    /// x12, the third argument.
+    pub const A2: Register = Register { number: 12 };
+
+    /// x13, the fourth argument.
+    pub const A3: Register = Register { number: 13 };
+
+    /// x14, the fifth argument.
+    pub const A4: Register = Register { number: 14 };
+
+    /// x15, the sixth argument.
+    pub const A5: Register = Register { number: 15 };
+
+    /// x16, the seventh argument.
+    pub const A6: Register = Register { number: 16 };
 
     /// x17, the last argument, which names a call of the environment.
     pub const A7: Register = Register { number: 17 };

@@ -1,5 +1,6 @@
 // The plans of the statements of core.
 ghost use Rattle.std.specs.Prelude.{IfOk};
+ghost use Rattle.qs_memory.specs.BlankOf.{blank_tree};
 ghost use Rattle.qs_core.specs.Trees as core;
 ghost use Rattle.qs_core.specs.Trees.{stmts_of};
 ghost use Rattle.qs_core.specs.TreeOf.{core_expr, core_exprs, core_stmt, core_stmts};
@@ -12,9 +13,22 @@ use crate::stmt_plans::StmtPlan;
 use crate::ways::Way;
 use qs_base::NoMemory;
 use qs_calls::Callee;
-use qs_core::{CoreExpr, CoreStmt};
-use qs_memory::Scalar;
+use qs_core::{CoreExpr, CoreStmt, Target};
+use qs_memory::{Blank, Scalar};
 use std::alloc::Global;
+
+fn assign_plan(
+    alloc: Global,
+    v: u32,
+    free: u32,
+    x: Target,
+    e: &CoreExpr,
+) -> Result<StmtPlan, NoMemory>
+    ensures { IfOk result (IsStmtPlanIn v free (core.assign x (core_expr e.now))) }
+{
+    let e = lowered(alloc, v, e)?;
+    Ok(StmtPlan::Assign(free, target_of(v, x)?, e))
+}
 
 fn store_plan(
     alloc: Global,
@@ -45,12 +59,25 @@ fn copy_plan(
     let a = lowered(alloc, v, a)?;
     let b = lowered(alloc, v, b)?;
     Ok(StmtPlan::Copy {
-        location: free,
+        free,
         size,
         alignment,
         to: a,
         from: b,
     })
+}
+
+fn fill_plan(
+    alloc: Global,
+    v: u32,
+    free: u32,
+    blank: &Blank,
+    a: &CoreExpr,
+) -> Result<StmtPlan, NoMemory>
+    ensures { IfOk result (IsStmtPlanIn v free (core.fill (blank_tree blank.now) (core_expr a.now))) }
+{
+    let a = lowered(alloc, v, a)?;
+    Ok(StmtPlan::Fill(free, blank.copy(alloc)?, a))
 }
 
 fn call_plan(
@@ -90,10 +117,7 @@ fn stmt_plan(alloc: Global, v: u32, free: u32, s: &CoreStmt) -> Result<StmtPlan,
             let all = stmt_plans(alloc, v, free, ss)?;
             joined(alloc, all)
         }
-        CoreStmt::Assign(x, e) => {
-            let e = lowered(alloc, v, e)?;
-            Ok(StmtPlan::Assign(free, target_of(v, *x)?, e))
-        }
+        CoreStmt::Assign(x, e) => assign_plan(alloc, v, free, *x, e),
         CoreStmt::Store(s, a, b) => store_plan(alloc, v, free, *s, a, b),
         CoreStmt::Copy {
             size,
@@ -101,10 +125,7 @@ fn stmt_plan(alloc: Global, v: u32, free: u32, s: &CoreStmt) -> Result<StmtPlan,
             to: a,
             from: b,
         } => copy_plan(alloc, v, free, *size, *alignment, a, b),
-        CoreStmt::Fill(blank, a) => {
-            let a = lowered(alloc, v, a)?;
-            Ok(StmtPlan::Fill(free, blank.copy(alloc)?, a))
-        }
+        CoreStmt::Fill(blank, a) => fill_plan(alloc, v, free, blank, a),
         CoreStmt::Call(x, f, es) => call_plan(alloc, v, free, *x, *f, es),
         CoreStmt::If(e, a, b) => {
             let e = lowered(alloc, v, e)?;

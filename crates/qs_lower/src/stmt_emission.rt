@@ -172,7 +172,7 @@ pub fn emit_stmt(
         StmtPlan::PlainReturn => put(code, Instruction::Return(None)),
         StmtPlan::Store(t, s, p, e) => emit_store(code, *t, *s, p, e, x.next),
         StmtPlan::Copy {
-            location: t,
+            free: t,
             size,
             alignment,
             to: p,

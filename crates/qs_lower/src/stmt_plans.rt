@@ -24,7 +24,7 @@ pub enum StmtPlan {
     Store(u32, Scalar, ExprPlan, ExprPlan),
     /// copies so many bytes, aligned like this, to an address from another
     Copy {
-        location: u32,
+        free: u32,
         size: u32,
         alignment: u32,
         to: ExprPlan,
@@ -103,7 +103,7 @@ impl Drop for StmtPlan {
             StmtPlan::Assign(_, _, _) => {}
             StmtPlan::Store(_, _, _, _) => {}
             StmtPlan::Copy {
-                location: _,
+                free: _,
                 size: _,
                 alignment: _,
                 to: _,

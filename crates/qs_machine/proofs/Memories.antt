@@ -7,9 +7,10 @@ use Rattle.std.proofs.lemmas.Grind.{common_steps}
 use Rattle.std.proofs.Math.Path.{fun_ext}
 use Rattle.std.proofs.Math.Seq.{drop-cons}
 use Rattle.std.proofs.Math.ListN.{length-set}
+use Rattle.qs_isa.specs.Addresses.{code_start, data_start}
 use Rattle.qs_isa.specs.declared.instruction.StoreKind.{StoreKind}
 use Rattle.qs_isa.specs.declared.instruction.StoreKind.TheVariants.{Sb, Sh, Sw}
-use Rattle.qs_machine.specs.State.{with_value, is_inside, code_start, data_start, stack_top, stack_base, store_1, store_2, store_4}
+use Rattle.qs_machine.specs.State.{with_value, is_inside, stack_top, stack_base, store_1, store_2, store_4}
 use Rattle.qs_machine.specs.Step.{stored, store_width}
 use Rattle.qs_machine.specs.declared.memory.Memory.{Memory}
 use Rattle.qs_machine.specs.Hart.{memory_of, can_read_in, nothing}

@@ -5,8 +5,9 @@ use Rattle.std.proofs.lemmas.Bool.{cases_lt, le-leb, lt-leb, lt-ltb, ne_eqb}
 use Rattle.std.proofs.lemmas.Bool.Decides.{nat_tests}
 use Rattle.std.proofs.lemmas.List.{get_or_past, get_or-drop, get_or_append_left, get_or-append_right, get_or-replicate, length-replicate, take_more}
 use Rattle.std.proofs.Math.Path.{fun_ext}
+use Rattle.qs_isa.specs.Addresses.{code_start, data_start}
 use Rattle.qs_image.specs.Image.{Image, word_bytes, words_bytes}
-use Rattle.qs_machine.specs.State.{stack_top, stack_base, code_start, data_start, is_inside}
+use Rattle.qs_machine.specs.State.{stack_top, stack_base, is_inside}
 use Rattle.qs_machine.specs.Run.{start_registers, start_memory}
 use Rattle.qs_machine.specs.Bytes.{byte_in}
 use Rattle.qs_machine.specs.Hart.{nothing}

@@ -1,10 +1,11 @@
 -- The code's registers and memory, seen as the functions of a state.
 use Rattle.std.specs.Prelude.{◌≡◌, ℕ, ◌+◌, Bool, ◌||◌, ◌==◌, List, length, slice_index, Option, Some, None, if◌then◌else◌}
+use Rattle.qs_isa.specs.Addresses.{code_start, data_start}
 use Rattle.qs_isa.specs.declared.instruction.LoadKind.{LoadKind}
 use Rattle.qs_isa.specs.declared.instruction.StoreKind.{StoreKind}
 use Rattle.qs_machine.specs.declared.registers.Registers.{Registers}
 use Rattle.qs_machine.specs.declared.memory.Memory.{Memory}
-use Rattle.qs_machine.specs.State.{with_value, code_start, data_start, stack_base, is_inside, is_stack}
+use Rattle.qs_machine.specs.State.{with_value, stack_base, is_inside, is_stack}
 use Rattle.qs_machine.specs.Bytes.{byte_in, bytes_from}
 use Rattle.qs_machine.specs.Step.{load_width, loaded, stored}
 

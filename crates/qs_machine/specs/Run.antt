@@ -1,8 +1,9 @@
 -- The machine from its start: where it stands after so many steps, and how low its stack pointer went.
 use Rattle.std.specs.Prelude.{ℕ, zero, suc, ◌-◌, ◌&&◌, ◌==◌, nat_le, min, List, [], slice_index, if◌then◌else◌}
+use Rattle.qs_isa.specs.Addresses.{code_start, data_start}
 use Rattle.qs_isa.specs.Registers.{sp, a0, a7}
 use Rattle.qs_image.specs.Image.{Image, words_bytes}
-use Rattle.qs_machine.specs.State.{State, code_start, data_start, stack_top, stack_pointer, is_code, is_data}
+use Rattle.qs_machine.specs.State.{State, stack_top, stack_pointer, is_code, is_data}
 use Rattle.qs_machine.specs.declared.answers.Cause.{Cause}
 use Rattle.qs_machine.specs.Step.{StepResult, Next, Exits, Traps, step}
 

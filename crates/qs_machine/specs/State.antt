@@ -1,5 +1,6 @@
 -- The state of the machine: one hart over a flat memory (RISC-V Unprivileged ISA 20191213, 1.4 and 2.1).
 use Rattle.std.specs.Prelude.{ℕ, ◌+◌, ◌-◌, ◌*◌, ◌/◌, ◌%◌, ◌^◌, Bool, ◌&&◌, ◌||◌, ◌==◌, nat_le, List, Option, Some, None, if◌then◌else◌, length}
+use Rattle.qs_isa.specs.Addresses.{code_start, data_start}
 use Rattle.qs_isa.specs.Registers.{sp}
 use Rattle.qs_image.specs.Image.{Image}
 
@@ -29,12 +30,6 @@ abbrev pub stack_pointer : State → ℕ
 stack_pointer s = register s sp
 
 -- Where things lie. The stack of `size` bytes lies below its top.
-abbrev pub code_start : ℕ
-code_start = 0x00010000
-
-abbrev pub data_start : ℕ
-data_start = 0x10000000
-
 abbrev pub stack_top : ℕ
 stack_top = 0x80000000
 

@@ -2,6 +2,7 @@
 -- A step that traps leaves the state as it was. Of several causes the one that is tested first counts.
 use Rattle.std.specs.Prelude.{◌≡◌, ℕ, ◌+◌, ◌-◌, ◌*◌, ◌/◌, ◌%◌, Bool, true, false, not, ◌&&◌, ◌||◌, ◌==◌, nat_lt, List, [], ◌∷◌, ◌++◌, if◌then◌else◌, map, slice_index, Option, Some, None, option_map, int_lt}
 use Rattle.qs_base.specs.Words.{add, sub, slt, sltu, and, or, xor, sll, srl, sra, mul, mulh, mulhsu, mulhu, div, divu, rem, remu, signed, sign_extend}
+use Rattle.qs_isa.specs.Addresses.{code_start}
 use Rattle.qs_isa.specs.declared.instruction.Instr.{Instr}
 use Rattle.qs_isa.specs.declared.instruction.Instr.TheVariants.{Lui, Auipc, Jal, Jalr, Branch, Load, Store, OpImm, ShiftImm, Op, Fence, Ecall, Ebreak}
 use Rattle.qs_isa.specs.declared.instruction.BranchKind.{BranchKind}
@@ -21,7 +22,7 @@ use Rattle.qs_isa.specs.Table.{decode_of}
 use Rattle.qs_image.specs.Image.{Image}
 use Rattle.qs_machine.specs.declared.answers.Cause.{Cause}
 use Rattle.qs_machine.specs.declared.answers.Cause.TheVariants.{Overflow, IllegalInstruction, FetchOutside, JumpMisaligned, LoadMisaligned, LoadOutside, StoreMisaligned, StoreOutside, UnknownCall, Breakpoint}
-use Rattle.qs_machine.specs.State.{State, register, set_register, stack_base, stack_top, code_start, is_code, can_read, can_write, load_1, load_2, load_4, store_1, store_2, store_4}
+use Rattle.qs_machine.specs.State.{State, register, set_register, stack_base, stack_top, is_code, can_read, can_write, load_1, load_2, load_4, store_1, store_2, store_4}
 
 -- A step gives the next state, or the program exits, or the step isn't taken, for a cause.
 pub data StepResult : Type 0 where

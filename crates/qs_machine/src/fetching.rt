@@ -3,8 +3,8 @@ ghost use Rattle.std.specs.Prelude.{◌≤◌, ◌<◌, ◌^◌, IsSome, length}
 ghost use Rattle.qs_image.specs.Limits.{most_code_words};
 ghost use Rattle.qs_machine.specs.Step.{Fetches};
 
-use crate::regions::{CODE_START, place_in};
-use qs_isa::Instr;
+use crate::regions::place_in;
+use qs_isa::{CODE_START, Instr};
 
 /// What stands at the pc: None where it is the address of no word of the code, and Some of None
 /// where the word there is no instruction.

@@ -6,9 +6,9 @@ ghost use Rattle.qs_machine.specs.Bytes.{loaded_from};
 ghost use Rattle.qs_machine.specs.State.{stack_base, stack_limit};
 ghost use Rattle.qs_machine.specs.Step.{load_width, store_width};
 
-use crate::regions::{CODE_START, DATA_START, STACK_TOP, place_in, put};
+use crate::regions::{STACK_TOP, place_in, put};
 use byteorder::{ByteOrder, LittleEndian};
-use qs_isa::{LoadKind, StoreKind};
+use qs_isa::{CODE_START, DATA_START, LoadKind, StoreKind};
 
 /// The bytes of the code, of the data and of the stack.
 #[derive(Debug, Drop)]

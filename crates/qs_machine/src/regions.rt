@@ -7,10 +7,6 @@ ghost use Rattle.qs_machine.specs.Bytes.{put_bytes};
 use byteorder::{ByteOrder, LittleEndian};
 use qs_isa::StoreKind;
 
-pub const CODE_START: u32 = 0x0001_0000;
-
-pub const DATA_START: u32 = 0x1000_0000;
-
 pub const STACK_TOP: u32 = 0x8000_0000;
 
 /// The largest stack, in bytes.

@@ -8,6 +8,7 @@ use Rattle.qs_memory.specs.declared.operation.Comparison.{Comparison}
 use Rattle.qs_memory.specs.declared.operation.Comparison.TheVariants as comparisons
 use Rattle.qs_calls.specs.declared.callee.Callee.{Callee}
 use Rattle.qs_calls.specs.declared.callee.Callee.TheVariants.{Function, PutChar, GetChar}
+use Rattle.qs_isa.specs.Registers.{x0, a0}
 use Rattle.qs_isa.specs.declared.instruction.Instr.{Instr}
 use Rattle.qs_isa.specs.declared.instruction.BranchKind.TheVariants.{Beq, Bne}
 use Rattle.qs_asm.specs.declared.item.Item.{Item}
@@ -21,7 +22,6 @@ use Rattle.qs_tac.specs.Places.{PlacesTree, no_places}
 use Rattle.qs_tac.specs.declared.operands.Operand.{Operand}
 use Rattle.qs_tac.specs.declared.operands.Condition.{Condition}
 use Rattle.qs_tac.specs.declared.operands.Condition.TheVariants.{NotZero, Zero, Compare, ComparePointers}
-use Rattle.qs_select.specs.Pieces.{x0, a0}
 use Rattle.qs_select.specs.Operands.{Context, operand_register}
 use Rattle.qs_select.specs.Emission.{Labels, goes_to, environment, leave, compare_branch, branch_items, instruction_items, body_items, enter, function_items, first_label, labels_of, functions_items, unit_items}
 use Rattle.qs_select.specs.Labels.{label_count, LabelsCountUp, UnitLabelsCountUp}

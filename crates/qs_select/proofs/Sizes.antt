@@ -16,6 +16,7 @@ use Rattle.qs_calls.specs.declared.callee.Callee.{Callee}
 use Rattle.qs_calls.specs.declared.callee.Callee.TheVariants.{Function, PutChar, GetChar}
 use Rattle.qs_calls.specs.declared.parameter.Parameter.{Parameter}
 use Rattle.qs_calls.specs.declared.parameter.Parameter.TheVariants.{Plain, Placed}
+use Rattle.qs_isa.specs.Registers.{x0, ra, a0, a1, a4}
 use Rattle.qs_isa.specs.declared.instruction.Instr.{Instr}
 use Rattle.qs_isa.specs.declared.instruction.Instr.TheVariants as instructions
 use Rattle.qs_isa.specs.declared.instruction.LoadKind.{LoadKind}
@@ -42,7 +43,7 @@ use Rattle.qs_tac.specs.declared.operands.Condition.TheVariants.{NotZero, Zero, 
 use Rattle.qs_frames.specs.Layout.{is_among, used_among, saved_registers, used_registers, kept}
 use Rattle.qs_frames.proofs.FrameLaws.{kept_in_slots}
 use Rattle.qs_select.specs.Pieces as pieces
-use Rattle.qs_select.specs.Pieces.{x0, ra, a0, a1, a4, sltiu, sltu, is_small, low_part, constant, is_near, load_from, store_to, address_in_frame, move_stack, shift_of, product_by, loop_end, copy_loop, fill_loop, zero_bytes}
+use Rattle.qs_select.specs.Pieces.{sltiu, sltu, is_small, low_part, constant, is_near, load_from, store_to, address_in_frame, move_stack, shift_of, product_by, loop_end, copy_loop, fill_loop, zero_bytes}
 use Rattle.qs_select.specs.Operands.{Context, slot_offset, constant_count, place_into, byte_into, into, register_of, stands_in, unless_there, operand_code, operand_register, put_place, put, result_register, result_code, move_to, Anchor, displacement, behind_frame, behind_pointer, based, is_constant, add_elements, add_index, anchor_of, address_into, is_word_address}
 use Rattle.qs_select.specs.Operations.{constant_of, or_code, both, on_both, arithmetic, less, apart, compare, move_by, move_by_elements, moved, elements_between}
 use Rattle.qs_select.specs.Operations as operations

@@ -4,6 +4,7 @@ use Rattle.qs_memory.specs.Memory.{BlankTree}
 use Rattle.qs_memory.specs.declared.operation.Direction.{Direction}
 use Rattle.qs_calls.specs.declared.callee.Callee.{Callee}
 use Rattle.qs_calls.specs.declared.parameter.Parameter.{Parameter}
+use Rattle.qs_isa.specs.Registers.{a0}
 use Rattle.qs_isa.specs.declared.instruction.Instr.{Instr}
 use Rattle.qs_asm.specs.declared.item.Item.{Item}
 use Rattle.qs_tac.specs.Trees.{InstructionTree, copy, fill, call}
@@ -15,7 +16,6 @@ use Rattle.qs_tac.specs.UnitTrees.{unit_tree}
 use Rattle.qs_tac.specs.Places.{places_tree}
 use Rattle.qs_select.specs.declared.context.FunctionContext.{FunctionContext}
 use Rattle.qs_select.specs.Data.{data_address}
-use Rattle.qs_select.specs.Pieces.{a0}
 use Rattle.qs_select.specs.Operands.{Context, Anchor, behind_pointer, based, anchor_of}
 use Rattle.qs_select.specs.Operations.{moved, constant_of}
 use Rattle.qs_select.specs.Emission.{Labels, labels_of, take_parameter, take_parameters}

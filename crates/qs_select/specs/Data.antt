@@ -1,11 +1,8 @@
 -- Where the blocks of a unit's data lie.
 use Rattle.std.specs.Prelude.{ℕ, ◌+◌, List, map}
+use Rattle.qs_isa.specs.Addresses.{data_start}
 use Rattle.qs_tac.specs.declared.units.TacData.{TacData}
 use Rattle.qs_frames.specs.Layout.{offset}
-
--- where data begin in the machine's memory
-abbrev pub data_start : ℕ
-data_start = 0x10000000
 
 abbrev pub data_sizes : List TacData → List ℕ
 data_sizes data_blocks = map (λ d. d.size) data_blocks

@@ -9,7 +9,7 @@ use Rattle.qs_calls.specs.declared.callee.Callee.{Callee}
 use Rattle.qs_calls.specs.declared.callee.Callee.TheVariants.{Function, PutChar, GetChar}
 use Rattle.qs_calls.specs.declared.parameter.Parameter.{Parameter}
 use Rattle.qs_calls.specs.declared.parameter.Parameter.TheVariants.{Plain, Placed}
-use Rattle.qs_isa.specs.Registers.{sp}
+use Rattle.qs_isa.specs.Registers.{x0, ra, sp, a0, a1, a4, a5, a6, a7}
 use Rattle.qs_isa.specs.declared.instruction.Instr.{Instr}
 use Rattle.qs_isa.specs.declared.instruction.Instr.TheVariants as instructions
 use Rattle.qs_isa.specs.declared.instruction.LoadKind.TheVariants.{Lw, Lbu}
@@ -27,7 +27,7 @@ use Rattle.qs_tac.specs.declared.operands.Condition.{Condition}
 use Rattle.qs_tac.specs.declared.operands.Condition.TheVariants.{NotZero, Zero, Compare, ComparePointers}
 use Rattle.qs_frames.specs.Layout.{register_at, return_address_at, used_registers}
 use Rattle.qs_select.specs.Pieces as pieces
-use Rattle.qs_select.specs.Pieces.{x0, ra, a0, a1, a4, a5, a6, a7, addi, jalr, load_kind, store_kind}
+use Rattle.qs_select.specs.Pieces.{addi, jalr, load_kind, store_kind}
 use Rattle.qs_select.specs.Pieces.{store_to, move_stack, copy_loop, fill_loop, zero_bytes}
 use Rattle.qs_select.specs.Operands.{Context, frame_of, local_offset, into, operand_code, operand_register}
 use Rattle.qs_select.specs.Operands.{result_register, put, result_code, move_to, anchor_of, address_into, is_word_address}

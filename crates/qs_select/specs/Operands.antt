@@ -1,7 +1,7 @@
 -- How operands and addresses are made, and where results go.
 use Rattle.std.specs.Prelude.{ℕ, ◌+◌, ◌*◌, ◌%◌, ◌^◌, ◌==◌, ◌&&◌, Bool, true, false, if◌then◌else◌}
 use Rattle.std.specs.Prelude.{List, [], ◌∷◌, ◌++◌, Option, Some, None, unwrap_or}
-use Rattle.qs_isa.specs.Registers.{sp}
+use Rattle.qs_isa.specs.Registers.{x0, sp, a0, a1, a2, a3}
 use Rattle.qs_isa.specs.declared.instruction.Instr.{Instr}
 use Rattle.qs_isa.specs.declared.instruction.LoadKind.TheVariants.{Lw, Lbu}
 use Rattle.qs_isa.specs.declared.instruction.StoreKind.TheVariants.{Sw}
@@ -15,7 +15,7 @@ use Rattle.qs_tac.specs.declared.operands.Index.{Index}
 use Rattle.qs_tac.specs.declared.operands.Address.{Address}
 use Rattle.qs_frames.specs.declared.frame.Frame.{Frame}
 use Rattle.qs_frames.specs.Layout.{layout, slot_at, block_offset}
-use Rattle.qs_select.specs.Pieces.{x0, a0, a1, a2, a3, lui, addi, andi, add, is_small, low_part, high_part, constant}
+use Rattle.qs_select.specs.Pieces.{lui, addi, andi, add, is_small, low_part, high_part, constant}
 use Rattle.qs_select.specs.Pieces.{is_near, load_from, store_to, address_in_frame, product}
 
 -- what the code of a function depends on

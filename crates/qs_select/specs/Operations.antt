@@ -19,13 +19,14 @@ use Rattle.qs_memory.specs.declared.operation.UnaryOperation.{UnaryOperation}
 use Rattle.qs_memory.specs.declared.operation.UnaryOperation.TheVariants as unaries
 use Rattle.qs_memory.specs.declared.operation.BinaryOperation.{BinaryOperation}
 use Rattle.qs_memory.specs.declared.operation.BinaryOperation.TheVariants as binaries
+use Rattle.qs_isa.specs.Registers.{x0, a0, a1, a2, a3}
 use Rattle.qs_isa.specs.declared.instruction.Instr.{Instr}
 use Rattle.qs_isa.specs.declared.instruction.Instr.TheVariants as instructions
 use Rattle.qs_isa.specs.declared.instruction.OpKind.{OpKind}
 use Rattle.qs_isa.specs.declared.instruction.OpKind.TheVariants as kinds
 use Rattle.qs_tac.specs.declared.operands.Operand.{Operand}
 use Rattle.qs_tac.specs.declared.operands.Operand.TheVariants.{Temporary, Integer, Byte, Constant, Null, Local, Data}
-use Rattle.qs_select.specs.Pieces.{x0, a0, a1, a2, a3, addi, andi, ori, xori, slti, sltiu, slli, srli, srai, add, sub, slt, sltu, div}
+use Rattle.qs_select.specs.Pieces.{addi, andi, ori, xori, slti, sltiu, slli, srli, srai, add, sub, slt, sltu, div}
 use Rattle.qs_select.specs.Pieces.{is_small, constant, product}
 use Rattle.qs_select.specs.Operands.{Context, operand_code, operand_register}
 

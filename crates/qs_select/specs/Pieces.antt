@@ -3,7 +3,7 @@
 use Rattle.std.specs.Prelude.{ℕ, zero, suc, ◌+◌, ◌-◌, ◌*◌, ◌/◌, ◌%◌, ◌^◌, ◌==◌, ◌||◌, nat_lt, nat_le, Bool, if◌then◌else◌}
 use Rattle.std.specs.Prelude.{List, [], ◌∷◌, ◌++◌, Option, Some, None}
 use Rattle.qs_base.specs.Words.{sign_extend}
-use Rattle.qs_isa.specs.Registers.{sp}
+use Rattle.qs_isa.specs.Registers.{x0, ra, sp, t0, a4, a5, a6, a7}
 use Rattle.qs_isa.specs.declared.instruction.Instr.{Instr}
 use Rattle.qs_isa.specs.declared.instruction.Instr.TheVariants as instructions
 use Rattle.qs_isa.specs.declared.instruction.LoadKind.{LoadKind}
@@ -17,41 +17,8 @@ use Rattle.qs_isa.specs.declared.instruction.OpKind.TheVariants.{Add, Sub, Slt, 
 use Rattle.qs_memory.specs.declared.scalar.Scalar.{Scalar}
 use Rattle.qs_memory.specs.declared.scalar.Scalar.TheVariants as scalars
 
--- ---- registers: x10 to x17 are for the steps that instructions are made of, and so is x1 within a function, which has
--- stored its return address; x5 moves x2 at the entry and at the return, where no value has to be there still
-
-abbrev pub x0 : ℕ
-x0 = 0
-
-abbrev pub ra : ℕ
-ra = 1
-
-abbrev pub t0 : ℕ
-t0 = 5
-
-abbrev pub a0 : ℕ
-a0 = 10
-
-abbrev pub a1 : ℕ
-a1 = 11
-
-abbrev pub a2 : ℕ
-a2 = 12
-
-abbrev pub a3 : ℕ
-a3 = 13
-
-abbrev pub a4 : ℕ
-a4 = 14
-
-abbrev pub a5 : ℕ
-a5 = 15
-
-abbrev pub a6 : ℕ
-a6 = 16
-
-abbrev pub a7 : ℕ
-a7 = 17
+-- x10 to x17 are for the steps that instructions are made of, and so is x1 within a function, which has stored its return
+-- address; x5 moves x2 at the entry and at the return, where no value has to be there still
 
 -- ---- instructions by their names in assembly
 

@@ -2,6 +2,8 @@
 use Rattle.std.specs.Prelude.{◌≡◌, ◌⊎◌, ℕ, List, ◌∷◌, Some}
 use Rattle.std.specs.declared.alloc.Global.{Global}
 use Rattle.std.specs.declared.vec.Vec.{Vec}
+use Rattle.qs_isa.specs.Registers.{ra}
+use Rattle.qs_isa.specs.Addresses.{data_start}
 use Rattle.qs_asm.specs.declared.item.Item.{Item}
 use Rattle.qs_asm.specs.declared.item.Item.TheVariants as items
 use Rattle.qs_asm.specs.Items.{plain}
@@ -14,9 +16,8 @@ use Rattle.qs_tac.specs.declared.units.TacFunction.{TacFunction}
 use Rattle.qs_tac.specs.declared.unit.TacUnit.{TacUnit}
 use Rattle.qs_frames.specs.declared.blocks.Starts.{Starts}
 use Rattle.qs_frames.specs.Starts.{start_of, AreStarts}
-use Rattle.qs_select.specs.Pieces.{ra}
 use Rattle.qs_select.specs.Emission.{environment, first_label, labels_of, function_items, functions_items, unit_items}
-use Rattle.qs_select.specs.Data.{data_start, data_sizes, data_address}
+use Rattle.qs_select.specs.Data.{data_sizes, data_address}
 use Rattle.qs_select.specs.Puts.{Puts}
 use Rattle.qs_select.specs.Limits.{first_fault}
 use Rattle.qs_select.specs.declared.fault.SelectionFault.{SelectionFault}

@@ -10,7 +10,6 @@ use crate::immediates::{high, is_near, is_small, low, near, small};
 use crate::mnemonics::{add, addi, lui};
 use crate::operands::{data_address, local_offset, put_operand};
 use crate::pieces::{put, put_product};
-use crate::registers::{a1, a2, a3};
 use qs_asm::Item;
 use qs_base::{NoMemory, add32, mul32};
 use qs_isa::{Immediate, Register};
@@ -123,10 +122,10 @@ fn put_behind_pointer(
             immediate: small(distance),
         })
     } else {
-        put(items, lui(a2(), high(distance)))?;
-        put(items, add(a2(), a2(), pointer))?;
+        put(items, lui(Register::A2, high(distance)))?;
+        put(items, add(Register::A2, Register::A2, pointer))?;
         Ok(Reach {
-            register: a2(),
+            register: Register::A2,
             immediate: low(distance),
         })
     }
@@ -164,10 +163,10 @@ fn put_add_elements(
     ensures { OnOk result (Emits items.old items.new (spec.add_elements base count element)) }
 {
     if element == 1 {
-        put(items, add(a3(), count, base))
+        put(items, add(Register::A3, count, base))
     } else {
-        put_product(items, a3(), count, element)?;
-        put(items, add(a3(), a3(), base))
+        put_product(items, Register::A3, count, element)?;
+        put(items, add(Register::A3, Register::A3, base))
     }
 }
 
@@ -179,7 +178,7 @@ fn put_element(
 ) -> Result<(), NoMemory>
     ensures { OnOk result (Emits items.old items.new (spec.element_code (tree c.now) base index)) }
 {
-    let count = put_operand(items, c, a1(), index.count)?;
+    let count = put_operand(items, c, Register::A1, index.count)?;
     put_add_elements(items, base, count, index.element)
 }
 
@@ -198,7 +197,7 @@ pub fn put_anchor(items: &mut Vec<Item>, c: &FunctionContext, p: Address) -> Res
             } else {
                 put_element(items, c, at.register, index)?;
                 Ok(Reach {
-                    register: a3(),
+                    register: Register::A3,
                     immediate: at.immediate,
                 })
             }

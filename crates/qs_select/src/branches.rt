@@ -8,7 +8,6 @@ ghost use Rattle.qs_select.specs.Puts.{Puts};
 use crate::context::FunctionContext;
 use crate::operands::put_operand;
 use crate::pieces::put_item;
-use crate::registers::a1;
 use qs_asm::Item;
 use qs_base::NoMemory;
 use qs_isa::{BranchKind, Register};
@@ -64,7 +63,7 @@ fn put_compare_branch(
     ensures { OnOk result (Puts items.old items.new (compare_items (tree c.now) op s x y label)) }
 {
     let left = put_operand(items, c, Register::A0, x)?;
-    let right = put_operand(items, c, a1(), y)?;
+    let right = put_operand(items, c, Register::A1, y)?;
     put_item(items, compare_branch(op, s, left, right, label))
 }
 

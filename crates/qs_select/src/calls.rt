@@ -1,9 +1,9 @@
 // Calls.
 ghost use Rattle.std.specs.Prelude.{◌≤◌, ◌<◌, OnOk, length};
+ghost use Rattle.qs_isa.specs.Registers.{a0};
 ghost use Rattle.qs_select.specs.ContextOf.{context_tree as tree, labels_tree, call_items};
 ghost use Rattle.qs_select.specs.Emission as spec;
 ghost use Rattle.qs_select.specs.Limits.{most_arguments};
-ghost use Rattle.qs_select.specs.Pieces.{a0};
 ghost use Rattle.qs_select.specs.Puts.{Puts, Emits};
 
 use crate::context::FunctionContext;
@@ -17,9 +17,6 @@ use qs_base::NoMemory;
 use qs_calls::Callee;
 use qs_isa::{Instr, Register};
 use qs_tac::Operand;
-
-/// a0
-pub const FIRST_ARGUMENT: u8 = 10;
 
 // ---- calls of the environment, by their numbers
 
@@ -41,7 +38,7 @@ fn put_arguments(
     requires { length arguments.now ≤ most_arguments }
     ensures { OnOk result (Emits items.old items.new (spec.pass (tree c.now) a0 arguments.now)) }
 {
-    let mut register = FIRST_ARGUMENT;
+    let mut register = Register::A0.number();
     for argument in arguments {
         put_into(items, c, Register::new(register), *argument)?;
         register += 1;

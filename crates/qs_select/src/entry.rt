@@ -7,7 +7,6 @@ ghost use Rattle.qs_select.specs.Emission as spec;
 ghost use Rattle.qs_select.specs.Limits.{most_arguments};
 ghost use Rattle.qs_select.specs.Puts.{Emits};
 
-use crate::calls::FIRST_ARGUMENT;
 use crate::context::FunctionContext;
 use crate::immediates::below;
 use crate::mnemonics::{jalr, load, store};
@@ -104,7 +103,7 @@ fn put_parameters(
     requires { length parameters.now ≤ most_arguments }
     ensures { OnOk result (Emits items.old items.new (parameters_code c.now parameters.now)) }
 {
-    let mut register = FIRST_ARGUMENT;
+    let mut register = Register::A0.number();
     for parameter in parameters {
         put_parameter(items, c, Register::new(register), *parameter)?;
         register += 1;

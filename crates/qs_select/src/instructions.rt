@@ -17,7 +17,6 @@ use crate::objects::{put_copy, put_fill};
 use crate::operands::{place, put_into, put_move, put_operand, put_result, result_register};
 use crate::operations::{conversion, put_binary, unary_instruction};
 use crate::pieces::{load_kind, put, put_item, store_kind};
-use crate::registers::a4;
 use qs_asm::Item;
 use qs_base::NoMemory;
 use qs_isa::Register;
@@ -112,7 +111,7 @@ fn put_stored(
     ensures { OnOk result (Puts items.old items.new (items_of c.now (tac.store s p o))) }
 {
     let at = put_anchor(items, c, p)?;
-    let from = put_operand(items, c, a4(), o)?;
+    let from = put_operand(items, c, Register::A4, o)?;
     put(items, store(store_kind(s), from, at.register, at.immediate))
 }
 

@@ -18,7 +18,6 @@ mod objects;
 mod operands;
 mod operations;
 mod pieces;
-mod registers;
 mod selection;
 
 pub use fault::SelectionFault;

@@ -10,10 +10,9 @@ use crate::addresses::{is_word_address, put_address};
 use crate::context::FunctionContext;
 use crate::immediates::below;
 use crate::pieces::{put_copy_loop, put_fill_loop, put_zero_bytes};
-use crate::registers::{a5, a6};
 use qs_asm::Item;
 use qs_base::NoMemory;
-use qs_isa::{LoadKind, StoreKind};
+use qs_isa::{LoadKind, Register, StoreKind};
 use qs_memory::Blank;
 use qs_tac::Address;
 
@@ -91,8 +90,8 @@ pub fn put_copy(
 ) -> Result<(), NoMemory>
     ensures { OnOk result (Puts items.old items.new (copy_items c.now size alignment to from)) }
 {
-    put_address(items, c, a5(), to)?;
-    put_address(items, c, a6(), from)?;
+    put_address(items, c, Register::A5, to)?;
+    put_address(items, c, Register::A6, from)?;
     put_copy_code(items, size, alignment)
 }
 
@@ -106,6 +105,6 @@ pub fn put_fill(
     requires { blank_size (blank_tree blank.now) < 2 ^ 32 }
     ensures { OnOk result (Puts items.old items.new (fill_items c.now (blank_tree blank.now) to)) }
 {
-    put_address(items, c, a5(), to)?;
+    put_address(items, c, Register::A5, to)?;
     put_fill_code(items, is_word_address(to), blank_bytes(blank))
 }

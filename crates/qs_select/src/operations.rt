@@ -11,7 +11,6 @@ use crate::immediates::{below, is_small, small};
 use crate::mnemonics::{add, addi, andi, div, on_registers, slt, sltiu, sltu, sub, xori};
 use crate::operands::put_operand;
 use crate::pieces::{put, put_constant, put_product};
-use crate::registers::{a1, a2, a3};
 use qs_asm::Item;
 use qs_base::{NoMemory, mul32, sub32};
 use qs_isa::{Immediate, Instr, OpImmKind, OpKind, Register, ShiftAmount, ShiftImmKind};
@@ -149,7 +148,7 @@ pub fn put_arithmetic(
     match with_operand(op, s, rd, left, y) {
         Some(i) => put(items, i),
         None => {
-            let right = put_operand(items, c, a1(), y)?;
+            let right = put_operand(items, c, Register::A1, y)?;
             put(items, on_registers(kind_of(op, s), rd, left, right))
         }
     }
@@ -195,7 +194,7 @@ fn put_less(
     match less_than_operand(s, rd, left, y) {
         Some(i) => put(items, i),
         None => {
-            let right = put_operand(items, c, a1(), y)?;
+            let right = put_operand(items, c, Register::A1, y)?;
             put(items, less_than(s, rd, left, right))
         }
     }
@@ -285,8 +284,8 @@ fn put_move_by(
     if is_small(bytes) {
         put(items, addi(rd, pointer, small(bytes)))
     } else {
-        put_constant(items, a2(), bytes)?;
-        put(items, add(rd, pointer, a2()))
+        put_constant(items, Register::A2, bytes)?;
+        put(items, add(rd, pointer, Register::A2))
     }
 }
 
@@ -303,8 +302,8 @@ fn put_move_by_elements(
     if element == 1 {
         put(items, step(direction, rd, pointer, count))
     } else {
-        put_product(items, a3(), count, element)?;
-        put(items, step(direction, rd, pointer, a3()))
+        put_product(items, Register::A3, count, element)?;
+        put(items, step(direction, rd, pointer, Register::A3))
     }
 }
 
@@ -323,7 +322,7 @@ fn put_moved(
     match constant_of(y) {
         Some(n) => put_move_by(items, rd, pointer, directed(direction, mul32(n, element))),
         None => {
-            let count = put_operand(items, c, a1(), y)?;
+            let count = put_operand(items, c, Register::A1, y)?;
             put_move_by_elements(items, direction, rd, pointer, count, element)
         }
     }
@@ -341,9 +340,9 @@ fn put_elements_between(
     if element == 1 {
         put(items, sub(rd, left, right))
     } else {
-        put(items, sub(a3(), left, right))?;
-        put_constant(items, a2(), element)?;
-        put(items, div(rd, a3(), a2()))
+        put(items, sub(Register::A3, left, right))?;
+        put_constant(items, Register::A2, element)?;
+        put(items, div(rd, Register::A3, Register::A2))
     }
 }
 
@@ -368,7 +367,7 @@ pub fn put_binary(
         }
         BinaryOperation::Difference(element) => {
             let left = put_operand(items, c, Register::A0, x)?;
-            let right = put_operand(items, c, a1(), y)?;
+            let right = put_operand(items, c, Register::A1, y)?;
             put_elements_between(items, element, rd, left, right)
         }
         BinaryOperation::ComparePointers(op) => {

@@ -1,11 +1,11 @@
 // Short pieces of machine code that the code of instructions is put together from.
 ghost use Rattle.std.specs.Prelude.{◌≡◌, ◌<◌, [], ◌∷◌, OnOk};
+ghost use Rattle.qs_isa.specs.Registers.{a5, a7};
 ghost use Rattle.qs_select.specs.Pieces as spec;
 ghost use Rattle.qs_select.specs.Puts.{Puts, Emits};
 
 use crate::immediates::{below, high, is_near, is_small, low, near, small};
 use crate::mnemonics::{add, addi, load, lui, mul, slli, store};
-use crate::registers::{a4, a5, a6, t0};
 use qs_asm::Item;
 use qs_base::NoMemory;
 use qs_isa::{
@@ -136,8 +136,8 @@ pub fn put_move_stack(items: &mut Vec<Item>, word: u32) -> Result<(), NoMemory>
     if is_small(word) {
         put(items, addi(Register::SP, Register::SP, small(word)))
     } else {
-        put_constant(items, t0(), word)?;
-        put(items, add(Register::SP, Register::SP, t0()))
+        put_constant(items, Register::T0, word)?;
+        put(items, add(Register::SP, Register::SP, Register::T0))
     }
 }
 
@@ -178,15 +178,15 @@ fn put_loop_end(items: &mut Vec<Item>, size: u32) -> Result<(), NoMemory>
     ensures { OnOk result (Emits items.old items.new (spec.loop_end size)) }
 {
     put_constant(items, Register::A7, size)?;
-    put(items, add(Register::A7, Register::A7, a5()))
+    put(items, add(Register::A7, Register::A7, Register::A5))
 }
 
 fn back_to(offset: BranchOffset) -> Instr
-    ensures { result ≡ spec.bne spec.a5 spec.a7 offset }
+    ensures { result ≡ spec.bne a5 a7 offset }
 {
     Instr::Branch {
         kind: BranchKind::Bne,
-        rs1: a5(),
+        rs1: Register::A5,
         rs2: Register::A7,
         offset,
     }
@@ -203,10 +203,10 @@ pub fn put_copy_loop(
     ensures { OnOk result (Emits items.old items.new (spec.copy_loop from to width size)) }
 {
     put_loop_end(items, size)?;
-    put(items, load(from, a4(), a6(), below(0)))?;
-    put(items, addi(a6(), a6(), width))?;
-    put(items, store(to, a4(), a5(), below(0)))?;
-    put(items, addi(a5(), a5(), width))?;
+    put(items, load(from, Register::A4, Register::A6, below(0)))?;
+    put(items, addi(Register::A6, Register::A6, width))?;
+    put(items, store(to, Register::A4, Register::A5, below(0)))?;
+    put(items, addi(Register::A5, Register::A5, width))?;
     put(items, back_to(BranchOffset::new(0xffff_fff0)))
 }
 
@@ -220,8 +220,8 @@ pub fn put_fill_loop(
     ensures { OnOk result (Emits items.old items.new (spec.fill_loop to width size)) }
 {
     put_loop_end(items, size)?;
-    put(items, store(to, Register::ZERO, a5(), below(0)))?;
-    put(items, addi(a5(), a5(), width))?;
+    put(items, store(to, Register::ZERO, Register::A5, below(0)))?;
+    put(items, addi(Register::A5, Register::A5, width))?;
     put(items, back_to(BranchOffset::new(0xffff_fff8)))
 }
 
@@ -233,7 +233,7 @@ pub fn put_zero_bytes(items: &mut Vec<Item>, count: u32) -> Result<(), NoMemory>
     for offset in 0..count {
         put(
             items,
-            store(StoreKind::Sb, Register::ZERO, a5(), below(offset)),
+            store(StoreKind::Sb, Register::ZERO, Register::A5, below(offset)),
         )?;
     }
     Ok(())

@@ -20,11 +20,9 @@ use crate::pieces::put_item;
 use qs_asm::Item;
 use qs_base::{FnId, NoMemory, count, sum};
 use qs_frames::{Starts, laid_from, layout, used_registers};
-use qs_isa::Register;
+use qs_isa::{DATA_START, Register};
 use qs_tac::{Places, TacData, TacFunction, TacUnit};
 use std::alloc::Global;
-
-const DATA_START: u32 = 0x1000_0000;
 
 // ---- where data and labels begin
 

@@ -1,8 +1,9 @@
 use Rattle.std.proofs.Common.{◌≡◌, ◌++◌}
+use Rattle.qs_isa.specs.Registers.{x0, a5}
 use Rattle.qs_isa.specs.declared.instruction.StoreKind.TheVariants.{Sb}
 use Rattle.qs_asm.specs.Items.{plain}
 use Rattle.qs_select.specs.Pieces as pieces
-use Rattle.qs_select.specs.Pieces.{x0, a5, zero_bytes}
+use Rattle.qs_select.specs.Pieces.{zero_bytes}
 use Rattle.qs_select.proofs.PieceLaws.{zero_goes_on}
 use Rattle.qs_select.proofs.pieces.put_zero_bytes.Goals as goal
 

@@ -6,8 +6,8 @@ use Rattle.qs_base.specs.declared.keyword.Keyword.TheVariants as keywords
 use Rattle.qs_grammar.specs.Heads.{is_keyword, starts}
 
 -- a parenthesis or a step by one stands first
-abbrev pub is_marked : List Terminal → Bool
-is_marked ts = starts punctuators.OpenParenthesis ts || (starts punctuators.Increment ts || starts punctuators.Decrement ts)
+abbrev pub opens_or_steps : List Terminal → Bool
+opens_or_steps ts = starts punctuators.OpenParenthesis ts || (starts punctuators.Increment ts || starts punctuators.Decrement ts)
 
 -- a statement that begins with this token has a statement as a part
 abbrev pub is_nesting : Terminal → Bool

@@ -1,4 +1,4 @@
--- The operators (C11 6.5.2 to 6.5.16): the punctuator of each, how strongly those between two operands bind, and which operator a punctuator is.
+-- The operators (C11 6.5.2 to 6.5.16): the punctuator of each, the precedence of those between two operands, and which operator a punctuator is.
 use Rattle.std.specs.Prelude.{ℕ, Bool, true, false, ◌&&◌, List, [], ◌∷◌, Option}
 use Rattle.std.specs.Bool.{beq}
 use Rattle.std.specs.List.{find}
@@ -139,6 +139,21 @@ binary_of punctuator = find (λ operator. same_punctuator (punctuator_of_binary 
 
 abbrev pub same_binary : BinaryOperator → BinaryOperator → Bool
 same_binary = sameb binary_type
+
+-- ---- what binds more weakly (6.5.15 to 6.5.17)
+
+abbrev pub conditional_precedence : ℕ
+conditional_precedence = 11
+
+abbrev pub assignment_precedence : ℕ
+assignment_precedence = 12
+
+abbrev pub comma_precedence : ℕ
+comma_precedence = 13
+
+-- more than any precedence
+abbrev pub no_precedence : ℕ
+no_precedence = 14
 
 -- ---- assignments (6.5.16)
 

@@ -178,6 +178,18 @@ const BINARY_OPERATORS: [BinaryOperator; 18] = [
     BinaryOperator::Or,
 ];
 
+/// The precedence of `||`.
+pub const WEAKEST: u32 = 10;
+
+/// The precedence of a conditional expression (C11 6.5.15).
+pub const CONDITIONAL_PRECEDENCE: u32 = 11;
+
+/// The precedence of an assignment (C11 6.5.16).
+pub const ASSIGNMENT_PRECEDENCE: u32 = 12;
+
+/// The precedence of a comma (C11 6.5.17).
+pub const COMMA_PRECEDENCE: u32 = 13;
+
 impl BinaryOperator {
     /// Its punctuator and its precedence.
     fn row(self) -> (Punctuator, u32)
@@ -202,7 +214,7 @@ impl BinaryOperator {
             BinaryOperator::BitXor => (Punctuator::Caret, 7),
             BinaryOperator::BitOr => (Punctuator::Bar, 8),
             BinaryOperator::And => (Punctuator::AndAnd, 9),
-            BinaryOperator::Or => (Punctuator::OrOr, 10),
+            BinaryOperator::Or => (Punctuator::OrOr, WEAKEST),
         }
     }
 
@@ -213,7 +225,7 @@ impl BinaryOperator {
         self.row().0
     }
 
-    /// How weakly it binds, from 1 for `* / %` to 10 for `||`.
+    /// Its precedence, from 1 for `* / %`, which bind most strongly, to the weakest for `||`.
     pub fn precedence(self) -> u32
         ensures is { result ≡ precedence self }
         ensures most { result ≤ weakest }

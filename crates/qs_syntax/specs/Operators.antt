@@ -1,6 +1,5 @@
 -- The operators (C11 6.5.2 to 6.5.16): the punctuator of each, the precedence of those between two operands, and which operator a punctuator is.
-use Rattle.std.specs.Prelude.{ℕ, Bool, true, false, ◌&&◌, List, [], ◌∷◌, Option}
-use Rattle.std.specs.Bool.{beq}
+use Rattle.std.specs.Prelude.{ℕ, Bool, true, false, List, [], ◌∷◌, Option}
 use Rattle.std.specs.List.{find}
 use denote.Enum.Bare.{sameb}
 use Rattle.qs_syntax.specs.Punctuators.{same_punctuator}
@@ -59,22 +58,11 @@ step_row steps.DecrementBefore = (punctuators.Decrement, true)
 step_row steps.IncrementAfter = (punctuators.Increment, false)
 step_row steps.DecrementAfter = (punctuators.Decrement, false)
 
-abbrev pub step_operators : List StepOperator
-step_operators =
-    steps.IncrementBefore
-    ∷ steps.DecrementBefore
-    ∷ steps.IncrementAfter
-    ∷ steps.DecrementAfter
-    ∷ []
-
 abbrev pub punctuator_of_step : StepOperator → Punctuator
 punctuator_of_step operator = (step_row operator).0
 
 abbrev pub stands_before : StepOperator → Bool
 stands_before operator = (step_row operator).1
-
-abbrev pub step_of : Bool → Punctuator → Option StepOperator
-step_of before punctuator = find (λ operator. beq (stands_before operator) before && same_punctuator (punctuator_of_step operator) punctuator) step_operators
 
 abbrev pub same_step : StepOperator → StepOperator → Bool
 same_step = sameb step_type

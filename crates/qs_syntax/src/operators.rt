@@ -3,7 +3,7 @@ ghost use Rattle.std.specs.Prelude.{◌≡◌, ◌≤◌};
 ghost use Rattle.qs_syntax.specs.Operators.{access_of, assign_of, binary_of, binary_row};
 ghost use Rattle.qs_syntax.specs.Operators.{precedence, punctuator_of_access, punctuator_of_assign};
 ghost use Rattle.qs_syntax.specs.Operators.{punctuator_of_binary, punctuator_of_step};
-ghost use Rattle.qs_syntax.specs.Operators.{punctuator_of_unary, stands_before, step_of, step_row};
+ghost use Rattle.qs_syntax.specs.Operators.{punctuator_of_unary, stands_before, step_row};
 ghost use Rattle.qs_syntax.specs.Operators.{unary_of, weakest};
 
 use crate::punctuator::Punctuator;
@@ -73,13 +73,6 @@ pub enum StepOperator {
     DecrementAfter,
 }
 
-const STEP_OPERATORS: [StepOperator; 4] = [
-    StepOperator::IncrementBefore,
-    StepOperator::DecrementBefore,
-    StepOperator::IncrementAfter,
-    StepOperator::DecrementAfter,
-];
-
 impl StepOperator {
     /// Its punctuator, and whether it stands before its operand.
     fn row(self) -> (Punctuator, bool)
@@ -105,14 +98,6 @@ impl StepOperator {
         ensures { result ≡ stands_before self }
     {
         self.row().1
-    }
-
-    /// The step that the punctuator is before an operand, or behind one, if any.
-    pub fn of(before: bool, punctuator: Punctuator) -> Option<StepOperator>
-        ensures { result ≡ step_of before punctuator }
-    {
-        STEP_OPERATORS.iter().copied().find(|operator| operator.stands_before() == before
-            && operator.punctuator() == punctuator)
     }
 }
 

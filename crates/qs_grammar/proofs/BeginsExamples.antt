@@ -27,14 +27,14 @@ an_int_token = Keyword 0 keywords.Int
 abbrev pub a_name : Terminal
 a_name = Name 1 (120 ∷ [])
 
-abbrev pub a_mark : ℕ → Terminal
-a_mark at = Punctuator at punctuators.Semicolon
+abbrev pub a_semicolon : ℕ → Terminal
+a_semicolon at = Punctuator at punctuators.Semicolon
 
 abbrev pub a_parenthesis : Terminal
 a_parenthesis = Punctuator 2 punctuators.CloseParenthesis
 
 -- `int x;` is a unit of height 1
-pub a_declaration : (ds : List DeclTree) × ReadsUnit 1 (an_int_token ∷ a_name ∷ a_mark 2 ∷ []) ds
+pub a_declaration : (ds : List DeclTree) × ReadsUnit 1 (an_int_token ∷ a_name ∷ a_semicolon 2 ∷ []) ds
 a_declaration = (
   _,
   a_last_external (some_variables (an_outer_declaration {xs = an_int_token ∷ []} {ys = a_name ∷ []} 2 (an_outer_type {xs = []} {ys = an_int_token ∷ []} {zs = []} no_prefix (an_int 0) no_const)
@@ -43,15 +43,15 @@ a_declaration = (
 
 -- `int` begins it, and so does all of it
 pub type_begins : BeginsUnit (an_int_token ∷ [])
-type_begins = record { rest = a_name ∷ a_mark 2 ∷ []; height = 1; ds = a_declaration.0; reads = a_declaration.1 }
+type_begins = record { rest = a_name ∷ a_semicolon 2 ∷ []; height = 1; ds = a_declaration.0; reads = a_declaration.1 }
 
-pub declaration_begins_low : BeginsLowUnit (an_int_token ∷ a_name ∷ a_mark 2 ∷ [])
+pub declaration_begins_low : BeginsLowUnit (an_int_token ∷ a_name ∷ a_semicolon 2 ∷ [])
 declaration_begins_low = record { rest = []; height = 1; ds = a_declaration.0; reads = a_declaration.1; low = omega arith }
 
 -- a semicolon begins none, nor does `int x )`
-semicolon_begins_none : BeginsUnit (a_mark 0 ∷ []) → ⊥
+semicolon_begins_none : BeginsUnit (a_semicolon 0 ∷ []) → ⊥
 unfolding unit externals external outer_type
-semicolon_begins_none = no_unit 126 (a_mark 0 ∷ []) [] refl
+semicolon_begins_none = no_unit 126 (a_semicolon 0 ∷ []) [] refl
 
 parenthesis_ends_none : BeginsUnit (an_int_token ∷ a_name ∷ a_parenthesis ∷ []) → ⊥
 unfolding unit externals external outer_type stars variables variable declarator lengths given_lengths
@@ -114,7 +114,7 @@ parenthesis_is_unexpected = refl
 abbrev pub an_if : List Terminal
 an_if =
     an_int_token ∷ a_name ∷ Punctuator 2 punctuators.OpenParenthesis ∷ Punctuator 3 punctuators.CloseParenthesis ∷ Punctuator 4 punctuators.OpenBrace ∷ Keyword 5 keywords.If ∷ Punctuator 6 punctuators.OpenParenthesis ∷ Name 7 (120 ∷ [])
-    ∷ Punctuator 8 punctuators.CloseParenthesis ∷ a_mark 9 ∷ Keyword 10 keywords.Else ∷ a_mark 11 ∷ []
+    ∷ Punctuator 8 punctuators.CloseParenthesis ∷ a_semicolon 9 ∷ Keyword 10 keywords.Else ∷ a_semicolon 11 ∷ []
 
 an_if_is_read : unit 126 (an_if ++ Punctuator 12 punctuators.CloseBrace ∷ []) ≡ Ok (
   (

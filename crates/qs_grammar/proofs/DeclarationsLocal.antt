@@ -17,7 +17,7 @@ use Rattle.qs_grammar.specs.ParseDeclarations.{skip_prefixes, outer_type, given_
 use Rattle.qs_grammar.proofs.Counted.{type_some}
 use Rattle.qs_grammar.proofs.DeclarationsMembers.{sound_members}
 use Rattle.qs_grammar.proofs.ExpressionsLocal.{skip_shrinks, Local-skip, Local-base, Local-type, Local-stars, begins_one_same, part_nothing, Local-part}
-use Rattle.qs_grammar.proofs.Local.{left, extend, Local, bind-left, Local-bind, Local-look, Local-weak, Local-cons, Local-same, Local-turn, Local-ok, Local-unexpected-all, Local-deep-all, Local-deeper, Local-if, Local-starts, Local-place, Local-punctuator, Local-name, cond-left, Local-two, bind_same, bind_nothing, cond_same, expect_takes, leaves_less, Turns, Local-turns, Local-after, after_same, Looks-mark, Looks-keyword, sound_takes}
+use Rattle.qs_grammar.proofs.Local.{left, extend, Local, bind-left, Local-bind, Local-look, Local-weak, Local-cons, Local-same, Local-turn, Local-ok, Local-unexpected-all, Local-deep-all, Local-deeper, Local-if, Local-starts, Local-place, Local-punctuator, Local-name, cond-left, Local-two, bind_same, bind_nothing, cond_same, expect_takes, leaves_less, Turns, Local-turns, Local-after, after_same, Looks-punctuator, Looks-keyword, sound_takes}
 
 -- ---- types at file scope
 
@@ -113,7 +113,7 @@ pub Local-lengths : (m : ℕ) → Local 0 (lengths m)
 unfolding lengths
 Local-lengths m =
     Local-two is_empty_brackets (open_lengths m) (all_lengths m) (Local-punctuator punctuators.OpenBracket _ (λ _. Local-closing m)) (Local-lengths_of false _ (Local-given m))
-    (Looks-mark punctuators.OpenBracket is_empty_brackets (starts punctuators.CloseBracket) (open_lengths m) (all_lengths m) (λ t ts. refl) (λ u ts us. refl) (λ at us. omega (arith, (Local-closing m).shrinks us)) (opens_all m))
+    (Looks-punctuator punctuators.OpenBracket is_empty_brackets (starts punctuators.CloseBracket) (open_lengths m) (all_lengths m) (λ t ts. refl) (λ u ts us. refl) (λ at us. omega (arith, (Local-closing m).shrinks us)) (opens_all m))
 
 -- ---- declarators
 

@@ -27,10 +27,10 @@ use Rattle.qs_grammar.proofs.DeclarationsMembers.{sound_members}
 use Rattle.qs_grammar.proofs.DeclarationsParameters.{IsVoidOrNot, void_or_not, IsParameter, sound_parameter, void_is_refused, nothing_ends}
 use Rattle.qs_grammar.proofs.ExpressionsViable.{viable_base, viable_type, Has, number, one, one_begun, viable_part}
 use Rattle.qs_grammar.proofs.ExpressionsBegin.{high}
-use Rattle.qs_grammar.proofs.Viable.{Claims, OfFronts, behind_token, behind, Both, under, some_room, Viable, Viable-ok, Viable-unexpected, Viable-deep, Viable-after, Viable-token, Viable-if, Viable-bind, Viable-bind-is, Viable-done, here, Viable-mark, Viable-keyword, Viable-punctuator, Viable-no-punctuator, Viable-name, Viable-some}
+use Rattle.qs_grammar.proofs.Viable.{Claims, OfFronts, behind_token, behind, Both, under, some_room, Viable, Viable-ok, Viable-unexpected, Viable-deep, Viable-after, Viable-token, Viable-if, Viable-bind, Viable-bind-is, Viable-done, here, Viable-is_punctuator, Viable-keyword, Viable-punctuator, Viable-no-punctuator, Viable-name, Viable-some}
 
-abbrev pub mark : punctuator.Punctuator → Terminal
-mark k = Punctuator 0 k
+abbrev pub a_punctuator : punctuator.Punctuator → Terminal
+a_punctuator k = Punctuator 0 k
 
 -- ---- types
 
@@ -81,11 +81,11 @@ AreGiven h xs = (es : List ExprTree) × ReadsGiven h xs es
 abbrev pub AreLengths : ℕ → List Terminal → Type 0
 AreLengths h xs = (l : LengthsTree) × ReadsLengths h xs l
 
-one_length : (o : ℕ) → AreGiven (max 1 0) (Punctuator o punctuators.OpenBracket ∷ (number ++ mark punctuators.CloseBracket ∷ []))
+one_length : (o : ℕ) → AreGiven (max 1 0) (Punctuator o punctuators.OpenBracket ∷ (number ++ a_punctuator punctuators.CloseBracket ∷ []))
 one_length o = (_, a_length o 0 (one Conditional refl).1 no_length)
 
 length_begun : (m : ℕ) (Q : Claims) → OfFronts Q → ((h : ℕ) (xs : List Terminal) → AreGiven h xs → Both Q m h xs) → (o : ℕ) (h : ℕ) (xs : List Terminal) → Has Conditional h xs → Both Q m h (Punctuator o punctuators.OpenBracket ∷ xs)
-length_begun m Q c w o h xs s = under c (Punctuator o punctuators.OpenBracket ∷ xs) (mark punctuators.CloseBracket ∷ []) m (max h 0) (w (max h 0) _ (_, a_length o 0 s.1 no_length)) m h (λ le. omega arith)
+length_begun m Q c w o h xs s = under c (Punctuator o punctuators.OpenBracket ∷ xs) (a_punctuator punctuators.CloseBracket ∷ []) m (max h 0) (w (max h 0) _ (_, a_length o 0 s.1 no_length)) m h (λ le. omega arith)
 
 viable_given : (m n : ℕ) (done : List ExprTree) (h : ℕ) (Q : Claims) → OfFronts Q → ((h : ℕ) (xs : List Terminal) → AreGiven h xs → Both Q m h xs) → (ts : List Terminal)
     → (starts punctuators.OpenBracket ts ≡ true → (o : ℕ) → Q true (Punctuator o punctuators.OpenBracket ∷ [])) → Viable Q ts (given_lengths m n done h ts)
@@ -100,7 +100,7 @@ viable_given m (suc n) done h Q c w ts bracket =
     (λ k ws. let further : (g : ℕ) (xs : List Terminal) → AreGiven g xs → Both Q m g (Punctuator o punctuators.OpenBracket ∷ (front ++ Punctuator k punctuators.CloseBracket ∷ xs)) = λ g xs s. (let both = w (max e.1 g) _ (_, a_length o k r.0 s.1) in (both.0, λ le. both.1 (omega arith))) in
     let inside : OfFronts (λ b l. Q b (Punctuator o punctuators.OpenBracket ∷ (front ++ Punctuator k punctuators.CloseBracket ∷ l))) = behind_token (Punctuator k punctuators.CloseBracket) (behind front (behind_token (Punctuator o punctuators.OpenBracket) c)) in
     viable_given m n (done ++ e.0 ∷ []) (max h e.1) (λ b l. Q b (Punctuator o punctuators.OpenBracket ∷ (front ++ Punctuator k punctuators.CloseBracket ∷ l))) inside further ws
-    (λ _ a. inside.front true (Punctuator a punctuators.OpenBracket ∷ []) (number ++ mark punctuators.CloseBracket ∷ []) ((further (max 1 0) _ (one_length a)).1 (omega arith)))))))
+    (λ _ a. inside.front true (Punctuator a punctuators.OpenBracket ∷ []) (number ++ a_punctuator punctuators.CloseBracket ∷ []) ((further (max 1 0) _ (one_length a)).1 (omega arith)))))))
     (λ _. Viable-ok)
 
 module _ (m : ℕ) (Q : Claims) (c : OfFronts Q) (w : (h : ℕ) (xs : List Terminal) → AreLengths h xs → Both Q m h xs) where
@@ -108,14 +108,14 @@ module _ (m : ℕ) (Q : Claims) (c : OfFronts Q) (w : (h : ℕ) (xs : List Termi
   opened o k h xs s = w h _ (_, first_open o k s.1)
 
   open_bracket : (o : ℕ) → Q true (Punctuator o punctuators.OpenBracket ∷ [])
-  open_bracket o = c.front true (Punctuator o punctuators.OpenBracket ∷ []) (mark punctuators.CloseBracket ∷ []) ((opened o 0 0 [] ([], no_length)).1 (omega arith))
+  open_bracket o = c.front true (Punctuator o punctuators.OpenBracket ∷ []) (a_punctuator punctuators.CloseBracket ∷ []) ((opened o 0 0 [] ([], no_length)).1 (omega arith))
 
   viable_behind_open : (o k : ℕ) (ts : List Terminal) → Viable (λ b l. Q b (Punctuator o punctuators.OpenBracket ∷ Punctuator k punctuators.CloseBracket ∷ l)) ts (behind_open m ts)
   viable_behind_open o k ts =
       Viable-if (m == 0 && starts punctuators.OpenBracket ts) (λ e. at_bracket ts (and_parts (m == 0) (starts punctuators.OpenBracket ts) e).1)
       (λ e. viable_given m (length ts) [] 0 _ (behind_token (Punctuator k punctuators.CloseBracket) (behind_token (Punctuator o punctuators.OpenBracket) c)) (opened o k) ts
       (λ there a. let some : 0 < m = some_room m (only (m == 0) (starts punctuators.OpenBracket ts) there e) in
-      c.front true (Punctuator o punctuators.OpenBracket ∷ Punctuator k punctuators.CloseBracket ∷ Punctuator a punctuators.OpenBracket ∷ []) (number ++ mark punctuators.CloseBracket ∷ []) ((opened o k (max 1 0) _ (one_length a)).1 (omega arith))))
+      c.front true (Punctuator o punctuators.OpenBracket ∷ Punctuator k punctuators.CloseBracket ∷ Punctuator a punctuators.OpenBracket ∷ []) (number ++ a_punctuator punctuators.CloseBracket ∷ []) ((opened o k (max 1 0) _ (one_length a)).1 (omega arith))))
     where
       only : (b d : Bool) → d ≡ true → (b && d) ≡ false → b ≡ false
       only true true e f = f
@@ -124,8 +124,8 @@ module _ (m : ℕ) (Q : Claims) (c : OfFronts Q) (w : (h : ℕ) (xs : List Termi
 
       at_bracket : (ts : List Terminal) → starts punctuators.OpenBracket ts ≡ true → Viable {A = List ExprTree × ℕ} (λ b l. Q b (Punctuator o punctuators.OpenBracket ∷ Punctuator k punctuators.CloseBracket ∷ l)) ts (deep ts)
       at_bracket [] e = absurd cc
-      at_bracket (t ∷ ts) e = Viable-mark punctuators.OpenBracket t e
-          (Viable-deep ((opened o k 0 [] ([], no_length)).1 (omega arith)) (c.front false (Punctuator o punctuators.OpenBracket ∷ Punctuator k punctuators.CloseBracket ∷ Punctuator (number_of t) punctuators.OpenBracket ∷ []) (number ++ mark punctuators.CloseBracket ∷ [])
+      at_bracket (t ∷ ts) e = Viable-is_punctuator punctuators.OpenBracket t e
+          (Viable-deep ((opened o k 0 [] ([], no_length)).1 (omega arith)) (c.front false (Punctuator o punctuators.OpenBracket ∷ Punctuator k punctuators.CloseBracket ∷ Punctuator (number_of t) punctuators.OpenBracket ∷ []) (number ++ a_punctuator punctuators.CloseBracket ∷ [])
           (opened o k (max 1 0) _ (one_length (number_of t))).0))
 
   pub viable_lengths : (ts : List Terminal) → Viable Q ts (lengths m ts)
@@ -160,17 +160,17 @@ module _ (m : ℕ) (Q : Claims) (c : OfFronts Q) (w : (h : ℕ) (xs : List Termi
 module _ (closing : punctuator.Punctuator) (n : ℕ) (One All : ℕ → List Terminal → Type 0) (last : (h : ℕ) (xs : List Terminal) → One h xs → All h xs)
     (further : (h k : ℕ) (xs ys : List Terminal) (at : ℕ) → One h xs → All k ys → All (max h k) (xs ++ Punctuator at punctuators.Comma ∷ ys)) (shortest : List Terminal) (least : All 1 shortest) (room : 0 < n) where
   abbrev pub Closes : Claims → Type 0
-  Closes Q = (h : ℕ) (xs : List Terminal) → All h xs → Both Q n h (xs ++ mark closing ∷ [])
+  Closes Q = (h : ℕ) (xs : List Terminal) → All h xs → Both Q n h (xs ++ a_punctuator closing ∷ [])
 
   pub viable_after : {B : Type 0} (all : B) (others : Parse B) (g : ℕ) (front : List Terminal) → One g front → g ≤ n → (Q : Claims) → OfFronts Q → Closes Q
       → ((P : Claims) → OfFronts P → Closes P → P true [] → (ts : List Terminal) → Viable P ts (others ts))
       → (us : List Terminal) → Viable (λ b l. Q b (front ++ l)) us (cond (starts closing us) (bind (expect closing us) (λ _ vs. Ok (all, vs))) (bind (expect punctuators.Comma us) (λ _ vs. others vs)))
   viable_after all others g front r fits Q c w again us =
-      let q : Q true (front ++ []) = here Q front (c.front true front (mark closing ∷ []) ((w g front (last g front r)).1 fits)) in
+      let q : Q true (front ++ []) = here Q front (c.front true front (a_punctuator closing ∷ []) ((w g front (last g front r)).1 fits)) in
       Viable-if (starts closing us)
       (λ _. Viable-punctuator closing us _ q (λ at vs. Viable-ok))
       (λ _. Viable-punctuator punctuators.Comma us _ q
-      (λ at vs. let more : Closes (λ b l. Q b (front ++ Punctuator at punctuators.Comma ∷ l)) = λ k xs s. (let both = w (max g k) (front ++ Punctuator at punctuators.Comma ∷ xs) (further g k front xs at r s) in let same = append_assoc front (Punctuator at punctuators.Comma ∷ xs) (mark closing ∷ []) in
+      (λ at vs. let more : Closes (λ b l. Q b (front ++ Punctuator at punctuators.Comma ∷ l)) = λ k xs s. (let both = w (max g k) (front ++ Punctuator at punctuators.Comma ∷ xs) (further g k front xs at r s) in let same = append_assoc front (Punctuator at punctuators.Comma ∷ xs) (a_punctuator closing ∷ []) in
       (subst (Q false) same both.0, λ le. subst (Q true) same (both.1 (omega arith)))) in
       again (λ b l. Q b (front ++ Punctuator at punctuators.Comma ∷ l)) (behind_token (Punctuator at punctuators.Comma) (behind front c)) more
       ((behind front c).front true (Punctuator at punctuators.Comma ∷ []) _ ((more 1 shortest least).1 (omega arith))) vs))
@@ -188,7 +188,7 @@ an_init = (_, a_value (one Assignment refl).1)
 
 module _ (n : ℕ) (one : Parse (InitialiserTree × ℕ)) (sound : (ts : List Terminal) → Sound (IsInitialiser n) [] ts (one ts))
     (viable : (Q : Claims) → OfFronts Q → ((h : ℕ) (xs : List Terminal) → IsInit h xs → Both Q n h xs) → Q true [] → (ts : List Terminal) → Viable Q ts (one ts)) where
-  viable_initialisers : (turns : ℕ) (done : List InitialiserTree) (h : ℕ) (Q : Claims) → OfFronts Q → ((h : ℕ) (xs : List Terminal) → AreInits h xs → Both Q n h (xs ++ mark punctuators.CloseBrace ∷ [])) → Q true [] → (ts : List Terminal)
+  viable_initialisers : (turns : ℕ) (done : List InitialiserTree) (h : ℕ) (Q : Claims) → OfFronts Q → ((h : ℕ) (xs : List Terminal) → AreInits h xs → Both Q n h (xs ++ a_punctuator punctuators.CloseBrace ∷ [])) → Q true [] → (ts : List Terminal)
       → Viable Q ts (initialisers one turns done h ts)
   unfolding initialisers
   viable_initialisers zero done h Q c w low ts = Viable-unexpected low
@@ -198,17 +198,17 @@ module _ (n : ℕ) (one : Parse (InitialiserTree × ℕ)) (sound : (ts : List Te
       Viable-if (starts punctuators.CloseBrace us)
       (λ _. Viable-punctuator punctuators.CloseBrace us _ q (λ at vs. Viable-ok))
       (λ _. Viable-punctuator punctuators.Comma us _ q
-      (λ at vs. let comma : Q true (front ++ Punctuator at punctuators.Comma ∷ []) = c.front true (front ++ Punctuator at punctuators.Comma ∷ []) (mark punctuators.CloseBrace ∷ []) ((w i.1 (front ++ Punctuator at punctuators.Comma ∷ []) (_, a_last_with_comma at r.0)).1 r.1) in
+      (λ at vs. let comma : Q true (front ++ Punctuator at punctuators.Comma ∷ []) = c.front true (front ++ Punctuator at punctuators.Comma ∷ []) (a_punctuator punctuators.CloseBrace ∷ []) ((w i.1 (front ++ Punctuator at punctuators.Comma ∷ []) (_, a_last_with_comma at r.0)).1 r.1) in
       Viable-if (starts punctuators.CloseBrace vs)
       (λ _. Viable-punctuator punctuators.CloseBrace vs _ comma (λ k ws. Viable-ok))
       (λ _. viable_initialisers turns (done ++ i.0 ∷ []) (max h i.1) (λ b l. Q b (front ++ Punctuator at punctuators.Comma ∷ l)) (behind_token (Punctuator at punctuators.Comma) (behind front c))
-      (λ k xs s. let both = w (max i.1 k) (front ++ Punctuator at punctuators.Comma ∷ xs) (_, an_initialiser at r.0 s.1) in let same = append_assoc front (Punctuator at punctuators.Comma ∷ xs) (mark punctuators.CloseBrace ∷ []) in
+      (λ k xs s. let both = w (max i.1 k) (front ++ Punctuator at punctuators.Comma ∷ xs) (_, an_initialiser at r.0 s.1) in let same = append_assoc front (Punctuator at punctuators.Comma ∷ xs) (a_punctuator punctuators.CloseBrace ∷ []) in
       (subst (Q false) same both.0, λ le. subst (Q true) same (both.1 (omega arith)))) comma vs))))
     where
       begun : (h : ℕ) (xs : List Terminal) → IsInit h xs → Both Q n h xs
-      begun h xs s = under c xs (mark punctuators.CloseBrace ∷ []) n h (w h xs (_, a_last_initialiser s.1)) n h (λ le. le)
+      begun h xs s = under c xs (a_punctuator punctuators.CloseBrace ∷ []) n h (w h xs (_, a_last_initialiser s.1)) n h (λ le. le)
 
-one_list : (at : ℕ) → IsInit 2 (Punctuator at punctuators.OpenBrace ∷ (number ++ mark punctuators.CloseBrace ∷ []))
+one_list : (at : ℕ) → IsInit 2 (Punctuator at punctuators.OpenBrace ∷ (number ++ a_punctuator punctuators.CloseBrace ∷ []))
 one_list at = (_, a_list at 0 (a_last_initialiser an_init.1))
 
 viable_initialiser : (n : ℕ) (Q : Claims) → OfFronts Q → ((h : ℕ) (xs : List Terminal) → IsInit h xs → Both Q n h xs) → Q true [] → (ts : List Terminal) → Viable Q ts (initialiser n ts)
@@ -265,23 +265,23 @@ module _ (m : ℕ) (Q : Claims) (c : OfFronts Q) (w : (h : ℕ) (xs : List Termi
 further_variable : (h k : ℕ) (xs ys : List Terminal) (at : ℕ) → IsVariable h xs → AreVariables k ys → AreVariables (max h k) (xs ++ Punctuator at punctuators.Comma ∷ ys)
 further_variable h k xs ys at r s = (_, a_variable at r.1 s.1)
 
-viable_variables : (m n : ℕ) (done : List VariableTree) (h : ℕ) (Q : Claims) → OfFronts Q → ((h : ℕ) (xs : List Terminal) → AreVariables h xs → Both Q (suc m) h (xs ++ mark punctuators.Semicolon ∷ [])) → Q true [] → (ts : List Terminal) → Viable Q ts (variables m n done h ts)
+viable_variables : (m n : ℕ) (done : List VariableTree) (h : ℕ) (Q : Claims) → OfFronts Q → ((h : ℕ) (xs : List Terminal) → AreVariables h xs → Both Q (suc m) h (xs ++ a_punctuator punctuators.Semicolon ∷ [])) → Q true [] → (ts : List Terminal) → Viable Q ts (variables m n done h ts)
 unfolding variables
 viable_variables m zero done h Q c w low ts = Viable-unexpected low
 viable_variables m (suc n) done h Q c w low ts =
-    Viable-bind _ (sound_variable m ts) (viable_variable m Q c (λ h xs s. under c xs (mark punctuators.Semicolon ∷ []) (suc m) h (w h xs (only_variable h xs s)) (suc m) h (λ le. le)) ts)
+    Viable-bind _ (sound_variable m ts) (viable_variable m Q c (λ h xs s. under c xs (a_punctuator punctuators.Semicolon ∷ []) (suc m) h (w h xs (only_variable h xs s)) (suc m) h (λ le. le)) ts)
     (λ v front us r. viable_after punctuators.Semicolon (suc m) IsVariable AreVariables only_variable further_variable (Name 0 [] ∷ []) one_variable (omega arith) (done ++ v.0 ∷ [], max h v.1) (variables m n (done ++ v.0 ∷ []) (max h v.1)) v.1 front (v.0, r.0) r.1 Q c w
     (λ P d u l vs. viable_variables m n (done ++ v.0 ∷ []) (max h v.1) P d u l vs) us)
 
 -- behind a type
-pub viable_declared : (m : ℕ) (b : Base) (Q : Claims) → OfFronts Q → ((h : ℕ) (xs : List Terminal) → AreVariables h xs → Both Q (suc m) h (xs ++ mark punctuators.Semicolon ∷ [])) → Q true [] → (ts : List Terminal) → Viable Q ts (declared m b ts)
+pub viable_declared : (m : ℕ) (b : Base) (Q : Claims) → OfFronts Q → ((h : ℕ) (xs : List Terminal) → AreVariables h xs → Both Q (suc m) h (xs ++ a_punctuator punctuators.Semicolon ∷ [])) → Q true [] → (ts : List Terminal) → Viable Q ts (declared m b ts)
 viable_declared m b Q c w low ts = Viable-done _ (viable_variables m (length ts) [] 0 Q c w low ts)
 
 abbrev pub IsDeclaration : ℕ → List Terminal → Type 0
 IsDeclaration h xs = (d : DeclarationTree) × ReadsDeclaration h xs d
 
 module _ (n : ℕ) (Q : Claims) (c : OfFronts Q) (w : (h : ℕ) (xs : List Terminal) → IsDeclaration h xs → Both Q n h xs) where
-  behind_type : (xs : List Terminal) (b : Base) → ReadsType xs b → (h : ℕ) (ys : List Terminal) → AreVariables h ys → Both Q n h (xs ++ (ys ++ mark punctuators.Semicolon ∷ []))
+  behind_type : (xs : List Terminal) (b : Base) → ReadsType xs b → (h : ℕ) (ys : List Terminal) → AreVariables h ys → Both Q n h (xs ++ (ys ++ a_punctuator punctuators.Semicolon ∷ []))
   behind_type xs b t h ys s = w h _ (_, a_declaration 0 t s.1)
 
   -- a type begins a declaration
@@ -319,12 +319,12 @@ further_member h k xs ys at (j, e, (d, r)) s = rw e (_, a_member at r s.1)
 one_member : AreDeclarators 1 (Name 0 [] ∷ [])
 one_member = (_, a_last_member a_name.1)
 
-viable_declarators : (m n : ℕ) (done : List DeclaratorTree) (h : ℕ) (Q : Claims) → OfFronts Q → ((h : ℕ) (xs : List Terminal) → AreDeclarators h xs → Both Q (suc m) h (xs ++ mark punctuators.Semicolon ∷ [])) → Q true [] → (ts : List Terminal)
+viable_declarators : (m n : ℕ) (done : List DeclaratorTree) (h : ℕ) (Q : Claims) → OfFronts Q → ((h : ℕ) (xs : List Terminal) → AreDeclarators h xs → Both Q (suc m) h (xs ++ a_punctuator punctuators.Semicolon ∷ [])) → Q true [] → (ts : List Terminal)
     → Viable Q ts (declarators m n done h ts)
 unfolding declarators
 viable_declarators m zero done h Q c w low ts = Viable-unexpected low
 viable_declarators m (suc n) done h Q c w low ts =
-    Viable-bind _ (sound_declarator m ts) (viable_declarator m Q c (λ h xs s. under c xs (mark punctuators.Semicolon ∷ []) (suc m) (suc h) (w (suc h) xs (_, a_last_member s.1)) m h (λ le. omega arith)) ts)
+    Viable-bind _ (sound_declarator m ts) (viable_declarator m Q c (λ h xs s. under c xs (a_punctuator punctuators.Semicolon ∷ []) (suc m) (suc h) (w (suc h) xs (_, a_last_member s.1)) m h (λ le. omega arith)) ts)
     (λ d front us r. let fits : d.1 ≤ m = r.1 in
     viable_after punctuators.Semicolon (suc m) IsMember AreDeclarators only_member further_member (Name 0 [] ∷ []) one_member (omega arith) (done ++ d.0 ∷ [], max h (d.1 + 1)) (declarators m n (done ++ d.0 ∷ []) (max h (d.1 + 1))) (suc d.1) front (d.1, refl, (d.0, r.0)) (omega arith) Q c w
     (λ P e u l vs. viable_declarators m n (done ++ d.0 ∷ []) (max h (d.1 + 1)) P e u l vs) us)
@@ -336,7 +336,7 @@ abbrev pub AreGroups : ℕ → List Terminal → Type 0
 AreGroups h xs = (gs : List MembersTree) × ReadsAllMembers h xs gs
 
 module _ (m : ℕ) (Q : Claims) (c : OfFronts Q) (w : (h : ℕ) (xs : List Terminal) → AreMembers h xs → Both Q (suc m) h xs) where
-  group_begun : (xs : List Terminal) (b : Base) → ReadsType xs b → (h : ℕ) (ys : List Terminal) → AreDeclarators h ys → Both Q (suc m) h (xs ++ (ys ++ mark punctuators.Semicolon ∷ []))
+  group_begun : (xs : List Terminal) (b : Base) → ReadsType xs b → (h : ℕ) (ys : List Terminal) → AreDeclarators h ys → Both Q (suc m) h (xs ++ (ys ++ a_punctuator punctuators.Semicolon ∷ []))
   group_begun xs b t h ys s = w h _ (_, a_group 0 t s.1)
 
   group_typed : (xs : List Terminal) (b : Base) → ReadsType xs b → Q true xs
@@ -349,10 +349,10 @@ module _ (m : ℕ) (Q : Claims) (c : OfFronts Q) (w : (h : ℕ) (xs : List Termi
       (λ b front us t. Viable-done _ (viable_declarators m (length us) [] 0 (λ b l. Q b (front ++ l)) (behind front c) (group_begun front b t) (here Q front (group_typed front b t)) us))
 
 -- the shortest
-pub a_member_group : AreGroups 1 (Keyword 0 keywords.Int ∷ Name 0 [] ∷ mark punctuators.Semicolon ∷ [])
+pub a_member_group : AreGroups 1 (Keyword 0 keywords.Int ∷ Name 0 [] ∷ a_punctuator punctuators.Semicolon ∷ [])
 a_member_group = (_, a_last_group (a_group {xs = Keyword 0 keywords.Int ∷ []} {ys = Name 0 [] ∷ []} 0 (plain_type (an_int 0)) one_member.1))
 
-pub viable_groups : (m n : ℕ) (done : List MembersTree) (h : ℕ) (Q : Claims) → OfFronts Q → ((h : ℕ) (xs : List Terminal) → AreGroups h xs → Both Q (suc m) h (xs ++ mark punctuators.CloseBrace ∷ [])) → Q true [] → (ts : List Terminal)
+pub viable_groups : (m n : ℕ) (done : List MembersTree) (h : ℕ) (Q : Claims) → OfFronts Q → ((h : ℕ) (xs : List Terminal) → AreGroups h xs → Both Q (suc m) h (xs ++ a_punctuator punctuators.CloseBrace ∷ [])) → Q true [] → (ts : List Terminal)
     → Viable Q ts (groups m n done h ts)
 unfolding groups
 viable_groups m zero done h Q c w low ts = Viable-unexpected low
@@ -362,11 +362,11 @@ viable_groups m (suc n) done h Q c w low ts =
     Viable-if (starts punctuators.CloseBrace us)
     (λ _. Viable-punctuator punctuators.CloseBrace us _ there (λ at vs. Viable-ok))
     (λ _. viable_groups m n (done ++ g.0 ∷ []) (max h g.1) (λ b l. Q b (front ++ l)) (behind front c)
-    (λ k xs s. let both = w (max g.1 k) (front ++ xs) (_, a_further_group r.0 s.1) in let same = append_assoc front xs (mark punctuators.CloseBrace ∷ []) in
+    (λ k xs s. let both = w (max g.1 k) (front ++ xs) (_, a_further_group r.0 s.1) in let same = append_assoc front xs (a_punctuator punctuators.CloseBrace ∷ []) in
     (subst (Q false) same both.0, λ le. subst (Q true) same (both.1 (omega arith)))) there us))
   where
     one_group : (h : ℕ) (xs : List Terminal) → AreMembers h xs → Both Q (suc m) h xs
-    one_group h xs s = under c xs (mark punctuators.CloseBrace ∷ []) (suc m) h (w h xs (_, a_last_group s.1)) (suc m) h (λ le. le)
+    one_group h xs s = under c xs (a_punctuator punctuators.CloseBrace ∷ []) (suc m) h (w h xs (_, a_last_group s.1)) (suc m) h (λ le. le)
 
 -- ---- parameters
 
@@ -383,15 +383,15 @@ further_parameter : (h k : ℕ) (xs ys : List Terminal) (at : ℕ) → IsOnePara
 further_parameter h k xs ys at r s = (_, a_parameter at r.1 s.1)
 
 -- `void *`
-void_pointer : (at : ℕ) → IsOneParameter 1 (Keyword at keywords.Void ∷ mark punctuators.Star ∷ [])
-void_pointer at = (_, an_unnamed_parameter {xs = Keyword at keywords.Void ∷ []} {ys = mark punctuators.Star ∷ []} {zs = []} (plain_type (a_void at)) (a_star 0 no_const no_star) (are_given no_length) (λ n e. absurd cc))
+void_pointer : (at : ℕ) → IsOneParameter 1 (Keyword at keywords.Void ∷ a_punctuator punctuators.Star ∷ [])
+void_pointer at = (_, an_unnamed_parameter {xs = Keyword at keywords.Void ∷ []} {ys = a_punctuator punctuators.Star ∷ []} {zs = []} (plain_type (a_void at)) (a_star 0 no_const no_star) (are_given no_length) (λ n e. absurd cc))
 
 module _ (m : ℕ) (Q : Claims) (c : OfFronts Q) (w : (h : ℕ) (xs : List Terminal) → IsOneParameter h xs → Both Q (suc m) h xs) where
   void_begun : (at : ℕ) → Q true (Keyword at keywords.Void ∷ [])
-  void_begun at = c.front true (Keyword at keywords.Void ∷ []) (mark punctuators.Star ∷ []) ((w 1 _ (void_pointer at)).1 (omega arith))
+  void_begun at = c.front true (Keyword at keywords.Void ∷ []) (a_punctuator punctuators.Star ∷ []) ((w 1 _ (void_pointer at)).1 (omega arith))
 
   any_void : (at : ℕ) → Q false (Keyword at keywords.Void ∷ [])
-  any_void at = c.front false (Keyword at keywords.Void ∷ []) (mark punctuators.Star ∷ []) (w 1 _ (void_pointer at)).0
+  any_void at = c.front false (Keyword at keywords.Void ∷ []) (a_punctuator punctuators.Star ∷ []) (w 1 _ (void_pointer at)).0
 
   module _ (start : ℕ) (b : Base) (n : ℕ) (front ys : List Terminal) (t : ReadsType front b) (s : ReadsStars ys n) where
     abbrev Behind : Claims
@@ -434,7 +434,7 @@ module _ (m : ℕ) (Q : Claims) (c : OfFronts Q) (w : (h : ℕ) (xs : List Termi
       void_alone (t ∷ ts) e = Viable-keyword keywords.Void t (and_parts (is_keyword keywords.Void t) _ e).0 (Viable-token (Viable-unexpected (void_begun (number_of t))))
 
 abbrev AllParameters : ℕ → Claims → Type 0
-AllParameters m Q = (h : ℕ) (xs : List Terminal) → AreParameters h xs → Both Q (suc m) h (xs ++ mark punctuators.CloseParenthesis ∷ [])
+AllParameters m Q = (h : ℕ) (xs : List Terminal) → AreParameters h xs → Both Q (suc m) h (xs ++ a_punctuator punctuators.CloseParenthesis ∷ [])
 
 viable_parameters : (m n : ℕ) (done : List ParameterTree) (h : ℕ) (Q : Claims) → OfFronts Q → AllParameters m Q → Q true [] → (ts : List Terminal) → Viable Q ts (parameters m n done h ts)
 unfolding parameters
@@ -443,7 +443,7 @@ viable_parameters m (suc n) done h Q c w low ts =
     Viable-bind-is _ (sound_parameter m ts) (viable_parameter m Q c one_there ts) (λ p front us read split r. by_case p (λ P e u l vs. viable_parameters m n (done ++ p.0 ∷ []) (max h p.1) P e u l vs) front us read split r)
   where
     one_there : (h : ℕ) (xs : List Terminal) → IsOneParameter h xs → Both Q (suc m) h xs
-    one_there h xs s = under c xs (mark punctuators.CloseParenthesis ∷ []) (suc m) h (w h xs (only_parameter h xs s)) (suc m) h (λ le. le)
+    one_there h xs s = under c xs (a_punctuator punctuators.CloseParenthesis ∷ []) (suc m) h (w h xs (only_parameter h xs s)) (suc m) h (λ le. le)
 
     by_case : (p : ParameterTree × ℕ) → ((P : Claims) → OfFronts P → AllParameters m P → P true [] → (vs : List Terminal) → Viable P vs (parameters m n (done ++ p.0 ∷ []) (max h p.1) vs))
         → (front us : List Terminal) → parameter m ts ≡ Ok (p, us) → ts ≡ front ++ us → IsParameter m p front → Viable (λ b l. Q b (front ++ l)) us (after_parameter (parameters m n) (done ++ p.0 ∷ []) (max h p.1) us)
@@ -460,10 +460,10 @@ viable_parameters m (suc n) done h Q c w low ts =
 abbrev pub IsHead : ℕ → List Terminal → Type 0
 IsHead h xs = (ps : List ParameterTree) × ReadsHead h xs ps
 
-pub viable_head : (m : ℕ) (Q : Claims) → OfFronts Q → ((h : ℕ) (xs : List Terminal) → IsHead h xs → Both Q (suc m) h (xs ++ mark punctuators.CloseParenthesis ∷ [])) → (ts : List Terminal) → Viable Q ts (head m ts)
+pub viable_head : (m : ℕ) (Q : Claims) → OfFronts Q → ((h : ℕ) (xs : List Terminal) → IsHead h xs → Both Q (suc m) h (xs ++ a_punctuator punctuators.CloseParenthesis ∷ [])) → (ts : List Terminal) → Viable Q ts (head m ts)
 unfolding head
 viable_head m Q c w ts =
-    let low : Q true [] = c.front true [] (mark punctuators.CloseParenthesis ∷ []) ((w 0 [] ([], no_parameter)).1 (omega arith)) in
+    let low : Q true [] = c.front true [] (a_punctuator punctuators.CloseParenthesis ∷ []) ((w 0 [] ([], no_parameter)).1 (omega arith)) in
     Viable-if (starts punctuators.CloseParenthesis ts)
     (λ _. Viable-punctuator punctuators.CloseParenthesis ts _ low (λ at us. Viable-ok))
     (λ _. Viable-if (is_void_head ts) (void_head ts) (λ _. viable_parameters m (length ts) [] 0 Q c (λ h xs s. w h xs (_, some_parameters s.1)) low ts))
@@ -472,4 +472,4 @@ viable_head m Q c w ts =
     void_head [] e = absurd cc
     void_head (t ∷ ts) e =
         Viable-keyword keywords.Void t (and_parts (is_keyword keywords.Void t) _ e).0
-        (Viable-token (Viable-punctuator punctuators.CloseParenthesis ts _ (c.front true (Keyword (number_of t) keywords.Void ∷ []) (mark punctuators.CloseParenthesis ∷ []) ((w 0 _ ([], a_void_head (number_of t))).1 (omega arith))) (λ at us. Viable-ok)))
+        (Viable-token (Viable-punctuator punctuators.CloseParenthesis ts _ (c.front true (Keyword (number_of t) keywords.Void ∷ []) (a_punctuator punctuators.CloseParenthesis ∷ []) ((w 0 _ ([], a_void_head (number_of t))).1 (omega arith))) (λ at us. Viable-ok)))

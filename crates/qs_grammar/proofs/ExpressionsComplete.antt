@@ -19,10 +19,10 @@ use Rattle.qs_syntax.specs.Operators.{punctuator_of_unary, punctuator_of_binary,
 use Rattle.qs_syntax.specs.ReadsTypes.{ReadsTypeName}
 use Rattle.qs_syntax.specs.Reads.{Form, Postfix, Unary, Level, Conditional, Assignment, Expression, place, at_first, ReadsTexts, no_text, a_further_text, Reads, ReadsArguments, a_name, an_empty_call, a_call, a_constant, a_text, in_parentheses, an_index, a_member, an_increment_after, a_decrement_after, a_postfix, an_increment, a_decrement, an_operator, a_size_of_type, a_size_of_value, a_cast, an_operand, stronger, an_operation, a_plain_level, a_choice, a_plain_conditional, an_assignment, a_plain_assignment, a_comma, a_last_argument, an_argument}
 use Rattle.qs_grammar.specs.Heads.{is_punctuator, starts, begins_type, operator_at}
-use Rattle.qs_grammar.specs.Stops.{strength_at, Stops}
+use Rattle.qs_grammar.specs.Stops.{precedence_at, Stops}
 use Rattle.qs_grammar.specs.Parse as parse
 use Rattle.qs_grammar.specs.Parse.{Stop, Parse, bind, E, begins_cast, texts_from, part, expression}
-use Rattle.qs_grammar.proofs.HeadsLaws.{punctuator_is, binary_punctuator, binary_strength, assign_punctuator, assign_strength, not_starts, binary_at_strength, assign_at_strength, access_at_strength}
+use Rattle.qs_grammar.proofs.HeadsLaws.{punctuator_is, binary_punctuator, binary_precedence, assign_punctuator, assign_precedence, not_starts, binary_at_precedence, assign_at_precedence, access_at_precedence}
 use Rattle.qs_grammar.proofs.TypesComplete.{finds_type_name, type_name_begins}
 use Rattle.qs_grammar.proofs.ExpressionsBegin.{arguments_no_parenthesis, place_more, no_cast, high, opens_high}
 
@@ -53,7 +53,7 @@ starts_text (Punctuator at m ∷ ts) = false
 abbrev goes_on_primary : List Terminal → Bool
 goes_on_primary ts = starts punctuators.OpenParenthesis ts || starts_text ts
 
-no_text_stops : (rest : List Terminal) → 0 < strength_at rest → starts_text rest ≡ false
+no_text_stops : (rest : List Terminal) → 0 < precedence_at rest → starts_text rest ≡ false
 no_text_stops [] lt = refl
 no_text_stops (Name at x ∷ ts) lt = refl
 no_text_stops (Keyword at k ∷ ts) lt = refl
@@ -61,18 +61,18 @@ no_text_stops (Constant at n unsigned ∷ ts) lt = refl
 no_text_stops (Text at bytes ∷ ts) lt = absurd (omega arith)
 no_text_stops (Punctuator at m ∷ ts) lt = refl
 
-primary_stops : (rest : List Terminal) → 0 < strength_at rest → goes_on_primary rest ≡ false
+primary_stops : (rest : List Terminal) → 0 < precedence_at rest → goes_on_primary rest ≡ false
 primary_stops rest lt = or_from (starts punctuators.OpenParenthesis rest) (starts_text rest) (not_starts punctuators.OpenParenthesis rest lt) (no_text_stops rest lt)
 
 -- what reading comes to with room for `m` high parts, before tokens that do not go on with the tree
 abbrev Claim : Form → ℕ → List Terminal → ExprTree → Type 0
 Claim Postfix h f t = (m : ℕ) → h ≤ suc m → (rest : List Terminal) → goes_on_primary rest ≡ false → Goes rest (λ n. parse.postfix m (part m) (f ++ rest) ≡ parse.suffixes m (part m) n (place f) (t, h) rest)
-Claim Unary h f t = (m : ℕ) → h ≤ suc m → (rest : List Terminal) → 0 < strength_at rest → parse.unary_of_all m (part m) (f ++ rest) ≡ found t h rest
-Claim (Level zero) h f t = (m : ℕ) → h ≤ suc m → (rest : List Terminal) → 0 < strength_at rest → expression m (part m) (Level 0) (f ++ rest) ≡ found t h rest
-Claim (Level (suc j)) h f t = (m : ℕ) → h ≤ suc m → (rest : List Terminal) → suc j ≤ strength_at rest → Goes rest (λ n. expression m (part m) (Level (suc j)) (f ++ rest) ≡ parse.operations m (part m) n j (place f) (t, h) rest)
-Claim Conditional h f t = (m : ℕ) → h ≤ suc m → (rest : List Terminal) → 11 < strength_at rest → expression m (part m) Conditional (f ++ rest) ≡ found t h rest
-Claim Assignment h f t = (m : ℕ) → h ≤ suc m → (rest : List Terminal) → 12 < strength_at rest → expression m (part m) Assignment (f ++ rest) ≡ found t h rest
-Claim Expression h f t = (m : ℕ) → h ≤ suc m → (rest : List Terminal) → 12 < strength_at rest → Goes rest (λ n. expression m (part m) Expression (f ++ rest) ≡ parse.commas m (part m) n (place f) (t, h) rest)
+Claim Unary h f t = (m : ℕ) → h ≤ suc m → (rest : List Terminal) → 0 < precedence_at rest → parse.unary_of_all m (part m) (f ++ rest) ≡ found t h rest
+Claim (Level zero) h f t = (m : ℕ) → h ≤ suc m → (rest : List Terminal) → 0 < precedence_at rest → expression m (part m) (Level 0) (f ++ rest) ≡ found t h rest
+Claim (Level (suc j)) h f t = (m : ℕ) → h ≤ suc m → (rest : List Terminal) → suc j ≤ precedence_at rest → Goes rest (λ n. expression m (part m) (Level (suc j)) (f ++ rest) ≡ parse.operations m (part m) n j (place f) (t, h) rest)
+Claim Conditional h f t = (m : ℕ) → h ≤ suc m → (rest : List Terminal) → 11 < precedence_at rest → expression m (part m) Conditional (f ++ rest) ≡ found t h rest
+Claim Assignment h f t = (m : ℕ) → h ≤ suc m → (rest : List Terminal) → 12 < precedence_at rest → expression m (part m) Assignment (f ++ rest) ≡ found t h rest
+Claim Expression h f t = (m : ℕ) → h ≤ suc m → (rest : List Terminal) → 12 < precedence_at rest → Goes rest (λ n. expression m (part m) Expression (f ++ rest) ≡ parse.commas m (part m) n (place f) (t, h) rest)
 
 bind_assoc : {A B C : Type 0} (r : Result (A × List Terminal) Stop) (f : A → Parse B) (g : B → Parse C) → bind r (λ x ts. bind (f x ts) g) ≡ bind (bind r f) g
 bind_assoc (Ok x) f g = refl
@@ -83,48 +83,48 @@ some_room m lt = ne_eqb m 0 (λ e. omega arith)
 
 -- ---- where loops stop
 
-no_access : (rest : List Terminal) → 0 < strength_at rest → is_some (operator_at access_of rest) ≡ false
+no_access : (rest : List Terminal) → 0 < precedence_at rest → is_some (operator_at access_of rest) ≡ false
 no_access rest lt = go (operator_at access_of rest) refl
   where
     go : (o : Option Access) → operator_at access_of rest ≡ o → is_some o ≡ false
     go None e = refl
-    go (Some a) e = let same : strength_at rest ≡ 0 = access_at_strength rest a e in absurd (omega arith)
+    go (Some a) e = let same : precedence_at rest ≡ 0 = access_at_precedence rest a e in absurd (omega arith)
 
-suffix_stops : (m : ℕ) (rest : List Terminal) → 0 < strength_at rest → parse.begins_suffix m (part m) rest ≡ false
+suffix_stops : (m : ℕ) (rest : List Terminal) → 0 < precedence_at rest → parse.begins_suffix m (part m) rest ≡ false
 suffix_stops m rest lt =
     or_from (starts punctuators.OpenBracket rest) _ (not_starts punctuators.OpenBracket rest lt)
     (or_from _ _ (no_access rest lt) (or_from (starts punctuators.Increment rest) (starts punctuators.Decrement rest) (not_starts punctuators.Increment rest lt) (not_starts punctuators.Decrement rest lt)))
 
-suffixes_stop : (m n start : ℕ) (a : E) (rest : List Terminal) → 0 < strength_at rest → parse.suffixes m (part m) n start a rest ≡ Ok (a, rest)
+suffixes_stop : (m n start : ℕ) (a : E) (rest : List Terminal) → 0 < precedence_at rest → parse.suffixes m (part m) n start a rest ≡ Ok (a, rest)
 unfolding parse.suffixes
 suffixes_stop m zero start a rest lt = refl
 suffixes_stop m (suc n) start a rest lt = rw (suffix_stops m rest lt) refl
 
-no_operator : (m j : ℕ) (rest : List Terminal) → suc j < strength_at rest → parse.of_level m (part m) j (operator_at binary_of rest) ≡ None
+no_operator : (m j : ℕ) (rest : List Terminal) → suc j < precedence_at rest → parse.of_level m (part m) j (operator_at binary_of rest) ≡ None
 no_operator m j rest lt = go (operator_at binary_of rest) refl
   where
     go : (o : Option BinaryOperator) → operator_at binary_of rest ≡ o → parse.of_level m (part m) j o ≡ None
     go None e = refl
-    go (Some operator) e = let same : strength_at rest ≡ precedence operator = binary_at_strength rest operator e in rw (ne_eqb (precedence operator) (j + 1) (λ d. omega arith)) refl
+    go (Some operator) e = let same : precedence_at rest ≡ precedence operator = binary_at_precedence rest operator e in rw (ne_eqb (precedence operator) (j + 1) (λ d. omega arith)) refl
 
-operations_stop : (m n j start : ℕ) (a : E) (rest : List Terminal) → suc j < strength_at rest → parse.operations m (part m) n j start a rest ≡ Ok (a, rest)
+operations_stop : (m n j start : ℕ) (a : E) (rest : List Terminal) → suc j < precedence_at rest → parse.operations m (part m) n j start a rest ≡ Ok (a, rest)
 unfolding parse.operations
 operations_stop m zero j start a rest lt = refl
 operations_stop m (suc n) j start a rest lt = rw (no_operator m j rest lt) refl
 
-climb_stops : (m j start : ℕ) (a : E) (rest : List Terminal) → j < strength_at rest → parse.climb m (part m) j start a rest ≡ Ok (a, rest)
+climb_stops : (m j start : ℕ) (a : E) (rest : List Terminal) → j < precedence_at rest → parse.climb m (part m) j start a rest ≡ Ok (a, rest)
 unfolding parse.climb
 climb_stops m zero start a rest lt = refl
 climb_stops m (suc j) start a rest lt = rw (climb_stops m j start a rest (omega arith)) (operations_stop m (length rest) j start a rest lt)
 
-commas_stop : (m n start : ℕ) (a : E) (rest : List Terminal) → 13 < strength_at rest → parse.commas m (part m) n start a rest ≡ Ok (a, rest)
+commas_stop : (m n start : ℕ) (a : E) (rest : List Terminal) → 13 < precedence_at rest → parse.commas m (part m) n start a rest ≡ Ok (a, rest)
 unfolding parse.commas
 commas_stop m zero start a rest lt = refl
 commas_stop m (suc n) start a rest lt = rw (not_starts punctuators.Comma rest lt) refl
 
 -- ---- from a claim to the part
 
-level_found : (j h : ℕ) (f : List Terminal) (t : ExprTree) → Claim (Level j) h f t → (m : ℕ) → h ≤ suc m → (rest : List Terminal) → j < strength_at rest → expression m (part m) (Level j) (f ++ rest) ≡ found t h rest
+level_found : (j h : ℕ) (f : List Terminal) (t : ExprTree) → Claim (Level j) h f t → (m : ℕ) → h ≤ suc m → (rest : List Terminal) → j < precedence_at rest → expression m (part m) (Level j) (f ++ rest) ≡ found t h rest
 level_found zero h f t c m le rest stop = c m le rest stop
 level_found (suc j) h f t c m le rest stop = let g = c m le rest (omega arith) in g.is ∙ operations_stop m g.turns j (place f) (t, h) rest stop
 
@@ -455,7 +455,7 @@ operation_turn m (suc n) j start a b h k operator at ts rest w le e enough short
 for_operation : {j h k : ℕ} {xs ys : List Terminal} {a b : ExprTree} (operator : BinaryOperator) (at : ℕ) → precedence operator ≡ suc j → Reads (Level (suc j)) h xs a → Reads (Level j) k ys b → Claim (Level (suc j)) h xs a → Claim (Level j) k ys b
     → Claim (Level (suc j)) (suc (max h k)) (xs ++ Punctuator at (punctuator_of_binary operator) ∷ ys) (at_first xs (binary operator a b))
 for_operation {j} {h} {k} {xs} {ys} {a} {b} operator at w r s left right m le rest stop =
-    let strong : strength_at (Punctuator at (punctuator_of_binary operator) ∷ (ys ++ rest)) ≡ precedence operator = binary_strength operator in
+    let ahead : precedence_at (Punctuator at (punctuator_of_binary operator) ∷ (ys ++ rest)) ≡ precedence operator = binary_precedence operator in
     let g = left m (omega arith) (Punctuator at (punctuator_of_binary operator) ∷ (ys ++ rest)) (omega arith) in
     let inner : part m (Level j) (ys ++ rest) ≡ found b k rest = part_finds (Level j) k ys b right (high s) m (omega arith) rest (omega arith) in
     let turn : Goes rest (λ i. parse.operations m (part m) g.turns j (place xs) (a, h) (Punctuator at (punctuator_of_binary operator) ∷ (ys ++ rest)) ≡ parse.operations m (part m) i j (place xs) (at_first xs (binary operator a b), max h k + 1) rest) =
@@ -498,16 +498,16 @@ for_choice {h} {k} {l} {xs} {ys} {zs} {a} {b} {c} q s ra rb rc first second thir
 no_rest : (a b : E) (us rest : List Terminal) → ◌≡◌ {A = Out} (Ok (a, us)) (Ok (b, rest)) → us ≡ rest
 no_rest a b us rest e = let pair : ◌≡◌ {A = E × List Terminal} (a, us) (b, rest) = cc in ap (λ (p : E × List Terminal). p.1) pair
 
-plain_same : (m start : ℕ) (r : Out) (t : ExprTree) (h : ℕ) (rest : List Terminal) → bind r (parse.after_operand m (part m) start) ≡ found t h rest → 12 < strength_at rest → bind r (parse.after_unary m (part m) start) ≡ found t h rest
+plain_same : (m start : ℕ) (r : Out) (t : ExprTree) (h : ℕ) (rest : List Terminal) → bind r (parse.after_operand m (part m) start) ≡ found t h rest → 12 < precedence_at rest → bind r (parse.after_unary m (part m) start) ≡ found t h rest
 plain_same m start (Err e) t h rest eq stop = eq
 plain_same m start (Ok x) t h rest eq stop = go (operator_at assign_of x.1) refl
   where
     go : (o : Option AssignmentOperator) → operator_at assign_of x.1 ≡ o → parse.assignment_of m (part m) start x.0 o x.1 ≡ found t h rest
     go None e = eq
     go (Some operator) e =
-        let strong : strength_at x.1 ≡ 12 = assign_at_strength x.1 operator e in
+        let ahead : precedence_at x.1 ≡ 12 = assign_at_precedence x.1 operator e in
         let stays : parse.after_operand m (part m) start x.0 x.1 ≡ Ok (x.0, x.1) = rw (climb_stops m 10 start x.0 x.1 (omega arith), not_starts punctuators.Question x.1 (omega arith)) refl in
-        let same : strength_at x.1 ≡ strength_at rest = ap strength_at (no_rest x.0 (t, h) x.1 rest (sym stays ∙ eq)) in
+        let same : precedence_at x.1 ≡ precedence_at rest = ap precedence_at (no_rest x.0 (t, h) x.1 rest (sym stays ∙ eq)) in
         absurd (omega arith)
 
 for_plain_conditional : {h : ℕ} {ts : List Terminal} {e : ExprTree} → Reads Conditional h ts e → Claim Conditional h ts e → Claim Assignment h ts e
@@ -523,7 +523,7 @@ for_assignment : {h k : ℕ} {xs ys : List Terminal} {a b : ExprTree} (operator 
 unfolding expression
 for_assignment {h} {k} {xs} {ys} {a} {b} operator at r s left right m le rest stop =
     let low : h ≤ m = omega arith in
-    let strong : strength_at (Punctuator at (punctuator_of_assign operator) ∷ (ys ++ rest)) ≡ 12 = assign_strength operator in
+    let ahead : precedence_at (Punctuator at (punctuator_of_assign operator) ∷ (ys ++ rest)) ≡ 12 = assign_precedence operator in
     let target : parse.unary_of_all m (part m) (xs ++ Punctuator at (punctuator_of_assign operator) ∷ (ys ++ rest)) ≡ found a h (Punctuator at (punctuator_of_assign operator) ∷ (ys ++ rest)) = left m (omega arith) (Punctuator at (punctuator_of_assign operator) ∷ (ys ++ rest)) (omega arith) in
     let inner : part m Assignment (ys ++ rest) ≡ found b k rest = part_finds Assignment k ys b right (high s) m (omega arith) rest stop in
     ap (parse.assignment m (part m)) (append_assoc xs (Punctuator at (punctuator_of_assign operator) ∷ ys) rest)

@@ -24,7 +24,7 @@ use Rattle.qs_grammar.proofs.Sound.{Sound}
 use Rattle.qs_grammar.proofs.TypesSound.{Taken, taken_consts, sound_type_name}
 use Rattle.qs_grammar.proofs.ExpressionsSound.{IsRead, Begun, starting, sound_primary, sound_suffix, sound_unary, sound_cast_or_unary, sound_climb, sound_assignment, of_level_is, sound_part}
 use Rattle.qs_grammar.proofs.ExpressionsBegin.{high}
-use Rattle.qs_grammar.proofs.Viable.{Claims, OfFronts, behind_token, behind, Both, under, Viable, Viable-ok, Viable-unexpected, Viable-deep, Viable-after, Viable-token, Viable-if, Viable-joined, Viable-bind, Viable-bind-is, Viable-then, Viable-done, here, Viable-mark, Viable-keyword, Viable-punctuator, Viable-name, Viable-above, Viable-some}
+use Rattle.qs_grammar.proofs.Viable.{Claims, OfFronts, behind_token, behind, Both, under, Viable, Viable-ok, Viable-unexpected, Viable-deep, Viable-after, Viable-token, Viable-if, Viable-joined, Viable-bind, Viable-bind-is, Viable-then, Viable-done, here, Viable-is_punctuator, Viable-keyword, Viable-punctuator, Viable-name, Viable-above, Viable-some}
 
 -- ---- types
 
@@ -156,8 +156,8 @@ BegunBy form t = (xs : List Terminal) × IsSome form (t ∷ xs)
 begun_same : {form : Form} (t u : Terminal) → t ≡ u → BegunBy form u → BegunBy form t
 begun_same {form} t u e b = subst (BegunBy form) (sym e) b
 
-unary_by_mark : (at : ℕ) (k : punctuator.Punctuator) (ts : List Terminal) → begins_one (Punctuator at k ∷ ts) ≡ true → BegunBy Unary (Punctuator at k)
-unary_by_mark at k ts e =
+unary_by_punctuator : (at : ℕ) (k : punctuator.Punctuator) (ts : List Terminal) → begins_one (Punctuator at k ∷ ts) ≡ true → BegunBy Unary (Punctuator at k)
+unary_by_punctuator at k ts e =
     by_case (unary_of k) (is_punctuator punctuators.OpenParenthesis (Punctuator at k)) (is_punctuator punctuators.Increment (Punctuator at k)) (is_punctuator punctuators.Decrement (Punctuator at k))
     refl (λ d. punctuator_is punctuators.OpenParenthesis (Punctuator at k) d) (λ d. punctuator_is punctuators.Increment (Punctuator at k) d) (λ d. punctuator_is punctuators.Decrement (Punctuator at k) d) e
   where
@@ -175,7 +175,7 @@ unary_by (Name at x) ts e = ([], unary_some (1, _, a_name at x))
 unary_by (Keyword at k) ts e = let one = a_number Unary in begun_same (Keyword at k) _ (keyword_is keywords.Sizeof (Keyword at k) e) (number, (suc one.0, _, a_size_of_value at one.2))
 unary_by (Constant at n unsigned) ts e = ([], unary_some (1, _, a_constant at n unsigned))
 unary_by (Text at bytes) ts e = ([], unary_some (1, _, a_text at bytes no_text))
-unary_by (Punctuator at k) ts e = unary_by_mark at k ts e
+unary_by (Punctuator at k) ts e = unary_by_punctuator at k ts e
 
 -- what begins an expression begins each part
 pub one_begun : (form : Form) → is_part form ≡ true → (t : Terminal) (ts : List Terminal) → begins_one (t ∷ ts) ≡ true → BegunBy form t
@@ -247,7 +247,7 @@ module _ (m : ℕ) (p : Form → Parse E) (sound : (form : Form) (ts : List Term
     viable_primary (Text at bytes ∷ ts) = Viable-ok
     viable_primary (Punctuator at k ∷ ts) =
         Viable-if (is_punctuator punctuators.OpenParenthesis (Punctuator at k))
-        (λ e. Viable-mark punctuators.OpenParenthesis (Punctuator at k) e
+        (λ e. Viable-is_punctuator punctuators.OpenParenthesis (Punctuator at k) e
         (Viable-some m nothing_yet (c.front false (Punctuator at punctuators.OpenParenthesis ∷ []) number (inner_begun at 1 number (one Expression refl)).0) (λ some. Viable-token (viable_parentheses at ts some)))) (λ _. Viable-unexpected nothing_yet)
 
     -- ---- suffixes
@@ -280,7 +280,7 @@ module _ (m : ℕ) (p : Form → Parse E) (sound : (form : Form) (ts : List Term
 
       viable_suffix : (start : ℕ) (a : E) (t : Terminal) (ts : List Terminal) → starts_suffix (t ∷ ts) ≡ true → g ≤ m → Viable (λ b l. Q b (done ++ l)) (t ∷ ts) (parse.suffix m p start a (t ∷ ts))
       viable_suffix start a t ts e fits =
-          Viable-if (is_punctuator punctuators.OpenBracket t) (λ b. Viable-mark punctuators.OpenBracket t b (Viable-token (viable_index start (number_of t) a fits ts)))
+          Viable-if (is_punctuator punctuators.OpenBracket t) (λ b. Viable-is_punctuator punctuators.OpenBracket t b (Viable-token (viable_index start (number_of t) a fits ts)))
           (λ no_bracket. Viable-if (is_punctuator punctuators.Increment t) (λ _. Viable-ok)
           (λ no_increment. Viable-if (is_punctuator punctuators.Decrement t) (λ _. Viable-ok)
           (λ no_decrement. Viable-token (viable_access start a t ts (operator_at access_of (t ∷ ts)) refl (must_be _ _ _ _ no_bracket no_increment no_decrement e) fits))))
@@ -331,8 +331,8 @@ module _ (m : ℕ) (p : Form → Parse E) (sound : (form : Form) (ts : List Term
     as_postfix h xs s = w h xs (s.0, a_postfix s.1)
 
     -- a token, and a part behind it
-    viable_marked : (t : Terminal) (form : Form) → is_part form ≡ true → ((h : ℕ) (xs : List Terminal) → Has form h xs → Has Unary (suc h) (t ∷ xs)) → (f : E → E) (ts : List Terminal) → Viable Q (t ∷ ts) (cond (m == 0) (Err (Deep (suc (length ts)))) (bind (p form ts) (λ e us. Ok (f e, us))))
-    viable_marked t form part built f ts =
+    viable_token_and_part : (t : Terminal) (form : Form) → is_part form ≡ true → ((h : ℕ) (xs : List Terminal) → Has form h xs → Has Unary (suc h) (t ∷ xs)) → (f : E → E) (ts : List Terminal) → Viable Q (t ∷ ts) (cond (m == 0) (Err (Deep (suc (length ts)))) (bind (p form ts) (λ e us. Ok (f e, us))))
+    viable_token_and_part t form part built f ts =
         let begun : (h : ℕ) (xs : List Terminal) → Has form h xs → Both Q m h (t ∷ xs) = λ h xs s. (let both = w (suc h) (t ∷ xs) (built h xs s) in (both.0, λ le. both.1 (omega arith))) in
         Viable-some m unary_yet (c.front false (t ∷ []) number (begun 1 number (one form part)).0)
         (λ some. Viable-token (Viable-done _ (viable form part _ (behind_token t c) begun (c.front true (t ∷ []) number ((begun 1 number (one form part)).1 some)) ts)))
@@ -341,7 +341,7 @@ module _ (m : ℕ) (p : Form → Parse E) (sound : (form : Form) (ts : List Term
     viable_operator_at at k ts None e = viable_postfix Q c as_postfix (Punctuator at k ∷ ts)
     viable_operator_at at k ts (Some operator) e =
         subst (λ n. Viable Q (Punctuator at n ∷ ts) (cond (m == 0) (Err (Deep (suc (length ts)))) (parse.operator_of m p at operator ts))) (sym (unary_is k operator e))
-        (viable_marked (Punctuator at (punctuator_of_unary operator)) (Level 0) refl (λ h xs s. (_, an_operator operator at s.1)) _ ts)
+        (viable_token_and_part (Punctuator at (punctuator_of_unary operator)) (Level 0) refl (λ h xs s. (_, an_operator operator at s.1)) _ ts)
 
     module _ (at : ℕ) where
       abbrev Sized : Claims
@@ -385,8 +385,8 @@ module _ (m : ℕ) (p : Form → Parse E) (sound : (form : Form) (ts : List Term
     viable_unary (Constant at n unsigned ∷ ts) = viable_postfix Q c as_postfix (Constant at n unsigned ∷ ts)
     viable_unary (Text at bytes ∷ ts) = viable_postfix Q c as_postfix (Text at bytes ∷ ts)
     viable_unary (Punctuator at k ∷ ts) =
-        Viable-if (is_punctuator punctuators.Increment (Punctuator at k)) (λ e. Viable-mark punctuators.Increment (Punctuator at k) e (viable_marked (Punctuator at punctuators.Increment) Unary refl (λ h xs s. (_, an_increment at s.1)) _ ts))
-        (λ _. Viable-if (is_punctuator punctuators.Decrement (Punctuator at k)) (λ e. Viable-mark punctuators.Decrement (Punctuator at k) e (viable_marked (Punctuator at punctuators.Decrement) Unary refl (λ h xs s. (_, a_decrement at s.1)) _ ts))
+        Viable-if (is_punctuator punctuators.Increment (Punctuator at k)) (λ e. Viable-is_punctuator punctuators.Increment (Punctuator at k) e (viable_token_and_part (Punctuator at punctuators.Increment) Unary refl (λ h xs s. (_, an_increment at s.1)) _ ts))
+        (λ _. Viable-if (is_punctuator punctuators.Decrement (Punctuator at k)) (λ e. Viable-is_punctuator punctuators.Decrement (Punctuator at k) e (viable_token_and_part (Punctuator at punctuators.Decrement) Unary refl (λ h xs s. (_, a_decrement at s.1)) _ ts))
         (λ _. viable_operator_at at k ts (unary_of k) refl))
 
   -- ---- casts

@@ -17,7 +17,7 @@ use Rattle.qs_base.proofs.KeywordLaws.{same_keyword_exact}
 use Rattle.qs_syntax.proofs.OperatorLaws.{assign_of-punctuator, binary_of-punctuator, punctuator-access_of, punctuator-assign_of, punctuator-binary_of, punctuator-unary_of, unary_of-punctuator}
 use Rattle.qs_syntax.proofs.PunctuatorLaws.{same_punctuator_exact}
 use Rattle.qs_grammar.specs.Heads.{is_punctuator, is_keyword, starts, starts_with, operator_at}
-use Rattle.qs_grammar.specs.Stops.{punctuator_strength, strength, strength_at}
+use Rattle.qs_grammar.specs.Stops.{punctuator_precedence, terminal_precedence, precedence_at}
 
 -- ---- tests of a token
 
@@ -46,12 +46,12 @@ starts_with_is k (t ∷ ts) e = (number_of t, ts, ap (λ u. u ∷ ts) (keyword_i
 
 -- ---- a punctuator that binds otherwise than the first token is not the first token
 
-pub starts_strength : (m : punctuator.Punctuator) (ts : List Terminal) → starts m ts ≡ true → strength_at ts ≡ punctuator_strength m
-starts_strength m [] e = absurd cc
-starts_strength m (t ∷ ts) e = ap strength (punctuator_is m t e)
+pub starts_precedence : (m : punctuator.Punctuator) (ts : List Terminal) → starts m ts ≡ true → precedence_at ts ≡ punctuator_precedence m
+starts_precedence m [] e = absurd cc
+starts_precedence m (t ∷ ts) e = ap terminal_precedence (punctuator_is m t e)
 
-pub not_starts : (m : punctuator.Punctuator) (ts : List Terminal) → punctuator_strength m < strength_at ts → starts m ts ≡ false
-not_starts m ts lt = false_from_ne_true (starts m ts) (λ e. let same : strength_at ts ≡ punctuator_strength m = starts_strength m ts e in absurd (omega arith))
+pub not_starts : (m : punctuator.Punctuator) (ts : List Terminal) → punctuator_precedence m < precedence_at ts → starts m ts ≡ false
+not_starts m ts lt = false_from_ne_true (starts m ts) (λ e. let same : precedence_at ts ≡ punctuator_precedence m = starts_precedence m ts e in absurd (omega arith))
 
 -- ---- unary operators
 
@@ -69,25 +69,25 @@ binary_punctuator = binary_of-punctuator
 pub binary_is : (m : punctuator.Punctuator) (s : BinaryOperator) → binary_of m ≡ Some s → m ≡ punctuator_of_binary s
 binary_is m s e = sym (punctuator-binary_of m s e)
 
-pub binary_strength : (s : BinaryOperator) → punctuator_strength (punctuator_of_binary s) ≡ precedence s
-binary_strength binaries.Multiply = refl
-binary_strength binaries.Divide = refl
-binary_strength binaries.Remainder = refl
-binary_strength binaries.Add = refl
-binary_strength binaries.Subtract = refl
-binary_strength binaries.ShiftLeft = refl
-binary_strength binaries.ShiftRight = refl
-binary_strength binaries.Less = refl
-binary_strength binaries.LessEqual = refl
-binary_strength binaries.Greater = refl
-binary_strength binaries.GreaterEqual = refl
-binary_strength binaries.Equal = refl
-binary_strength binaries.NotEqual = refl
-binary_strength binaries.BitAnd = refl
-binary_strength binaries.BitXor = refl
-binary_strength binaries.BitOr = refl
-binary_strength binaries.And = refl
-binary_strength binaries.Or = refl
+pub binary_precedence : (s : BinaryOperator) → punctuator_precedence (punctuator_of_binary s) ≡ precedence s
+binary_precedence binaries.Multiply = refl
+binary_precedence binaries.Divide = refl
+binary_precedence binaries.Remainder = refl
+binary_precedence binaries.Add = refl
+binary_precedence binaries.Subtract = refl
+binary_precedence binaries.ShiftLeft = refl
+binary_precedence binaries.ShiftRight = refl
+binary_precedence binaries.Less = refl
+binary_precedence binaries.LessEqual = refl
+binary_precedence binaries.Greater = refl
+binary_precedence binaries.GreaterEqual = refl
+binary_precedence binaries.Equal = refl
+binary_precedence binaries.NotEqual = refl
+binary_precedence binaries.BitAnd = refl
+binary_precedence binaries.BitXor = refl
+binary_precedence binaries.BitOr = refl
+binary_precedence binaries.And = refl
+binary_precedence binaries.Or = refl
 
 -- ---- assign operators
 
@@ -97,27 +97,27 @@ assign_punctuator = assign_of-punctuator
 pub assign_is : (m : punctuator.Punctuator) (s : AssignmentOperator) → assign_of m ≡ Some s → m ≡ punctuator_of_assign s
 assign_is m s e = sym (punctuator-assign_of m s e)
 
-pub assign_strength : (s : AssignmentOperator) → punctuator_strength (punctuator_of_assign s) ≡ 12
-assign_strength assigns.Plain = refl
-assign_strength assigns.Multiply = refl
-assign_strength assigns.Divide = refl
-assign_strength assigns.Remainder = refl
-assign_strength assigns.Add = refl
-assign_strength assigns.Subtract = refl
-assign_strength assigns.ShiftLeft = refl
-assign_strength assigns.ShiftRight = refl
-assign_strength assigns.BitAnd = refl
-assign_strength assigns.BitXor = refl
-assign_strength assigns.BitOr = refl
+pub assign_precedence : (s : AssignmentOperator) → punctuator_precedence (punctuator_of_assign s) ≡ 12
+assign_precedence assigns.Plain = refl
+assign_precedence assigns.Multiply = refl
+assign_precedence assigns.Divide = refl
+assign_precedence assigns.Remainder = refl
+assign_precedence assigns.Add = refl
+assign_precedence assigns.Subtract = refl
+assign_precedence assigns.ShiftLeft = refl
+assign_precedence assigns.ShiftRight = refl
+assign_precedence assigns.BitAnd = refl
+assign_precedence assigns.BitXor = refl
+assign_precedence assigns.BitOr = refl
 
 -- ---- accesses
 
 pub access_is : (m : punctuator.Punctuator) (s : Access) → access_of m ≡ Some s → m ≡ punctuator_of_access s
 access_is m s e = sym (punctuator-access_of m s e)
 
-pub access_strength : (s : Access) → punctuator_strength (punctuator_of_access s) ≡ 0
-access_strength accesses.Dot = refl
-access_strength accesses.Arrow = refl
+pub access_precedence : (s : Access) → punctuator_precedence (punctuator_of_access s) ≡ 0
+access_precedence accesses.Dot = refl
+access_precedence accesses.Arrow = refl
 
 -- ---- the operator that stands first
 
@@ -130,11 +130,11 @@ operator_is of punctuator_of back (Constant at n unsigned ∷ ts) s e = absurd c
 operator_is of punctuator_of back (Text at bytes ∷ ts) s e = absurd cc
 operator_is of punctuator_of back (Punctuator at m ∷ ts) s e = (at, ts, ap (λ k. Punctuator at k ∷ ts) (back m s e))
 
-pub binary_at_strength : (ts : List Terminal) (s : BinaryOperator) → operator_at binary_of ts ≡ Some s → strength_at ts ≡ precedence s
-binary_at_strength ts s e = let is = operator_is binary_of punctuator_of_binary binary_is ts s e in ap strength_at is.2 ∙ binary_strength s
+pub binary_at_precedence : (ts : List Terminal) (s : BinaryOperator) → operator_at binary_of ts ≡ Some s → precedence_at ts ≡ precedence s
+binary_at_precedence ts s e = let is = operator_is binary_of punctuator_of_binary binary_is ts s e in ap precedence_at is.2 ∙ binary_precedence s
 
-pub assign_at_strength : (ts : List Terminal) (s : AssignmentOperator) → operator_at assign_of ts ≡ Some s → strength_at ts ≡ 12
-assign_at_strength ts s e = let is = operator_is assign_of punctuator_of_assign assign_is ts s e in ap strength_at is.2 ∙ assign_strength s
+pub assign_at_precedence : (ts : List Terminal) (s : AssignmentOperator) → operator_at assign_of ts ≡ Some s → precedence_at ts ≡ 12
+assign_at_precedence ts s e = let is = operator_is assign_of punctuator_of_assign assign_is ts s e in ap precedence_at is.2 ∙ assign_precedence s
 
-pub access_at_strength : (ts : List Terminal) (s : Access) → operator_at access_of ts ≡ Some s → strength_at ts ≡ 0
-access_at_strength ts s e = let is = operator_is access_of punctuator_of_access access_is ts s e in ap strength_at is.2 ∙ access_strength s
+pub access_at_precedence : (ts : List Terminal) (s : Access) → operator_at access_of ts ≡ Some s → precedence_at ts ≡ 0
+access_at_precedence ts s e = let is = operator_is access_of punctuator_of_access access_is ts s e in ap precedence_at is.2 ∙ access_precedence s

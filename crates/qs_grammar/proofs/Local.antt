@@ -305,9 +305,9 @@ after_same closing separating all p q ts same = cond_same (starts closing ts) re
 -- ---- tests of two tokens
 
 -- a punctuator, and a test of what stands behind it
-pub Looks-mark : {A : Type 0} (k : punctuator.Punctuator) (b rest : List Terminal → Bool) (p q : Parse A) → ((t : Terminal) (ts : List Terminal) → b (t ∷ ts) ≡ (is_punctuator k t && rest ts)) → ((u : Terminal) (ts us : List Terminal) → rest (u ∷ ts) ≡ rest (u ∷ us))
+pub Looks-punctuator : {A : Type 0} (k : punctuator.Punctuator) (b rest : List Terminal → Bool) (p q : Parse A) → ((t : Terminal) (ts : List Terminal) → b (t ∷ ts) ≡ (is_punctuator k t && rest ts)) → ((u : Terminal) (ts us : List Terminal) → rest (u ∷ ts) ≡ rest (u ∷ us))
     → ((at : ℕ) (us : List Terminal) → left (p (Punctuator at k ∷ us)) ≤ length us) → ((at : ℕ) (us : List Terminal) → left (q (Punctuator at k ∷ us)) ≤ length us) → (t : Terminal) → Looks b p q t
-Looks-mark k b rest p q is same f g t = by_case (is_punctuator k t) refl
+Looks-punctuator k b rest p q is same f g t = by_case (is_punctuator k t) refl
   where
     by_case : (d : Bool) → is_punctuator k t ≡ d → Looks b p q t
     by_case true e = inr (record {

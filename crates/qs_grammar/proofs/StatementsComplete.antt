@@ -14,7 +14,7 @@ use Rattle.qs_syntax.specs.ReadsStatements.{is_open, ReadsOptional, nothing_ther
 use Rattle.qs_grammar.specs.Heads.{starts, starts_with, begins_type}
 use Rattle.qs_grammar.specs.Parse.{Stop, Parse, bind, expect, E, begins_one, part}
 use Rattle.qs_grammar.specs.ParseStatements.{S, optional, condition, start_of, item, items, after_then, statement_at, statement}
-use Rattle.qs_grammar.specs.Stops.{strength_at}
+use Rattle.qs_grammar.specs.Stops.{precedence_at}
 use Rattle.qs_grammar.proofs.HeadsLaws.{starts_with_is}
 use Rattle.qs_grammar.proofs.ExpressionsBegin.{begins, begins_no_type, place_more, high}
 use Rattle.qs_grammar.proofs.ExpressionsComplete.{finds}
@@ -22,7 +22,7 @@ use Rattle.qs_grammar.proofs.DeclarationsComplete.{Items, nothing_more, one_more
 use Rattle.qs_grammar.proofs.StatementsSound.{NoElse}
 
 -- an expression before a punctuator
-found : {h : ℕ} {ts : List Terminal} {e : ExprTree} → Reads Expression h ts e → (m : ℕ) → h ≤ m → (at : ℕ) (k : punctuator.Punctuator) (rest : List Terminal) → 13 < strength_at (Punctuator at k ∷ rest) → part m Expression (ts ++ Punctuator at k ∷ rest) ≡ Ok ((e, h), Punctuator at k ∷ rest)
+found : {h : ℕ} {ts : List Terminal} {e : ExprTree} → Reads Expression h ts e → (m : ℕ) → h ≤ m → (at : ℕ) (k : punctuator.Punctuator) (rest : List Terminal) → 13 < precedence_at (Punctuator at k ∷ rest) → part m Expression (ts ++ Punctuator at k ∷ rest) ≡ Ok ((e, h), Punctuator at k ∷ rest)
 found {h} {ts} {e} r m le at k rest stop = finds m Expression h ts e r le (Punctuator at k ∷ rest) stop
 
 -- a keyword that begins no expression does not stand where one begins

@@ -1,23 +1,23 @@
--- How weakly punctuators bind: the strongest first.
+-- The precedence of punctuators: those that bind most strongly first.
 use Rattle.std.proofs.Common.{◌≡◌, [], ◌∷◌, refl}
 use Rattle.std.specs.Prelude.{map}
 use Rattle.qs_syntax.specs.declared.punctuator.Punctuator.TheVariants as punctuators
-use Rattle.qs_grammar.specs.Stops.{punctuator_strength, strength_at}
+use Rattle.qs_grammar.specs.Stops.{punctuator_precedence, precedence_at}
 
-operators : map punctuator_strength (
+operators : map punctuator_precedence (
     punctuators.Star ∷ punctuators.Minus ∷ punctuators.ShiftLeft ∷ punctuators.Less ∷ punctuators.NotEqual
     ∷ punctuators.Ampersand ∷ punctuators.Caret ∷ punctuators.Bar ∷ punctuators.AndAnd ∷ punctuators.OrOr ∷ [])
     ≡ 1 ∷ 2 ∷ 3 ∷ 4 ∷ 5 ∷ 6 ∷ 7 ∷ 8 ∷ 9 ∷ 10 ∷ []
 operators = refl
 
-behind_them : map punctuator_strength (punctuators.Question ∷ punctuators.Assign ∷ punctuators.AddAssign ∷ punctuators.Comma ∷ []) ≡ 11 ∷ 12 ∷ 12 ∷ 13 ∷ []
+behind_them : map punctuator_precedence (punctuators.Question ∷ punctuators.Assign ∷ punctuators.AddAssign ∷ punctuators.Comma ∷ []) ≡ 11 ∷ 12 ∷ 12 ∷ 13 ∷ []
 behind_them = refl
 
-goes_on_with_an_operand : map punctuator_strength (punctuators.OpenBracket ∷ punctuators.OpenParenthesis ∷ punctuators.Dot ∷ punctuators.Increment ∷ []) ≡ 0 ∷ 0 ∷ 0 ∷ 0 ∷ []
+goes_on_with_an_operand : map punctuator_precedence (punctuators.OpenBracket ∷ punctuators.OpenParenthesis ∷ punctuators.Dot ∷ punctuators.Increment ∷ []) ≡ 0 ∷ 0 ∷ 0 ∷ 0 ∷ []
 goes_on_with_an_operand = refl
 
-ends : map punctuator_strength (punctuators.Semicolon ∷ punctuators.CloseParenthesis ∷ punctuators.Tilde ∷ []) ≡ 20 ∷ 20 ∷ 20 ∷ []
+ends : map punctuator_precedence (punctuators.Semicolon ∷ punctuators.CloseParenthesis ∷ punctuators.Tilde ∷ []) ≡ 20 ∷ 20 ∷ 20 ∷ []
 ends = refl
 
-at_the_end : strength_at [] ≡ 20
+at_the_end : precedence_at [] ≡ 20
 at_the_end = refl

@@ -20,7 +20,7 @@ use Rattle.qs_grammar.proofs.DeclarationsMembers.{sound_groups}
 use Rattle.qs_grammar.proofs.DeclarationsParameters.{sound_head}
 use Rattle.qs_grammar.proofs.StatementsSound.{takes_statement, sound_statement}
 use Rattle.qs_grammar.proofs.UnitsSound.{sound_outer_type, sound_external}
-use Rattle.qs_grammar.proofs.DeclarationsViable.{mark, viable_outer_type, AreVariables, one_variable, viable_declared, AreGroups, a_member_group, viable_groups, IsHead, viable_head}
+use Rattle.qs_grammar.proofs.DeclarationsViable.{a_punctuator, viable_outer_type, AreVariables, one_variable, viable_declared, AreGroups, a_member_group, viable_groups, IsHead, viable_head}
 use Rattle.qs_grammar.proofs.StatementsViable.{AreStmts, viable_items, viable_statement}
 use Rattle.qs_grammar.proofs.Viable.{Claims, OfFronts, behind_token, behind, Both, under, Viable, Viable-ok, Viable-unexpected, Viable-after, Viable-token, Viable-if, Viable-bind, Viable-done, here, Viable-keyword, Viable-punctuator, Viable-name}
 
@@ -28,7 +28,7 @@ abbrev pub IsOne : ℕ → List Terminal → Type 0
 IsOne h xs = (d : DeclTree) × ReadsExternal h xs d
 
 -- `int x;`
-a_variable : IsOne 1 (Keyword 0 keywords.Int ∷ Name 0 [] ∷ mark punctuators.Semicolon ∷ [])
+a_variable : IsOne 1 (Keyword 0 keywords.Int ∷ Name 0 [] ∷ a_punctuator punctuators.Semicolon ∷ [])
 a_variable = (_, some_variables (an_outer_declaration {xs = Keyword 0 keywords.Int ∷ []} {ys = Name 0 [] ∷ []} 0 (an_outer_type {xs = []} {ys = Keyword 0 keywords.Int ∷ []} {zs = []} no_prefix (an_int 0) no_const) one_variable.1))
 
 module _ (k : ℕ) (Q : Claims) (c : OfFronts Q) (w : (h : ℕ) (xs : List Terminal) → IsOne h xs → Both Q (suc (suc k)) h xs) where
@@ -46,8 +46,8 @@ module _ (k : ℕ) (Q : Claims) (c : OfFronts Q) (w : (h : ℕ) (xs : List Termi
 
     closed_groups : (o h : ℕ) (xs : List Terminal) → AreGroups h xs → (e : ℕ) → Both Tagged (suc k) h (Punctuator o punctuators.OpenBrace ∷ (xs ++ Punctuator e punctuators.CloseBrace ∷ []))
     closed_groups o h xs s e =
-        under tagged (Punctuator o punctuators.OpenBrace ∷ (xs ++ Punctuator e punctuators.CloseBrace ∷ [])) (mark punctuators.Semicolon ∷ []) (suc (suc k)) (suc h)
-        (subst (λ l. Both Tagged (suc (suc k)) (suc h) (Punctuator o punctuators.OpenBrace ∷ l)) (sym (append_assoc xs (Punctuator e punctuators.CloseBrace ∷ []) (mark punctuators.Semicolon ∷ []))) (w (suc h) _ (_, a_struct_with_members at n o e 0 x s.1))) (suc k) h (λ le. omega arith)
+        under tagged (Punctuator o punctuators.OpenBrace ∷ (xs ++ Punctuator e punctuators.CloseBrace ∷ [])) (a_punctuator punctuators.Semicolon ∷ []) (suc (suc k)) (suc h)
+        (subst (λ l. Both Tagged (suc (suc k)) (suc h) (Punctuator o punctuators.OpenBrace ∷ l)) (sym (append_assoc xs (Punctuator e punctuators.CloseBrace ∷ []) (a_punctuator punctuators.Semicolon ∷ []))) (w (suc h) _ (_, a_struct_with_members at n o e 0 x s.1))) (suc k) h (λ le. omega arith)
 
     members_due : (o : ℕ) → Tagged true (Punctuator o punctuators.OpenBrace ∷ [])
     members_due o = tagged.front true (Punctuator o punctuators.OpenBrace ∷ []) _ ((closed_groups o 1 _ a_member_group 0).1 (omega arith))
@@ -59,7 +59,7 @@ module _ (k : ℕ) (Q : Claims) (c : OfFronts Q) (w : (h : ℕ) (xs : List Termi
   struct_tag at = c.front true (Keyword at keywords.Struct ∷ []) _ ((w 1 _ (_, a_forward at 0 0 [])).1 (omega arith))
 
   struct_named : (at n : ℕ) (x : List ℕ) → Q true (Keyword at keywords.Struct ∷ Name n x ∷ [])
-  struct_named at n x = c.front true (Keyword at keywords.Struct ∷ Name n x ∷ []) (mark punctuators.Semicolon ∷ []) ((w 1 _ (_, a_forward at n 0 x)).1 (omega arith))
+  struct_named at n x = c.front true (Keyword at keywords.Struct ∷ Name n x ∷ []) (a_punctuator punctuators.Semicolon ∷ []) ((w 1 _ (_, a_forward at n 0 x)).1 (omega arith))
 
   viable_struct : (at start : ℕ) (ts : List Terminal) → Viable (λ b l. Q b (Keyword at keywords.Struct ∷ l)) ts (struct_of k start ts)
   viable_struct at start ts =
@@ -74,7 +74,7 @@ module _ (k : ℕ) (Q : Claims) (c : OfFronts Q) (w : (h : ℕ) (xs : List Termi
   -- ---- functions and variables
 
   module _ (b : Base) (front : List Terminal) (t : ReadsOuterType front b) where
-    declared_one : (h : ℕ) (ys : List Terminal) → AreVariables h ys → Both Q (suc (suc k)) h (front ++ (ys ++ mark punctuators.Semicolon ∷ []))
+    declared_one : (h : ℕ) (ys : List Terminal) → AreVariables h ys → Both Q (suc (suc k)) h (front ++ (ys ++ a_punctuator punctuators.Semicolon ∷ []))
     declared_one h ys s = w h _ (_, some_variables (an_outer_declaration 0 t s.1))
 
     module _ (m : ℕ) (ys : List Terminal) (r : ReadsStars ys m) where
@@ -86,8 +86,8 @@ module _ (k : ℕ) (Q : Claims) (c : OfFronts Q) (w : (h : ℕ) (xs : List Termi
 
       headed : (n o e : ℕ) (x : List ℕ) (h : ℕ) (zs : List Terminal) → IsHead h zs → Both Starred (suc k) h (Name n x ∷ Punctuator o punctuators.OpenParenthesis ∷ (zs ++ Punctuator e punctuators.CloseParenthesis ∷ []))
       headed n o e x h zs s =
-          under starred (Name n x ∷ Punctuator o punctuators.OpenParenthesis ∷ (zs ++ Punctuator e punctuators.CloseParenthesis ∷ [])) (mark punctuators.Semicolon ∷ []) (suc (suc k)) (suc h)
-          (subst (λ l. Both Starred (suc (suc k)) (suc h) (Name n x ∷ Punctuator o punctuators.OpenParenthesis ∷ l)) (sym (append_assoc zs (Punctuator e punctuators.CloseParenthesis ∷ []) (mark punctuators.Semicolon ∷ []))) (w (suc h) _ (_, a_header n o e 0 x t r s.1)))
+          under starred (Name n x ∷ Punctuator o punctuators.OpenParenthesis ∷ (zs ++ Punctuator e punctuators.CloseParenthesis ∷ [])) (a_punctuator punctuators.Semicolon ∷ []) (suc (suc k)) (suc h)
+          (subst (λ l. Both Starred (suc (suc k)) (suc h) (Name n x ∷ Punctuator o punctuators.OpenParenthesis ∷ l)) (sym (append_assoc zs (Punctuator e punctuators.CloseParenthesis ∷ []) (a_punctuator punctuators.Semicolon ∷ []))) (w (suc h) _ (_, a_header n o e 0 x t r s.1)))
           (suc k) h (λ le. omega arith)
 
       named_begun : (n : ℕ) (x : List ℕ) → Starred true (Name n x ∷ [])
@@ -97,9 +97,9 @@ module _ (k : ℕ) (Q : Claims) (c : OfFronts Q) (w : (h : ℕ) (xs : List Termi
       Headed n o x l b more = Starred b (Name n x ∷ Punctuator o punctuators.OpenParenthesis ∷ (l ++ more))
 
       body_one : (n o j i : ℕ) (x : List ℕ) (g : ℕ) (zs : List Terminal) → IsHead g zs → g ≤ suc k → (h : ℕ) (ws : List Terminal) → AreStmts h ws
-          → Both (Headed n o x (zs ++ Punctuator j punctuators.CloseParenthesis ∷ [])) k h (Punctuator i punctuators.OpenBrace ∷ (ws ++ mark punctuators.CloseBrace ∷ []))
+          → Both (Headed n o x (zs ++ Punctuator j punctuators.CloseParenthesis ∷ [])) k h (Punctuator i punctuators.OpenBrace ∷ (ws ++ a_punctuator punctuators.CloseBrace ∷ []))
       body_one n o j i x g zs s fits h ws u =
-          let both = subst (λ l. Both Starred (suc (suc k)) (suc (max g (suc h))) (Name n x ∷ Punctuator o punctuators.OpenParenthesis ∷ l)) (sym (append_assoc zs (Punctuator j punctuators.CloseParenthesis ∷ []) (Punctuator i punctuators.OpenBrace ∷ (ws ++ mark punctuators.CloseBrace ∷ []))))
+          let both = subst (λ l. Both Starred (suc (suc k)) (suc (max g (suc h))) (Name n x ∷ Punctuator o punctuators.OpenParenthesis ∷ l)) (sym (append_assoc zs (Punctuator j punctuators.CloseParenthesis ∷ []) (Punctuator i punctuators.OpenBrace ∷ (ws ++ a_punctuator punctuators.CloseBrace ∷ []))))
           (w (suc (max g (suc h))) _ (_, a_definition n o j i 0 x t r s.1 u.1)) in
           (both.0, λ le. both.1 (omega arith))
 

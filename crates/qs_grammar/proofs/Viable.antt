@@ -133,8 +133,8 @@ pub here : (Q : Claims) (xs : List Terminal) → Q true xs → Q true (xs ++ [])
 here Q xs q = subst (Q true) (sym (append-nil xs)) q
 
 -- the token that was looked at
-pub Viable-mark : {A : Type 0} {Q : Claims} {ts : List Terminal} {r : Result (A × List Terminal) Stop} (m : punctuator.Punctuator) (t : Terminal) → is_punctuator m t ≡ true → Viable Q (Punctuator (number_of t) m ∷ ts) r → Viable Q (t ∷ ts) r
-Viable-mark {Q = Q} {ts = ts} {r = r} m t e v = subst (λ u. Viable Q (u ∷ ts) r) (sym (punctuator_is m t e)) v
+pub Viable-is_punctuator : {A : Type 0} {Q : Claims} {ts : List Terminal} {r : Result (A × List Terminal) Stop} (m : punctuator.Punctuator) (t : Terminal) → is_punctuator m t ≡ true → Viable Q (Punctuator (number_of t) m ∷ ts) r → Viable Q (t ∷ ts) r
+Viable-is_punctuator {Q = Q} {ts = ts} {r = r} m t e v = subst (λ u. Viable Q (u ∷ ts) r) (sym (punctuator_is m t e)) v
 
 pub Viable-keyword : {A : Type 0} {Q : Claims} {ts : List Terminal} {r : Result (A × List Terminal) Stop} (k : key.Keyword) (t : Terminal) → is_keyword k t ≡ true → Viable Q (Keyword (number_of t) k ∷ ts) r → Viable Q (t ∷ ts) r
 Viable-keyword {Q = Q} {ts = ts} {r = r} k t e v = subst (λ u. Viable Q (u ∷ ts) r) (sym (keyword_is k t e)) v

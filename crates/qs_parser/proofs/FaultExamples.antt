@@ -6,7 +6,7 @@ use Rattle.qs_base.specs.declared.keyword.Keyword.TheVariants as keywords
 use Rattle.qs_syntax.specs.declared.punctuator.Punctuator.TheVariants as punctuators
 use Rattle.qs_syntax.specs.Begins.{BeginsUnit, BeginsLowUnit}
 use Rattle.qs_parser.specs.Answers.{IsUnexpected, IsTooDeep}
-use Rattle.qs_grammar.proofs.BeginsExamples.{an_int_token, a_name, a_mark, a_parenthesis, a_declaration, parenthesis_is_unexpected, name_is_unexpected, nested, nested_is_deep, an_if, an_if_reads, else_is_unexpected}
+use Rattle.qs_grammar.proofs.BeginsExamples.{an_int_token, a_name, a_semicolon, a_parenthesis, a_declaration, parenthesis_is_unexpected, name_is_unexpected, nested, nested_is_deep, an_if, an_if_reads, else_is_unexpected}
 use Rattle.qs_parser.proofs.Top.{is_unexpected, is_too_deep}
 
 -- `int x )`: the parenthesis is unexpected, and the name is not
@@ -14,7 +14,7 @@ parenthesis_unexpected : IsUnexpected (an_int_token ∷ a_name ∷ a_parenthesis
 parenthesis_unexpected = is_unexpected (an_int_token ∷ a_name ∷ a_parenthesis ∷ []) 1 2 parenthesis_is_unexpected refl
 
 name_expected : IsUnexpected (an_int_token ∷ a_name ∷ a_parenthesis ∷ []) 1 → ⊥
-name_expected fault = fault.not_with (omega arith) (record { rest = a_mark 2 ∷ []; height = 1; ds = a_declaration.0; reads = a_declaration.1 })
+name_expected fault = fault.not_with (omega arith) (record { rest = a_semicolon 2 ∷ []; height = 1; ds = a_declaration.0; reads = a_declaration.1 })
 
 not_at_the_end : IsUnexpected (an_int_token ∷ a_name ∷ a_parenthesis ∷ []) 3 → ⊥
 not_at_the_end fault = parenthesis_unexpected.not_with (omega arith) (record { rest = fault.before.rest; height = fault.before.height; ds = fault.before.ds; reads = fault.before.reads })
@@ -23,7 +23,7 @@ not_at_the_end fault = parenthesis_unexpected.not_with (omega arith) (record { r
 end_unexpected : IsUnexpected (an_int_token ∷ a_name ∷ []) 2
 end_unexpected = is_unexpected (an_int_token ∷ a_name ∷ []) 0 2 name_is_unexpected refl
 
-end_expected : IsUnexpected (an_int_token ∷ a_name ∷ a_mark 2 ∷ []) 3 → ⊥
+end_expected : IsUnexpected (an_int_token ∷ a_name ∷ a_semicolon 2 ∷ []) 3 → ⊥
 end_expected fault = fault.none 1 a_declaration.0 a_declaration.1
 
 -- `int x = ((..`: the last of 127 parentheses is too deep, and the one before it is not
@@ -61,4 +61,4 @@ second_else_unexpected : IsUnexpected (an_if ++ Keyword 12 keywords.Else ∷ [])
 second_else_unexpected = is_unexpected (an_if ++ Keyword 12 keywords.Else ∷ []) 1 12 else_is_unexpected refl
 
 first_else_expected : IsUnexpected (an_if ++ Keyword 12 keywords.Else ∷ []) 10 → ⊥
-first_else_expected fault = fault.not_with (omega arith) (record { rest = a_mark 11 ∷ Punctuator 12 punctuators.CloseBrace ∷ []; height = 4; ds = an_if_reads.0; reads = an_if_reads.1 })
+first_else_expected fault = fault.not_with (omega arith) (record { rest = a_semicolon 11 ∷ Punctuator 12 punctuators.CloseBrace ∷ []; height = 4; ds = an_if_reads.0; reads = an_if_reads.1 })

@@ -6,8 +6,8 @@ use Rattle.qs_base.specs.declared.keyword.Keyword.TheVariants as keywords
 use Rattle.qs_grammar.specs.Heads.{is_keyword, starts}
 
 -- a parenthesis or a step by one stands first
-abbrev pub is_marked : List Terminal → Bool
-is_marked ts = starts punctuators.OpenParenthesis ts || (starts punctuators.Increment ts || starts punctuators.Decrement ts)
+abbrev pub opens_or_steps : List Terminal → Bool
+opens_or_steps ts = starts punctuators.OpenParenthesis ts || (starts punctuators.Increment ts || starts punctuators.Decrement ts)
 
 -- `if`, `while`, `do` or `for` stands here (C11 6.8.4, 6.8.5)
 abbrev pub is_nesting : Terminal → Bool

@@ -431,7 +431,7 @@ fn size_of(context: Context, at: u32, tokens: &[Terminal]) -> Result<(Expr, u32,
 /// A unary expression whose first token is a punctuator.
 #[cycle(parser)]
 #[tactic(auto, unfolding(qs_grammar::specs::Parse::unary_of_all))]
-fn marked<'a>(
+fn unary_at_punctuator<'a>(
     context: Context,
     at: u32,
     punctuator: Punctuator,
@@ -478,7 +478,7 @@ fn unary(context: Context, tokens: &[Terminal]) -> Result<(Expr, u32, &[Terminal
             }
             size_of(context, *at, rest)
         }
-        [Terminal::Punctuator(at, punctuator), rest @ ..] => marked(
+        [Terminal::Punctuator(at, punctuator), rest @ ..] => unary_at_punctuator(
             context,
             *at,
             *punctuator,

@@ -7,7 +7,7 @@ ghost use Rattle.qs_grammar.specs.Heads.{operator_at, begins_type};
 ghost use Rattle.qs_grammar.specs.Parse.{expect, expect_name, begins_one, begins_cast};
 ghost use Rattle.qs_grammar.specs.Parse.{starts_suffix, operator_of_level};
 ghost use Rattle.qs_parser.specs.View.{Gives, rest_of, name_of};
-ghost use Rattle.qs_parser.specs.Heads.{is_marked};
+ghost use Rattle.qs_parser.specs.Heads.{opens_or_steps};
 
 use crate::halt::Halt;
 use qs_base::Name;
@@ -163,8 +163,8 @@ pub fn level_operator_at(level: u8, tokens: &[Terminal]) -> Option<BinaryOperato
 }
 
 /// Whether a parenthesis or a step by one stands first.
-fn is_marked(tokens: &[Terminal]) -> bool
-    ensures { result ≡ is_marked tokens.now }
+fn opens_or_steps(tokens: &[Terminal]) -> bool
+    ensures { result ≡ opens_or_steps tokens.now }
 {
     starts(Punctuator::OpenParenthesis, tokens)
         || starts(Punctuator::Increment, tokens)
@@ -179,7 +179,7 @@ pub fn begins_one(tokens: &[Terminal]) -> bool
         [] => false,
         [Terminal::Keyword(..), ..] => starts_with(Keyword::Sizeof, tokens),
         [Terminal::Punctuator(_, punctuator), ..] => {
-            UnaryOperator::of(*punctuator).is_some() || is_marked(tokens)
+            UnaryOperator::of(*punctuator).is_some() || opens_or_steps(tokens)
         }
         _ => true,
     }

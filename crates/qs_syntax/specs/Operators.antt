@@ -1,6 +1,5 @@
--- The operators (C11 6.5.2 to 6.5.16): the punctuator of each, how strongly those between two operands bind, and which operator a punctuator is.
-use Rattle.std.specs.Prelude.{ℕ, Bool, true, false, ◌&&◌, List, [], ◌∷◌, Option}
-use Rattle.std.specs.Bool.{beq}
+-- The operators (C11 6.5.2 to 6.5.16): the punctuator of each, the precedence of those between two operands, and which operator a punctuator is.
+use Rattle.std.specs.Prelude.{ℕ, Bool, true, false, List, [], ◌∷◌, Option}
 use Rattle.std.specs.List.{find}
 use denote.Enum.Bare.{sameb}
 use Rattle.qs_syntax.specs.Punctuators.{same_punctuator}
@@ -59,22 +58,11 @@ step_row steps.DecrementBefore = (punctuators.Decrement, true)
 step_row steps.IncrementAfter = (punctuators.Increment, false)
 step_row steps.DecrementAfter = (punctuators.Decrement, false)
 
-abbrev pub step_operators : List StepOperator
-step_operators =
-    steps.IncrementBefore
-    ∷ steps.DecrementBefore
-    ∷ steps.IncrementAfter
-    ∷ steps.DecrementAfter
-    ∷ []
-
 abbrev pub punctuator_of_step : StepOperator → Punctuator
 punctuator_of_step operator = (step_row operator).0
 
 abbrev pub stands_before : StepOperator → Bool
 stands_before operator = (step_row operator).1
-
-abbrev pub step_of : Bool → Punctuator → Option StepOperator
-step_of before punctuator = find (λ operator. beq (stands_before operator) before && same_punctuator (punctuator_of_step operator) punctuator) step_operators
 
 abbrev pub same_step : StepOperator → StepOperator → Bool
 same_step = sameb step_type
@@ -139,6 +127,21 @@ binary_of punctuator = find (λ operator. same_punctuator (punctuator_of_binary 
 
 abbrev pub same_binary : BinaryOperator → BinaryOperator → Bool
 same_binary = sameb binary_type
+
+-- ---- what binds more weakly (6.5.15 to 6.5.17)
+
+abbrev pub conditional_precedence : ℕ
+conditional_precedence = 11
+
+abbrev pub assignment_precedence : ℕ
+assignment_precedence = 12
+
+abbrev pub comma_precedence : ℕ
+comma_precedence = 13
+
+-- more than any precedence
+abbrev pub no_precedence : ℕ
+no_precedence = 14
 
 -- ---- assignments (6.5.16)
 

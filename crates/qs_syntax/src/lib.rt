@@ -19,7 +19,10 @@ pub use declarations::{
 };
 pub use expressions::{Expr, Shape};
 pub use nodes::Node;
-pub use operators::{Access, AssignmentOperator, BinaryOperator, StepOperator, UnaryOperator};
+pub use operators::{
+    ASSIGNMENT_PRECEDENCE, Access, AssignmentOperator, BinaryOperator, COMMA_PRECEDENCE,
+    CONDITIONAL_PRECEDENCE, StepOperator, UnaryOperator, WEAKEST,
+};
 pub use punctuator::Punctuator;
 pub use qs_base::Keyword;
 pub use statements::{Start, Stmt};

@@ -3,7 +3,7 @@ ghost use Rattle.std.specs.Prelude.{◌≡◌, ◌≤◌};
 ghost use Rattle.qs_syntax.specs.Operators.{access_of, assign_of, binary_of, binary_row};
 ghost use Rattle.qs_syntax.specs.Operators.{precedence, punctuator_of_access, punctuator_of_assign};
 ghost use Rattle.qs_syntax.specs.Operators.{punctuator_of_binary, punctuator_of_step};
-ghost use Rattle.qs_syntax.specs.Operators.{punctuator_of_unary, stands_before, step_of, step_row};
+ghost use Rattle.qs_syntax.specs.Operators.{punctuator_of_unary, stands_before, step_row};
 ghost use Rattle.qs_syntax.specs.Operators.{unary_of, weakest};
 
 use crate::punctuator::Punctuator;
@@ -73,13 +73,6 @@ pub enum StepOperator {
     DecrementAfter,
 }
 
-const STEP_OPERATORS: [StepOperator; 4] = [
-    StepOperator::IncrementBefore,
-    StepOperator::DecrementBefore,
-    StepOperator::IncrementAfter,
-    StepOperator::DecrementAfter,
-];
-
 impl StepOperator {
     /// Its punctuator, and whether it stands before its operand.
     fn row(self) -> (Punctuator, bool)
@@ -105,14 +98,6 @@ impl StepOperator {
         ensures { result ≡ stands_before self }
     {
         self.row().1
-    }
-
-    /// The step that the punctuator is before an operand, or behind one, if any.
-    pub fn of(before: bool, punctuator: Punctuator) -> Option<StepOperator>
-        ensures { result ≡ step_of before punctuator }
-    {
-        STEP_OPERATORS.iter().copied().find(|operator| operator.stands_before() == before
-            && operator.punctuator() == punctuator)
     }
 }
 
@@ -178,6 +163,18 @@ const BINARY_OPERATORS: [BinaryOperator; 18] = [
     BinaryOperator::Or,
 ];
 
+/// The precedence of `||`.
+pub const WEAKEST: u32 = 10;
+
+/// The precedence of a conditional expression (C11 6.5.15).
+pub const CONDITIONAL_PRECEDENCE: u32 = 11;
+
+/// The precedence of an assignment (C11 6.5.16).
+pub const ASSIGNMENT_PRECEDENCE: u32 = 12;
+
+/// The precedence of a comma (C11 6.5.17).
+pub const COMMA_PRECEDENCE: u32 = 13;
+
 impl BinaryOperator {
     /// Its punctuator and its precedence.
     fn row(self) -> (Punctuator, u32)
@@ -202,7 +199,7 @@ impl BinaryOperator {
             BinaryOperator::BitXor => (Punctuator::Caret, 7),
             BinaryOperator::BitOr => (Punctuator::Bar, 8),
             BinaryOperator::And => (Punctuator::AndAnd, 9),
-            BinaryOperator::Or => (Punctuator::OrOr, 10),
+            BinaryOperator::Or => (Punctuator::OrOr, WEAKEST),
         }
     }
 
@@ -213,7 +210,7 @@ impl BinaryOperator {
         self.row().0
     }
 
-    /// How weakly it binds, from 1 for `* / %` to 10 for `||`.
+    /// Its precedence, from 1 for `* / %`, which bind most strongly, to the weakest for `||`.
     pub fn precedence(self) -> u32
         ensures is { result ≡ precedence self }
         ensures most { result ≤ weakest }

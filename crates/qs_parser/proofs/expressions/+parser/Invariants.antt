@@ -48,8 +48,8 @@ decreases-operator_of l = 1024 * l.context.room + 2
 abbrev pub decreases-size_of : goal.decreases-size_of
 decreases-size_of l = 1024 * l.context.room + 2
 
-abbrev pub decreases-marked : goal.decreases-marked
-decreases-marked l = 1024 * l.context.room + 6
+abbrev pub decreases-unary_at_punctuator : goal.decreases-unary_at_punctuator
+decreases-unary_at_punctuator l = 1024 * l.context.room + 6
 
 abbrev pub decreases-unary : goal.decreases-unary
 decreases-unary l = 1024 * l.context.room + 7

@@ -4,6 +4,8 @@ use Rattle.std.specs.List.{slice_get}
 use Rattle.std.proofs.lemmas.Bool.Decides.{nat_tests}
 use Rattle.qs_memory.specs.Values.{integer, has_type}
 use Rattle.qs_memory.specs.Operations.{integer_type, binary_type}
+use Rattle.qs_memory.specs.Sizes.{largest_size}
+use Rattle.qs_memory.proofs.BlankLaws.{blank_length}
 use Rattle.qs_memory.specs.declared.scalar.Scalar.{Scalar}
 use Rattle.qs_memory.specs.declared.scalar.Scalar.TheVariants as scalars
 use Rattle.qs_memory.specs.declared.operation.Signedness.{Signedness}
@@ -16,7 +18,7 @@ use Rattle.qs_core.specs.Trees.{CoreFunctionTree, CoreUnitTree}
 use Rattle.qs_core.specs.Trees as core
 use Rattle.qs_core.specs.Expressions as core_expressions
 use Rattle.qs_core.specs.Scalars.{is_type}
-use Rattle.qs_core.specs.Operands.{unary_takes, largest_size}
+use Rattle.qs_core.specs.Operands.{unary_takes}
 use Rattle.qs_core.specs.Interfaces.{variable_type}
 use Rattle.qs_core.specs.Interfaces as core_interfaces
 use Rattle.qs_core.specs.Fits as fits
@@ -29,7 +31,7 @@ use Rattle.qs_elaborate.specs.Literals.{literal_value}
 use Rattle.qs_elaborate.specs.Acting.{acts, arguments_act}
 use Rattle.qs_elaborate.specs.Parts.{Temporaries, next_number, with_temporary, Valued, Listed, saved_if, joined, Located, address_saved_if, value_at, value_read, in_turn, before}
 use Rattle.qs_elaborate.specs.Expressions.{block_of, operation_core, updated_core, step_amount, step_valued, and_branching, or_branching, choice_branching, choice_joined, expression_core, lvalue_core, arguments_core, assignment_core, effect_core}
-use Rattle.qs_elaborate.proofs.FitParts.{together, blank_length, same_from, same_types, points, pointer_type, unary_same, extends_self, extends_then, extends_with, found_last, found_later, holding, none_fit, both_fit, expr_kept, ordered_type}
+use Rattle.qs_elaborate.proofs.FitParts.{together, same_from, same_types, points, pointer_type, unary_same, extends_self, extends_then, extends_with, found_last, found_later, holding, none_fit, both_fit, expr_kept, ordered_type}
 use Rattle.qs_elaborate.proofs.FitOperands.{ValuedFits, pure_fits, valued_with, saved_fits, operand_fits, operand_more, converted_valued, ListedFits, then_fits, LocatedFits, location_kept, address_fits, place_fits, read_fits, written_fits, operation_fits, joined_fits, WrittenFits, write_alone, write_used, set_fits, updated_fits, AllValuedFit, argument_fits, call_used, call_alone, and_fits, or_fits, choice_fits, choice_joined_fits}
 
 -- a function in core has the variables, blocks and result that it has in the source, and its unit the functions

@@ -1,12 +1,10 @@
 -- What it is that statements and a value fit; literals, conversions and operations fit.
-use Rattle.std.proofs.Common.{◌≡◌, ℕ, zero, suc, ◌+◌, ◌*◌, ◌<◌, ◌%◌, ◌^◌, ◌&&◌, ◌||◌, nat_lt, not, Bool, true, false, List, [], ◌∷◌, ◌++◌, length, Option, Some, None, refl, sym, ap, ◌∙◌, subst, arith}
+use Rattle.std.proofs.Common.{◌≡◌, ℕ, zero, suc, ◌+◌, ◌<◌, ◌%◌, ◌^◌, ◌&&◌, ◌||◌, nat_lt, not, Bool, true, false, List, [], ◌∷◌, ◌++◌, Option, Some, None, refl, sym, ap, ◌∙◌, subst, arith}
 use Rattle.std.specs.List.{slice_get}
 use Rattle.std.proofs.lemmas.Bool.Decides.{nat_tests}
-use Rattle.std.proofs.lemmas.List.{length-append}
 use Rattle.std.proofs.lemmas.Option.{slice_get_within}
 use Rattle.qs_memory.specs.Partial.{◌>>=◌}
-use Rattle.qs_memory.specs.Values.{null, Value, integer, address, has_type, pointer_of_integer, convert}
-use Rattle.qs_memory.specs.Memory.{Cell, byte, parts_of, BlankTree, zeros, nulls, repeated, nothing, joined, times, blank_cells}
+use Rattle.qs_memory.specs.Values.{Value, integer, address, has_type, pointer_of_integer, convert}
 use Rattle.qs_memory.specs.Operations.{integer_type, binary_type}
 use Rattle.qs_memory.specs.declared.scalar.Scalar.{Scalar}
 use Rattle.qs_memory.specs.declared.scalar.Scalar.TheVariants as scalars
@@ -20,7 +18,7 @@ use Rattle.qs_core.specs.declared.numbers.BlockId.TheVariants.{Local, Data}
 use Rattle.qs_core.specs.Trees.{CoreExprTree, literal, null_pointer, variable, temporary, address_of, load, member, unary, binary, conversion, logical_and, logical_or, conditional, CoreStmtTree, stmts_of, CoreFunctionTree, CoreUnitTree}
 use Rattle.qs_core.specs.Expressions.{type_of}
 use Rattle.qs_core.specs.Scalars.{same_scalar, same_scalars, is_type, is_integer, is_pointer}
-use Rattle.qs_core.specs.Operands.{blank_size, unary_takes, right_takes, binary_takes, conversion_takes}
+use Rattle.qs_core.specs.Operands.{unary_takes, right_takes, binary_takes, conversion_takes}
 use Rattle.qs_core.specs.Fits.{expr_fits, exprs_fit, mentions, any_mentions, stmt_fits, stmts_fit}
 use Rattle.qs_core.proofs.FitLaws.{both, scalar_same, type_is}
 use Rattle.qs_meaning.specs.Typed.{Conversion, unchanged, converted, Order, as_written, exchanged}
@@ -127,20 +125,6 @@ binary_same (binaries.Compare op s) t u = both_same (one_test t (integer_type s)
 binary_same (binaries.Move direction s element) t u = both_same (both_same (one_test t scalars.Pointer) (one_test u (integer_type s))) refl
 binary_same (binaries.Difference element) t u = both_same (both_same (one_test t scalars.Pointer) (one_test u scalars.Pointer)) refl
 binary_same (binaries.ComparePointers op) t u = both_same (one_test t scalars.Pointer) (one_test u scalars.Pointer)
-
--- ---- the bytes of a blank
-
-times_length : (n : ℕ) (cells : List Cell) → length (times n cells) ≡ n * length cells
-times_length zero cells = grind arith
-times_length (suc n) cells =
-    length-append cells (times n cells) ∙ ap (λ (k : ℕ). length cells + k) (times_length n cells) ∙ grind arith
-
-pub blank_length : (b : BlankTree) → length (blank_cells b) ≡ blank_size b
-blank_length (zeros n) = times_length n (byte 0 ∷ []) ∙ grind arith
-blank_length (nulls n) = times_length n (parts_of null 0 4) ∙ grind arith
-blank_length (repeated n b) = times_length n (blank_cells b) ∙ ap (λ (k : ℕ). n * k) (blank_length b)
-blank_length nothing = refl
-blank_length (joined b c) = length-append (blank_cells b) (blank_cells c) ∙ ap (λ (k : ℕ). k + length (blank_cells c)) (blank_length b) ∙ ap (λ (k : ℕ). blank_size b + k) (blank_length c)
 
 -- ---- temporaries
 

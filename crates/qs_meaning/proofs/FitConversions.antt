@@ -10,6 +10,7 @@ use Rattle.qs_memory.specs.declared.operation.Arithmetic.{Arithmetic}
 use Rattle.qs_memory.specs.declared.operation.Arithmetic.TheVariants as arithmetics
 use Rattle.qs_memory.specs.declared.operation.Comparison.{Comparison}
 use Rattle.qs_memory.specs.Operations.{integer_type, binary_type}
+use Rattle.qs_memory.specs.Sizes.{is_element}
 use Rattle.qs_memory.proofs.Options.{some_same, followed}
 use Rattle.qs_types.specs.Types.{TypeTree, int, unsigned, char, void, pointer, array, struct, is_integer, is_pointer, is_scalar, referenced, same_type, Structs}
 use Rattle.qs_types.specs.Layout.{size_of}
@@ -18,7 +19,7 @@ use Rattle.qs_types.specs.Expressions.{both_integers, is_object_pointer, may_add
 use Rattle.qs_meaning.specs.Typed.{unchanged, converted, as_written}
 use Rattle.qs_meaning.specs.Conversions.{scalar_of, same_scalar, conversion}
 use Rattle.qs_meaning.specs.Operations.{Operated, combined, shifted, compared, moved, moved_from_left, apart, summed, subtracted}
-use Rattle.qs_meaning.specs.Fits.{type_after, converts, conversion_fits, is_promoted, takes_second, is_element, takes_operands, takes_in_order, amount_type}
+use Rattle.qs_meaning.specs.Fits.{type_after, converts, conversion_fits, is_promoted, takes_second, takes_operands, takes_in_order, amount_type}
 use Rattle.qs_meaning.proofs.Options.{never, left, right, either}
 use Rattle.qs_meaning.proofs.TypedValues.{scalar_same}
 

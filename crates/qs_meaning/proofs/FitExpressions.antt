@@ -17,6 +17,7 @@ use Rattle.qs_syntax.specs.Trees.{ExprTree, expr, ShapeTree, Exprs, no_exprs, ex
 use Rattle.qs_syntax.specs.Trees as trees
 use Rattle.qs_memory.specs.Partial.{◌>>=◌}
 use Rattle.qs_memory.specs.Operations.{integer_type, unary_type, binary_type}
+use Rattle.qs_memory.specs.Sizes.{largest_size}
 use Rattle.qs_memory.specs.declared.operation.Signedness.{Signedness}
 use Rattle.qs_memory.specs.declared.operation.UnaryOperation.{UnaryOperation}
 use Rattle.qs_memory.specs.declared.operation.UnaryOperation.TheVariants as operations
@@ -43,7 +44,7 @@ use Rattle.qs_meaning.specs.Forms.{Form, lvalue, call, TypedExpr, lvalue_of, add
 use Rattle.qs_meaning.specs.Names.{Scope, entity_lvalue, Designator, entity_designated, text_object}
 use Rattle.qs_meaning.specs.Expressions.{operated, operator_value, arguments_of, member_offset, member_form, set_form, struct_form, plain_form, compound_form, assign_form, one, step_after_form, step_form, unary_form, size_form, cast_form, beside_zero, operator_form, binary_form, subscript_form, conditional_form, typed, form_of, all_typed}
 use Rattle.qs_meaning.specs.Fits as fitting
-use Rattle.qs_meaning.specs.Fits.{type_after, conversion_fits, takes_operand, is_null, takes_operands, takes_in_order, amount_type, expr_fits, lvalue_fits, arguments_fit, object_there, largest_size}
+use Rattle.qs_meaning.specs.Fits.{type_after, conversion_fits, takes_operand, is_null, takes_operands, takes_in_order, amount_type, expr_fits, lvalue_fits, arguments_fit, object_there}
 use Rattle.qs_meaning.proofs.Options.{never, left, right, either, nothing, same, went}
 use Rattle.qs_meaning.proofs.TypedExpressions.{kept, unbroken_left, unbroken_right, not_true, unless}
 use Rattle.qs_meaning.proofs.FitConversions.{both, same_self, same_as, Integer, an_int, an_unsigned, a_char, Pointing, a_pointer, integer, pointing, scalar_kind, may_convert, conversion_type, plain, combined_fits, Shifts, shifted_fits, Alike, compared_fits, shared, Elements, added, ResultFits, summed_fits, subtracts, subtracted_fits, UpdateFits, combined_update, shifted_update, summed_update, subtracted_update, summed_amount, subtracted_amount, conversion_taken}

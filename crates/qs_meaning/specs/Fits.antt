@@ -12,6 +12,7 @@ use Rattle.qs_memory.specs.declared.operation.BinaryOperation.{BinaryOperation}
 use Rattle.qs_memory.specs.declared.operation.BinaryOperation.TheVariants as operations
 use Rattle.qs_memory.specs.Values.{integer, width, has_type}
 use Rattle.qs_memory.specs.Memory.{blank_cells}
+use Rattle.qs_memory.specs.Sizes.{largest_size, is_element}
 use Rattle.qs_memory.specs.Operations.{integer_type, unary_type, binary_type}
 use Rattle.qs_calls.specs.declared.parameter.Parameter.{Parameter}
 use Rattle.qs_calls.specs.declared.parameter.Parameter.TheVariants.{Plain, Placed}
@@ -84,14 +85,6 @@ abbrev pub takes_second : Arithmetic → (first second : Scalar) → Bool
 takes_second arithmetics.ShiftLeft s t = is_promoted t
 takes_second arithmetics.ShiftRight s t = is_promoted t
 takes_second _ s t = same_scalar t s
-
--- no type is larger, in bytes
-abbrev pub largest_size : ℕ
-largest_size = 16777216
-
--- 6.5.6p2: the size of the elements among which a pointer moves
-abbrev pub is_element : (size : ℕ) → Bool
-is_element size = nat_le 1 size && nat_le size largest_size
 
 abbrev pub takes_operands : BinaryOperation → (left right : Scalar) → Bool
 takes_operands (operations.Arithmetic op s) t u = same_scalar t (integer_type s) && takes_second op (integer_type s) u

@@ -9,6 +9,7 @@ pub mod SoundLaws
 pub mod ValueLaws
 pub mod TypeLaws
 pub mod PointerLaws
+pub mod BlankLaws
 mod Tables
 mod AccessExamples
 mod OperationExamples

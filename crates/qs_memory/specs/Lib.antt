@@ -2,6 +2,7 @@ pub mod Partial
 pub mod Values
 pub mod Integers
 pub mod Memory
+pub mod Sizes
 pub mod Pointers
 pub mod Operations
 pub mod BlankOf

@@ -6,6 +6,7 @@ use Rattle.std.proofs.lemmas.Bool.{cases_lt}
 use Rattle.std.proofs.lemmas.Bool.Decides.{nat_tests}
 use Rattle.qs_base.specs.Words.{sign_extend}
 use Rattle.qs_memory.specs.Partial.{◌>>=◌, only_if}
+use Rattle.qs_memory.specs.Sizes.{blank_size, is_element}
 use Rattle.qs_memory.specs.declared.scalar.Scalar.{Scalar}
 use Rattle.qs_memory.specs.declared.scalar.Scalar.TheVariants as scalars
 use Rattle.qs_memory.specs.declared.operation.Signedness.{Signedness}
@@ -35,7 +36,7 @@ use Rattle.qs_tac.specs.declared.operands.Operand.TheVariants.{Temporary, Intege
 use Rattle.qs_frames.specs.Layout.{is_among, used_among, saved_registers, used_registers, register_at}
 use Rattle.qs_tac.specs.Trees.{InstructionTree, move, unary, binary, convert, address_of, load, store}
 use Rattle.qs_tac.specs.Trees.{copy, fill, call, jump, branch, return, TacUnitTree}
-use Rattle.qs_tac.specs.Fits.{blank_size, is_element, operand_fits, index_fits, address_fits, condition_fits, operation_fits, instruction_fits}
+use Rattle.qs_tac.specs.Fits.{operand_fits, index_fits, address_fits, condition_fits, operation_fits, instruction_fits}
 use Rattle.qs_tac.specs.declared.operands.Index.{Index}
 use Rattle.qs_tac.specs.declared.operands.Address.{Address}
 use Rattle.qs_tac.specs.declared.operands.Condition.{Condition}

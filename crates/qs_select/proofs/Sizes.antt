@@ -3,6 +3,7 @@ use Rattle.std.proofs.Common.{◌≡◌, ℕ, zero, suc, ◌+◌, ◌*◌, ◌%�
 use Rattle.std.specs.Prelude.{◌-◌, nat_lt, ◌&&◌, if◌then◌else◌, sum_by, unwrap_or, slice_get, slice_index_or}
 use Rattle.std.proofs.lemmas.Bool.Decides.{nat_tests}
 use Rattle.std.proofs.lemmas.List.Sums.{sum_by-cons, sum_by-append}
+use Rattle.qs_memory.specs.Sizes.{blank_size}
 use Rattle.qs_memory.specs.declared.operation.Signedness.{Signedness}
 use Rattle.qs_memory.specs.declared.operation.Signedness.TheVariants.{Signed, Unsigned}
 use Rattle.qs_memory.specs.declared.operation.Direction.{Direction}
@@ -26,7 +27,6 @@ use Rattle.qs_asm.specs.Items.{plain, item_words}
 use Rattle.qs_asm.proofs.LaidLaws.{takes_words}
 use Rattle.qs_tac.specs.Trees.{InstructionTree, move, unary, binary, convert, address_of, load, store}
 use Rattle.qs_tac.specs.Trees.{copy, fill, call, jump, branch, return, TacFunctionTree, TacUnitTree}
-use Rattle.qs_tac.specs.Fits.{blank_size}
 use Rattle.qs_tac.specs.Places.{PlacesTree, place_of, no_places, slots_from, all_slots, Accepted}
 use Rattle.qs_tac.specs.Laws.{AreAccepted}
 use Rattle.qs_tac.specs.Sizes as sizes

@@ -12,6 +12,8 @@ use Rattle.qs_memory.proofs.Options.{some_same}
 use Rattle.qs_memory.specs.Values.{Value, integer, address, has_type}
 use Rattle.qs_memory.specs.Memory.{Memory}
 use Rattle.qs_memory.specs.Soundness.{IsLive}
+use Rattle.qs_memory.specs.Scalars.{is_type, is_promoted}
+use Rattle.qs_memory.proofs.ScalarLaws.{type_is}
 use Rattle.qs_memory.specs.declared.scalar.Scalar.{Scalar}
 use Rattle.qs_memory.specs.declared.scalar.Scalar.TheVariants as scalars
 use Rattle.qs_events.specs.Runs.{Left, has_ended, ending_of}
@@ -20,11 +22,10 @@ use Rattle.qs_calls.specs.declared.callee.Callee.{Callee}
 use Rattle.qs_calls.specs.declared.callee.Callee.TheVariants.{Function, PutChar, GetChar}
 use Rattle.qs_core.specs.Trees.{CoreFunctionTree, CoreParameterTree, DataBlockTree, CoreUnitTree}
 use Rattle.qs_core.specs.Units.{data_block, initial_memory, main_run}
-use Rattle.qs_core.specs.Scalars.{is_type, is_promoted}
 use Rattle.qs_core.specs.Interfaces.{parameter_types, signature, interface_of}
 use Rattle.qs_core.specs.Ranges.{result_type_at}
 use Rattle.qs_core.specs.Fits as core
-use Rattle.qs_core.proofs.FitLaws.{both, all_at, type_is, unit_parts}
+use Rattle.qs_core.proofs.FitLaws.{both, all_at, unit_parts}
 use Rattle.qs_core.proofs.InitialLaws.{initial_memory_is_ready}
 use Rattle.qs_core.proofs.RangeLaws.{runs_leave_sound}
 use Rattle.qs_tac.specs.Trees.{InstructionTree, call, TacFunctionTree, TacUnitTree}

@@ -8,11 +8,11 @@ use Rattle.std.proofs.lemmas.List.Elements.{All-from_get_or}
 use Rattle.std.proofs.lemmas.Option.{slice_get-map, slice_get-get_or, slice_get_within, get_or_from_slice_get}
 use Rattle.std.proofs.lemmas.Slice.Eq.{bytes_eq-Decides}
 use Rattle.qs_base.specs.Names.{is_name}
+use Rattle.qs_memory.specs.Scalars.{is_type}
 use Rattle.qs_memory.proofs.Options.{some_same}
 use Rattle.qs_core.specs.Trees.{CoreFunctionTree, CoreUnitTree}
 use Rattle.qs_core.specs.Units.{initial_memory}
 use Rattle.qs_core.specs.Fits.{differ, main_name, is_main, unit_fits}
-use Rattle.qs_core.specs.Scalars.{is_type}
 use Rattle.qs_core.proofs.FitLaws.{both, function_at_fits, unit_parts}
 use Rattle.qs_asm.specs.Assembly.{label_offset}
 use Rattle.qs_image.specs.Image.{Image, FunctionRecord, joined_names, IsAddress, IsCost, IsWellFormed}

@@ -1,10 +1,10 @@
 -- What an image of a unit of core is.
 use Rattle.std.specs.Prelude.{◌≡◌, ℕ, length, map}
 use Rattle.std.specs.List.{slice_get}
+use Rattle.qs_memory.specs.Scalars.{is_type}
 use Rattle.qs_memory.specs.declared.scalar.Scalar.TheVariants as scalars
 use Rattle.qs_core.specs.Trees.{CoreUnitTree}
 use Rattle.qs_core.specs.Units.{initial_memory}
-use Rattle.qs_core.specs.Scalars.{is_type}
 use Rattle.qs_image.specs.Image.{Image}
 use Rattle.qs_machine.specs.Arguments.{is_unsigned}
 use Rattle.qs_emit.specs.Images.{IsImageOf}

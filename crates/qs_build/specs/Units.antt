@@ -3,6 +3,7 @@ use Rattle.std.specs.Prelude.{◌≡◌, ◌≢◌, ℕ, ◌+◌, ◌*◌, ◌<�
 use Rattle.std.specs.List.{slice_get}
 use Rattle.qs_memory.specs.Values.{Value}
 use Rattle.qs_memory.specs.Memory.{Memory}
+use Rattle.qs_memory.specs.Scalars.{same_scalar}
 use Rattle.qs_memory.specs.declared.scalar.Scalar.{Scalar}
 use Rattle.qs_memory.specs.declared.scalar.Scalar.TheVariants as scalars
 use Rattle.qs_events.specs.Runs.{Left, has_ended, ending_of}
@@ -10,7 +11,6 @@ use Rattle.qs_calls.specs.World.{World}
 use Rattle.qs_calls.specs.Starts.{MayStart}
 use Rattle.qs_core.specs.Trees.{CoreFunctionTree, CoreUnitTree}
 use Rattle.qs_core.specs.Units.{initial_memory, main_run}
-use Rattle.qs_core.specs.Scalars.{same_scalar}
 use Rattle.qs_core.specs.Interfaces.{parameter_types, interface_of}
 use Rattle.qs_tac.specs.Trees.{TacUnitTree}
 use Rattle.qs_tac.specs.Places.{PlacesTree, all_slots}

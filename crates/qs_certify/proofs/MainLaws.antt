@@ -3,6 +3,7 @@ use Rattle.std.proofs.Common.{◌≡◌, ⊎_elim, ℕ, ◌<◌, Bool, true, fal
 use Rattle.std.specs.Prelude.{◌&&◌, bytes_eq, filter, not, All}
 use Rattle.std.specs.List.{slice_get, find, list_any, list_all}
 use Rattle.std.proofs.lemmas.Option.{slice_get-map, slice_get_within}
+use Rattle.qs_memory.specs.Scalars.{is_type, is_promoted}
 use Rattle.qs_memory.specs.declared.scalar.Scalar.TheVariants as scalars
 use Rattle.qs_events.specs.Weights.{Costs, run_weight}
 use Rattle.qs_calls.specs.World.{World}
@@ -18,7 +19,6 @@ use Rattle.qs_assert.proofs.Variabled.{of_its_variables}
 use Rattle.qs_entail.specs.Meaning.{AtLeast}
 use Rattle.qs_core.specs.Fits.{main_name, is_main, unit_fits}
 use Rattle.qs_core.specs.Interfaces.{signature, interface_of, parameter_types}
-use Rattle.qs_core.specs.Scalars.{is_type, is_promoted}
 use Rattle.qs_core.specs.Trees.{CoreFunctionTree, CoreUnitTree}
 use Rattle.qs_core.specs.Units.{initial_memory, main_run}
 use Rattle.qs_core.proofs.FitLaws.{both, unit_parts, function_at_fits}

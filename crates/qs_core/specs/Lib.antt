@@ -3,8 +3,6 @@ pub mod TreeOf
 pub mod Expressions
 pub mod Statements
 pub mod Units
-pub mod Scalars
-pub mod Operands
 pub mod Interfaces
 pub mod TermTrees
 pub mod Terms

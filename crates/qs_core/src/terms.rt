@@ -1,6 +1,6 @@
 // The terms and conditions of expressions.
 ghost use Rattle.std.specs.Prelude.{◌≡◌, IfOk};
-ghost use Rattle.qs_core.specs.Scalars.{is_integer};
+ghost use Rattle.qs_memory.specs.Scalars.{is_integer};
 ghost use Rattle.qs_core.specs.TreeOf.{core_expr};
 ghost use Rattle.qs_core.specs.TermTreeOf.{GivesTerm, core_term, option_term};
 ghost use Rattle.qs_core.specs.TermTrees.{combined, wrapped};

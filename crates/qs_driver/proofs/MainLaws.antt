@@ -3,11 +3,11 @@ use Rattle.std.proofs.Common.{◌≡◌, ℕ, zero, suc, ◌+◌, ◌-◌, ◌^�
 use Rattle.std.specs.Prelude.{◌↔◌, ◌≤ℤ◌, ◌&&◌, int_le, bytes_eq}
 use Rattle.std.specs.List.{slice_get, list_all}
 use Rattle.std.proofs.lemmas.Int.{ints}
+use Rattle.qs_memory.specs.Scalars.{same_scalar, is_type, is_promoted}
 use Rattle.qs_memory.specs.declared.scalar.Scalar.{Scalar}
 use Rattle.qs_memory.specs.declared.scalar.Scalar.TheVariants as scalars
 use Rattle.qs_core.specs.Fits.{main_name, is_main, unit_fits}
 use Rattle.qs_core.specs.Interfaces.{parameter_types}
-use Rattle.qs_core.specs.Scalars.{same_scalar, is_type, is_promoted}
 use Rattle.qs_core.specs.Trees.{CoreFunctionTree, CoreUnitTree}
 use Rattle.qs_core.proofs.FitLaws.{both, unit_parts}
 use Rattle.qs_image.specs.Image.{Image}

@@ -4,6 +4,8 @@ use Rattle.std.specs.Prelude.{◌&&◌, ◌||◌, not, nat_le, if◌then◌else�
 use Rattle.std.proofs.lemmas.List.{length-map}
 use Rattle.qs_memory.specs.Memory.{BlankTree}
 use Rattle.qs_memory.specs.Sizes.{largest_size, blank_size}
+use Rattle.qs_memory.specs.Scalars.{is_type, same_scalars}
+use Rattle.qs_memory.proofs.ScalarLaws.{scalars_same}
 use Rattle.qs_memory.specs.declared.scalar.Scalar.{Scalar}
 use Rattle.qs_calls.specs.Starts.{Signature, signature_of}
 use Rattle.qs_calls.specs.declared.callee.Callee.{Callee}
@@ -12,10 +14,9 @@ use Rattle.qs_core.specs.Trees.{CoreExprTree, CoreStmtTree, CoreStmts, no_stmts,
 use Rattle.qs_core.specs.declared.numbers.Target.{Target}
 use Rattle.qs_core.specs.declared.numbers.Target.TheVariants as targets
 use Rattle.qs_core.specs.Expressions.{type_of}
-use Rattle.qs_core.specs.Scalars.{is_type, same_scalars}
 use Rattle.qs_core.specs.Interfaces.{target_type, interface_of}
 use Rattle.qs_core.specs.Fits.{expr_fits, exprs_fit, pointer_fits, destination_fits, call_fits, stmt_fits, stmts_fit}
-use Rattle.qs_core.proofs.FitLaws.{both, scalars_same}
+use Rattle.qs_core.proofs.FitLaws.{both}
 use Rattle.qs_tac.specs.Trees.{store, copy, fill, call, jump, return, TacFunctionTree, TacUnitTree}
 use Rattle.qs_tac.specs.Fits as tac
 use Rattle.qs_tac.specs.Fits.{is_word}

@@ -1,6 +1,6 @@
 // What an expression gives, where it gives a value.
 ghost use Rattle.std.specs.Prelude.{◌≡◌};
-ghost use Rattle.qs_core.specs.Scalars as scalars;
+ghost use Rattle.qs_memory.specs.Scalars as scalars;
 ghost use Rattle.qs_core.specs.TreeOf.{core_expr};
 ghost use Rattle.qs_lower.specs.Operands as spec;
 

@@ -6,6 +6,7 @@ use Rattle.qs_syntax.specs.Trees.{ParameterTree, FunctionTree, Stmts}
 use Rattle.qs_memory.specs.Partial.{◌>>=◌}
 use Rattle.qs_memory.specs.Values.{width}
 use Rattle.qs_memory.specs.Sizes.{largest_size}
+use Rattle.qs_memory.proofs.ScalarLaws.{same_self}
 use Rattle.qs_memory.specs.declared.scalar.Scalar.{Scalar}
 use Rattle.qs_memory.proofs.Options.{followed}
 use Rattle.qs_calls.specs.declared.callee.Callee.TheVariants.{Function, PutChar, GetChar}
@@ -31,7 +32,7 @@ use Rattle.qs_meaning.specs.Interfaces.{types_of, signature}
 use Rattle.qs_meaning.specs.Fits.{is_size, place_fits, are_small}
 use Rattle.qs_meaning.proofs.Options.{never, nothing, same, went}
 use Rattle.qs_meaning.proofs.TypedExpressions.{unless}
-use Rattle.qs_meaning.proofs.FitConversions.{both, same_self}
+use Rattle.qs_meaning.proofs.FitConversions.{both}
 use Rattle.qs_meaning.proofs.FitTypes.{is_small, SmallTable, size_room, is_least}
 use Rattle.qs_meaning.proofs.FitLeaves.{Places, scalar_signature, EntityFits, AllFit}
 use Rattle.qs_meaning.proofs.FitSmall.{starred_small}

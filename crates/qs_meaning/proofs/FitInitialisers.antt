@@ -6,6 +6,7 @@ use Rattle.qs_syntax.specs.Trees.{ExprTree, InitialiserTree, Initialisers, no_in
 use Rattle.qs_syntax.specs.Trees as trees
 use Rattle.qs_memory.specs.Memory.{blank_cells}
 use Rattle.qs_memory.specs.Sizes.{largest_size}
+use Rattle.qs_memory.proofs.ScalarLaws.{same_as}
 use Rattle.qs_memory.specs.declared.scalar.Scalar.TheVariants as scalars
 use Rattle.qs_memory.proofs.Options.{followed}
 use Rattle.qs_calls.specs.Starts.{Interface}
@@ -32,7 +33,7 @@ use Rattle.qs_meaning.specs.Fits.{lvalue_fits, effect_fits, object_there, is_siz
 use Rattle.qs_meaning.proofs.Options.{never, left, right, nothing, same, all_left, all_right}
 use Rattle.qs_meaning.proofs.CompleteTypes.{fits_takes}
 use Rattle.qs_meaning.proofs.Faultless.{HasTypes, none_left, none_right, unbroken, type_of_known}
-use Rattle.qs_meaning.proofs.FitConversions.{both, same_as}
+use Rattle.qs_meaning.proofs.FitConversions.{both}
 use Rattle.qs_meaning.proofs.FitForms.{Has, address_there, pointer_object, effect_there, null_value}
 use Rattle.qs_meaning.proofs.FitTypes.{is_small, size_room, is_least, array_length}
 use Rattle.qs_meaning.proofs.FitLayouts.{part_fits, blank_size}

@@ -10,6 +10,7 @@ pub mod ValueLaws
 pub mod TypeLaws
 pub mod PointerLaws
 pub mod BlankLaws
+pub mod ScalarLaws
 mod Tables
 mod AccessExamples
 mod OperationExamples

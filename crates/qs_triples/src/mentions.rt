@@ -2,7 +2,7 @@
 ghost use Rattle.std.specs.Prelude.{◌≡◌, IfOk};
 ghost use Rattle.qs_assert.specs.Variables.{variables};
 ghost use Rattle.qs_core.specs.Interfaces as interfaces;
-ghost use Rattle.qs_core.specs.Scalars as scalars;
+ghost use Rattle.qs_memory.specs.Scalars as scalars;
 ghost use Rattle.qs_core.specs.TreeOf.{function_tree, parameter_tree};
 ghost use Rattle.qs_triples.specs.Valuations as valuations;
 ghost use Rattle.qs_triples.specs.Mentions as spec;

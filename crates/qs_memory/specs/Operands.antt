@@ -2,6 +2,7 @@
 use Rattle.std.specs.Prelude.{◌&&◌, Bool, true, false}
 use Rattle.qs_memory.specs.Sizes.{is_element}
 use Rattle.qs_memory.specs.Operations.{integer_type}
+use Rattle.qs_memory.specs.Scalars.{same_scalar, is_integer, is_pointer, is_promoted}
 use Rattle.qs_memory.specs.declared.scalar.Scalar.{Scalar}
 use Rattle.qs_memory.specs.declared.scalar.Scalar.TheVariants as scalars
 use Rattle.qs_memory.specs.declared.operation.Signedness.{Signedness}
@@ -11,7 +12,6 @@ use Rattle.qs_memory.specs.declared.operation.UnaryOperation.{UnaryOperation}
 use Rattle.qs_memory.specs.declared.operation.UnaryOperation.TheVariants as unaries
 use Rattle.qs_memory.specs.declared.operation.BinaryOperation.{BinaryOperation}
 use Rattle.qs_memory.specs.declared.operation.BinaryOperation.TheVariants as binaries
-use Rattle.qs_core.specs.Scalars.{same_scalar, is_integer, is_pointer, is_promoted}
 
 -- 6.5.3.3: any scalar is tested for 0
 abbrev pub unary_takes : UnaryOperation → Scalar → Bool

@@ -9,6 +9,7 @@ pub mod Terms
 pub mod TermTreeOf
 pub mod TermTexts
 pub mod TermLengths
+pub mod FunctionNames
 pub mod Outline
 pub mod Puts
 pub mod TextOf

@@ -7,14 +7,14 @@ use Rattle.std.proofs.lemmas.List.{append_assoc, append-nil}
 use Rattle.std.proofs.lemmas.List.Elements.{filter-append}
 use Rattle.std.proofs.lemmas.List.Folds.{list_any-append}
 use Rattle.qs_assert.specs.Trees.{AssertionTree, infinity, greatest, named, assertions_of}
-use Rattle.qs_core.specs.CallGraph.{called_by, no_call}
+use Rattle.qs_core.specs.CallGraph.{called_by, no_call, is_member}
 use Rattle.qs_core.specs.Fits.{unit_fits}
 use Rattle.qs_core.specs.Trees.{CoreUnitTree}
+use Rattle.qs_core.specs.FunctionNames.{function_name}
 use Rattle.qs_triples.specs.Derivations.{EntryTree, ProofsTree, is_entry_of, entry_of}
 use Rattle.qs_triples.specs.Entries.{has_entry}
 use Rattle.qs_triples.specs.Filled as filled
-use Rattle.qs_triples.specs.Filled.{function_name, open_definition, for_calls, is_useless, pre_in, pre_of, path_pre, HasBoth, AreOpen, Filled}
-use Rattle.qs_callgraph.specs.CallLists.{is_member}
+use Rattle.qs_triples.specs.Filled.{open_definition, for_calls, is_useless, pre_in, pre_of, path_pre, HasBoth, AreOpen, Filled}
 use Rattle.qs_callgraph.specs.Opens.{TellsOpen}
 use Rattle.qs_callgraph.specs.Orders.{CalleesFirst, IsOrder}
 use Rattle.qs_callgraph.proofs.MemberLaws.{member_first, first_cases, member-filter, none_passes}

@@ -3,11 +3,11 @@ use Rattle.std.proofs.Common.{◌≡◌, ℕ, ◌<◌, ◌==◌, ◌||◌, Bool,
 use Rattle.std.specs.List.{list_any}
 use Rattle.std.proofs.lemmas.List.{get_or-replicate, length-replicate}
 use Rattle.std.proofs.lemmas.Bool.{or_right}
-use Rattle.qs_core.specs.CallGraph.{called_by}
+use Rattle.qs_core.specs.CallGraph.{called_by, is_member}
 use Rattle.qs_core.specs.Trees.{CoreUnitTree}
 use Rattle.qs_triples.specs.Derivations.{EntryTree, is_entry_of}
 use Rattle.qs_triples.specs.Entries.{has_entry}
-use Rattle.qs_callgraph.specs.CallLists.{flag, is_member, marked, numbers}
+use Rattle.qs_callgraph.specs.CallLists.{flag, marked, numbers}
 use Rattle.qs_callgraph.specs.Opens.{AreOf}
 use Rattle.qs_callgraph.specs.Orders.{CalleesFirst, DepthFirst, ended, passes, enters, IsDepthFirst, IsOrder, IsTrueCycle}
 use Rattle.qs_callgraph.specs.declared.fault.CycleFault.{CycleFault}

@@ -15,7 +15,7 @@ use Rattle.qs_assert.specs.declared.variable.Var.{Var}
 use Rattle.qs_entail.specs.Certificates.{CertTree}
 use Rattle.qs_entail.specs.Faults as certificates
 use Rattle.qs_entail.specs.Verdicts.{verdict}
-use Rattle.qs_core.specs.CallGraph.{callees, all_callees, callees_of, HasCall}
+use Rattle.qs_core.specs.CallGraph.{callees, all_callees, callees_of, HasCall, is_member}
 use Rattle.qs_core.specs.Fits.{unit_fits}
 use Rattle.qs_core.specs.Trees as core
 use Rattle.qs_core.specs.Trees.{CoreExprTree, CoreStmtTree, CoreStmts, no_stmts, stmt_and, CoreFunctionTree, CoreUnitTree}
@@ -25,7 +25,6 @@ use Rattle.qs_triples.specs.ExpressionTerms.{expression_condition}
 use Rattle.qs_triples.specs.Filled.{Filled}
 use Rattle.qs_triples.specs.Mentions.{in_body, in_pre, in_post, first_other, first_of_destination, first_without_argument, plain_variable, pre_images, post_images, as_plain}
 use Rattle.qs_triples.specs.Rules.{Place, DerivationFault, shape, mentions, certificate, no_spec, entry, bad_order, Answer, fault_below, part, unless, unless_of, by_verdict, certified, Posts, Scope, with_next, replaced, returned_rule, leaf_rule, step_posts, body_posts, either, with_frame, around, at_call, is_balanced, is_consequence, count_stmts, in_precondition, in_postcondition, CallSite, Known, of_sequence, of_branch, of_loop, of_call, of_spec, known_callee, call_rule, balanced_rule, pre, sequence_pre}
-use Rattle.qs_callgraph.specs.CallLists.{is_member}
 use Rattle.qs_callgraph.proofs.MemberLaws.{member_first, member_kept, member_behind}
 use Rattle.qs_callgraph.proofs.UnitCalls.{calls_within}
 use Rattle.qs_analyse.specs.Laws.{CallsMeetSpecs}

@@ -7,8 +7,8 @@ use Rattle.qs_assert.specs.Bounds.{same_name}
 use Rattle.qs_assert.proofs.Same.{name_equal}
 use Rattle.qs_core.specs.Fits.{differ, unit_fits}
 use Rattle.qs_core.specs.Trees.{CoreFunctionTree, CoreUnitTree}
+use Rattle.qs_core.specs.FunctionNames.{function_name, name_in}
 use Rattle.qs_core.proofs.FitLaws.{unit_parts}
-use Rattle.qs_triples.specs.Filled.{function_name, name_in}
 
 name_at : (fs : List CoreFunctionTree) (f : ℕ) → f < length fs → name_in (slice_get fs f) ≡ get_or (map (λ (f : CoreFunctionTree). f.name) fs) f []
 name_at [] f b = absurd (omega (arith, b))

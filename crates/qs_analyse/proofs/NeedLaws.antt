@@ -16,7 +16,7 @@ use Rattle.qs_assert.proofs.Variabled.{listed, assertion_listed}
 use Rattle.std.proofs.lemmas.List.Folds.{list_any-append}
 use Rattle.qs_entail.specs.Meaning.{AtLeast}
 use Rattle.qs_triples.specs.Filled.{for_call, for_calls, has_variables}
-use Rattle.qs_callgraph.specs.CallLists.{is_member}
+use Rattle.qs_core.specs.CallGraph.{is_member}
 use Rattle.qs_callgraph.proofs.MemberLaws.{first_cases, member_first}
 use Rattle.qs_analyse.specs.Needs.{is_variable_head, is_variable_node}
 

@@ -8,12 +8,12 @@ use Rattle.qs_assert.specs.declared.variable.Var.{Var}
 use Rattle.qs_assert.specs.Bounds.{Setting, same_name, with_definition, with_definitions}
 use Rattle.qs_assert.specs.Trees.{AssertionTree, named}
 use Rattle.qs_assert.specs.Values.{State, Extended, or_infinite, value}
-use Rattle.qs_core.specs.CallGraph.{called_by}
+use Rattle.qs_core.specs.CallGraph.{called_by, is_member}
 use Rattle.qs_core.specs.Fits.{unit_fits}
 use Rattle.qs_core.specs.Trees.{CoreUnitTree}
-use Rattle.qs_triples.specs.Filled.{for_calls, function_name, open_definition, CalleesFirst}
+use Rattle.qs_core.specs.FunctionNames.{function_name}
+use Rattle.qs_triples.specs.Filled.{for_calls, open_definition, CalleesFirst}
 use Rattle.qs_triples.specs.Valuations.{state_of}
-use Rattle.qs_callgraph.specs.CallLists.{is_member}
 use Rattle.qs_callgraph.proofs.MemberLaws.{member_first, first_cases}
 use Rattle.qs_analyse.proofs.NameLaws.{same_self, one_name}
 use Rattle.qs_analyse.proofs.NeedLaws.{same_calls}

@@ -3,12 +3,11 @@ use Rattle.std.proofs.Common.{◌≡◌, ℕ, ◌+◌, ◌<◌, ◌≤◌, ◌==
 use Rattle.std.proofs.lemmas.Bool.{both_ways, or_right, cases_lt}
 use Rattle.qs_assert.specs.Trees.{AssertionTree}
 use Rattle.qs_assert.specs.Values.{State, Extended, finite, greater, plus, value}
-use Rattle.qs_core.specs.CallGraph.{called_by, HasCall}
+use Rattle.qs_core.specs.CallGraph.{called_by, HasCall, is_member}
 use Rattle.qs_core.specs.Fits.{unit_fits}
 use Rattle.qs_core.specs.Trees.{CoreUnitTree}
 use Rattle.qs_triples.specs.Filled.{for_call, CalleesFirst}
 use Rattle.qs_triples.specs.Valuations.{state_of, number_at, at_entry}
-use Rattle.qs_callgraph.specs.CallLists.{is_member}
 use Rattle.qs_callgraph.proofs.MemberLaws.{member_first, first_cases}
 use Rattle.qs_callgraph.proofs.UnitCalls.{calls_within, is_listed, is_call}
 use Rattle.qs_analyse.specs.Laws.{OpenNamesAreLongestPaths}

@@ -9,14 +9,14 @@ use Rattle.qs_assert.specs.declared.define.Define.{Define}
 use Rattle.qs_assert.specs.Bounds.{same_name}
 use Rattle.qs_assert.specs.Order.{names_known, all_names_known, is_among, order_fault_behind, IsInOrder}
 use Rattle.qs_assert.specs.Trees.{AssertionTree, assertions_of}
-use Rattle.qs_core.specs.CallGraph.{callees_of, called_by, HasCall, no_call}
+use Rattle.qs_core.specs.CallGraph.{callees_of, called_by, HasCall, no_call, is_member}
 use Rattle.qs_core.specs.Fits.{unit_fits}
 use Rattle.qs_core.specs.Trees.{CoreUnitTree}
+use Rattle.qs_core.specs.FunctionNames.{function_name}
 use Rattle.qs_entail.specs.Faults.{definition}
 use Rattle.qs_triples.specs.Derivations.{EntryTree, ProofsTree, SpecTree, is_entry_of, entry_of, spec_of}
 use Rattle.qs_triples.specs.Entries.{has_entry, IsDerived}
-use Rattle.qs_triples.specs.Filled.{for_call, for_calls, function_name, open_definition, CalleesFirst, Filled}
-use Rattle.qs_callgraph.specs.CallLists.{is_member}
+use Rattle.qs_triples.specs.Filled.{for_call, for_calls, open_definition, CalleesFirst, Filled}
 use Rattle.qs_callgraph.proofs.MemberLaws.{member_first, first_cases}
 use Rattle.qs_callgraph.proofs.UnitCalls.{call_within, calls_within, is_call, is_listed}
 use Rattle.qs_analyse.specs.Fillable.{open_entry}

@@ -10,7 +10,7 @@ use Rattle.qs_assert.specs.declared.variable.Var.{Var}
 use Rattle.qs_assert.specs.Trees.{AssertionTree, infinity}
 use Rattle.qs_assert.specs.Values.{State, Extended, finite, or_infinite, plus, value}
 use Rattle.qs_assert.specs.Variables.{variables}
-use Rattle.qs_core.specs.CallGraph.{called_by, HasCall, IsOpen, first_call}
+use Rattle.qs_core.specs.CallGraph.{called_by, HasCall, IsOpen, first_call, is_member}
 use Rattle.qs_core.specs.Fits.{unit_fits}
 use Rattle.qs_core.specs.Trees.{CoreFunctionTree, CoreUnitTree}
 use Rattle.qs_entail.specs.Meaning.{AtLeast}
@@ -19,7 +19,6 @@ use Rattle.qs_triples.specs.Entries.{IsPathEntry, PaysFor, has_entry}
 use Rattle.qs_triples.specs.Filled.{for_calls, has_variables, is_infinity, is_useless, pre_in, pre_of, HasBoth, Filled}
 use Rattle.qs_triples.specs.Valuations.{state_of, number_at, at_entry}
 use Rattle.qs_triples.proofs.FunctionLaws.{entry_is_of}
-use Rattle.qs_callgraph.specs.CallLists.{is_member}
 use Rattle.qs_callgraph.proofs.MemberLaws.{none_passes}
 use Rattle.qs_callgraph.proofs.UnitCalls.{calls_within, is_listed}
 use Rattle.qs_analyse.specs.Laws.{FilledEntriesAreValid}

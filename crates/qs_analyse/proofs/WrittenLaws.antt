@@ -15,7 +15,7 @@ use Rattle.qs_assert.specs.declared.variable.VarKind.TheVariants as kinds
 use Rattle.qs_assert.specs.Order.{IsInOrder}
 use Rattle.qs_assert.specs.Trees.{TermTree, AssertionTree, cost, total, greatest, AssertionTrees, no_assertions, assertion_and, assertions_of}
 use Rattle.qs_assert.proofs.Same.{assertion_self}
-use Rattle.qs_core.specs.CallGraph.{callee, callees, all_callees, called_by}
+use Rattle.qs_core.specs.CallGraph.{callee, callees, all_callees, called_by, is_member}
 use Rattle.qs_core.specs.Trees as core
 use Rattle.qs_core.specs.Trees.{CoreExprTree, CoreStmtTree, CoreStmts, no_stmts, stmt_and, stmts_of, CoreFunctionTree, CoreUnitTree}
 use Rattle.qs_entail.specs.declared.fault.Rule.TheVariants as rules
@@ -31,10 +31,10 @@ use Rattle.qs_triples.specs.ExpressionTerms.{var, expression_term, expression_co
 use Rattle.qs_triples.specs.Mentions.{first_of, as_plain}
 use Rattle.qs_assert.specs.Images.{assertion_image}
 use Rattle.qs_core.specs.Expressions.{type_of}
-use Rattle.qs_triples.specs.Filled.{for_call, for_calls, function_name}
+use Rattle.qs_core.specs.FunctionNames.{function_name}
+use Rattle.qs_triples.specs.Filled.{for_call, for_calls}
 use Rattle.qs_triples.specs.TreeOf.{derivations_of}
 use Rattle.qs_triples.specs.Rules.{Answer, Scope, Posts, CallSite, DerivationFault, body_posts, with_next, target_kind, replaced, by_condition, either, part, certified, by_verdict, known_callee, of_spec, balanced_rule, count_stmts, pre, sequence_pre, shape, in_postcondition}
-use Rattle.qs_callgraph.specs.CallLists.{is_member}
 use Rattle.qs_callgraph.proofs.MemberLaws.{first_cases, member_first}
 use Rattle.qs_analyse.specs.Fillable.{body_in, open_entry}
 use Rattle.qs_analyse.specs.Written.{each_written, place_of, pick_certificate, call_certificate, written_call, written, all_written}

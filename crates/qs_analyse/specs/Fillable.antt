@@ -10,11 +10,12 @@ use Rattle.qs_core.specs.CallGraph.{called_by}
 use Rattle.qs_core.specs.Fits.{differ}
 use Rattle.qs_core.specs.Trees.{CoreStmts, no_stmts, CoreFunctionTree, CoreUnitTree}
 use Rattle.qs_core.specs.UnitTrees.{unit_tree}
+use Rattle.qs_core.specs.FunctionNames.{function_name}
 use Rattle.qs_core.specs.declared.unit.CoreUnit.{CoreUnit}
 use Rattle.qs_entail.specs.Certificates.{same}
 use Rattle.qs_triples.specs.Derivations.{leaf, sequence, EntryTree, ProofsTree, entry_of}
 use Rattle.qs_triples.specs.Entries.{AreClosed, has_entry}
-use Rattle.qs_triples.specs.Filled.{function_name, open_definition, path_pre}
+use Rattle.qs_triples.specs.Filled.{open_definition, path_pre}
 use Rattle.qs_triples.specs.TreeOf.{entry_tree, proofs_tree}
 use Rattle.qs_triples.specs.declared.derivation.FunctionProof.{FunctionProof}
 use Rattle.qs_triples.specs.declared.derivation.Proofs.{Proofs}

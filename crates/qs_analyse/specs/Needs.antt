@@ -11,8 +11,9 @@ use Rattle.qs_assert.specs.declared.node.Node.{Node}
 use Rattle.qs_assert.specs.declared.node.Node.TheVariants.{Term, Condition, Assertion}
 use Rattle.qs_assert.specs.Trees.{AssertionTree, natural, cost, total, greatest, named, assertions_of}
 use Rattle.qs_core.specs.Trees.{CoreUnitTree}
+use Rattle.qs_core.specs.FunctionNames.{function_name}
 use Rattle.qs_triples.specs.Derivations.{EntryTree, ProofsTree, entry_of}
-use Rattle.qs_triples.specs.Filled.{for_call, function_name, is_useless, pre_of}
+use Rattle.qs_triples.specs.Filled.{for_call, is_useless, pre_of}
 use Rattle.qs_triples.specs.declared.derivation.FunctionProof.{FunctionProof}
 use Rattle.qs_callgraph.specs.CallLists.{numbers}
 use Rattle.qs_analyse.specs.Fillable.{proofs_of}

@@ -2,25 +2,18 @@
 ghost use Rattle.std.specs.Prelude.{◌≡◌, ◌<◌, ◌++◌, ◌∷◌, [], IfOk, OnOk, length};
 ghost use Rattle.qs_assert.specs.Trees as trees;
 ghost use Rattle.qs_core.specs.UnitTrees.{unit_tree};
-ghost use Rattle.qs_triples.specs.Filled.{function_name, open_definition};
+ghost use Rattle.qs_core.specs.FunctionNames.{function_name};
+ghost use Rattle.qs_triples.specs.Filled.{open_definition};
 ghost use Rattle.qs_callgraph.specs.CallLists.{AreBelow, numbers};
 ghost use Rattle.qs_analyse.specs.Fillable.{with_definitions};
 ghost use Rattle.qs_analyse.specs.Needs.{GivesItems, named_calls};
 
 use crate::needs::{call_part, greatest, put_part};
 use qs_assert::{Assertion, Define};
-use qs_base::{FnId, Name, NoMemory};
+use qs_base::{FnId, NoMemory};
 use qs_callgraph::called_by;
-use qs_core::CoreUnit;
+use qs_core::{CoreUnit, name_of};
 use std::alloc::Global;
-
-/// The name of a function.
-pub fn name_of(alloc: Global, unit: &CoreUnit, f: FnId) -> Result<Name, NoMemory>
-    requires { f.0 < length unit.now.functions.items }
-    ensures { IfOk result (λ name. name ≡ function_name (unit_tree unit.now) f.0) }
-{
-    unit.functions[f.0 as usize].name.copy(alloc)
-}
 
 // The name of a function as what it needs.
 fn named(alloc: Global, unit: &CoreUnit, f: FnId) -> Result<Assertion, NoMemory>

@@ -10,6 +10,7 @@ use Rattle.qs_asm.specs.Counting.{reached_words}
 use Rattle.qs_core.specs.Trees.{CoreFunctionTree, CoreParameterTree, CoreUnitTree}
 use Rattle.qs_core.specs.Units.{initial_memory}
 use Rattle.qs_core.specs.Fits.{unit_fits}
+use Rattle.qs_core.specs.Interfaces.{types_of_main, main_types}
 use Rattle.qs_core.proofs.FitLaws.{function_at_fits}
 use Rattle.qs_isa.specs.Addresses.{code_start}
 use Rattle.qs_image.specs.Image.{Image, FunctionRecord, IsWellFormed}
@@ -19,10 +20,12 @@ use Rattle.qs_lower.specs.Threads.{threaded_function}
 use Rattle.qs_lower.specs.Units.{straight_function}
 use Rattle.qs_lower.proofs.UnitFits.{types_count, function_there}
 use Rattle.qs_select.specs.Limits.{first_fault}
-use Rattle.qs_emit.specs.Relation.{data_address, data_end, function_at}
-use Rattle.qs_emit.specs.Images.{items_of, IsWithinLimits}
+use Rattle.qs_select.specs.Data.{data_address}
+use Rattle.qs_select.specs.Units.{selected}
+use Rattle.qs_emit.specs.Relation.{data_end, function_at}
+use Rattle.qs_emit.specs.Images.{IsWithinLimits}
 use Rattle.qs_emit.proofs.DataBytes.{data_length}
-use Rattle.qs_build.specs.Units.{linear, own_slots, types_of_main, main_types, set_of, IsWithinSizes, MainReturns}
+use Rattle.qs_build.specs.Units.{linear, own_slots, set_of, IsWithinSizes, MainReturns}
 use Rattle.qs_build.specs.Built.{IsBuiltFrom}
 use Rattle.qs_build.specs.Agrees.{DoesAsCore}
 use Rattle.qs_build.specs.Parts.{AreParts}
@@ -132,7 +135,7 @@ module _ (u : CoreUnitTree) (image : Image) (m : IsMade u image) where
 -- ---- where there is none
 
 -- code that is too long is the unit's
-pub code_passes : (u : CoreUnitTree) (items : List Item) (fault : BuildFault) → items ≡ items_of (linear u) (own_slots (linear u)) → IsCodeFault items fault → Passes u fault
+pub code_passes : (u : CoreUnitTree) (items : List Item) (fault : BuildFault) → items ≡ selected (linear u) (own_slots (linear u)) → IsCodeFault items fault → Passes u fault
 code_passes u items NoMemory is h = tt
 code_passes u items CodeTooLong is h = subst (λ (l : List Item). reached_words ≤ sum_by item_words l) is h
 code_passes u items TooManyFunctions is h = absurd h

@@ -6,12 +6,12 @@ use Rattle.std.proofs.Math.Seq.{drop-cons}
 use Rattle.std.proofs.lemmas.List.{length-map, length-replicate, map-append}
 use Rattle.qs_memory.specs.Values.{null}
 use Rattle.qs_memory.specs.Memory.{Cell, unset, byte, parts_of, Memory, cells_from, BlankTree, zeros, nulls, repeated, nothing, joined, times, blank_cells}
+use Rattle.qs_memory.specs.Sizes.{blank_size}
+use Rattle.qs_memory.proofs.BlankLaws.{blank_length}
 use Rattle.qs_core.specs.Trees.{PieceTree, blank, bytes, pointer, DataBlockTree}
 use Rattle.qs_core.specs.declared.units.DataBlock.{DataBlock}
 use Rattle.qs_core.specs.TreeOf.{data_block_tree}
 use Rattle.qs_core.specs.Units.{piece_cells, cells_of_pieces, data_block}
-use Rattle.qs_core.specs.Operands.{blank_size}
-use Rattle.qs_lower.proofs.DataLaws.{blank_length}
 use Rattle.qs_image.specs.Image.{word_bytes}
 use Rattle.qs_frames.specs.Layout.{rounded}
 use Rattle.qs_frames.proofs.FrameLaws.{is_rounded}

@@ -12,6 +12,8 @@ use Rattle.qs_memory.proofs.Options.{some_same}
 use Rattle.qs_memory.specs.Values.{Value, integer, address, has_type}
 use Rattle.qs_memory.specs.Memory.{Memory}
 use Rattle.qs_memory.specs.Soundness.{IsLive}
+use Rattle.qs_memory.specs.Scalars.{is_type, is_promoted}
+use Rattle.qs_memory.proofs.ScalarLaws.{type_is}
 use Rattle.qs_memory.specs.declared.scalar.Scalar.{Scalar}
 use Rattle.qs_memory.specs.declared.scalar.Scalar.TheVariants as scalars
 use Rattle.qs_events.specs.Runs.{Left, has_ended, ending_of}
@@ -20,11 +22,10 @@ use Rattle.qs_calls.specs.declared.callee.Callee.{Callee}
 use Rattle.qs_calls.specs.declared.callee.Callee.TheVariants.{Function, PutChar, GetChar}
 use Rattle.qs_core.specs.Trees.{CoreFunctionTree, CoreParameterTree, DataBlockTree, CoreUnitTree}
 use Rattle.qs_core.specs.Units.{data_block, initial_memory, main_run}
-use Rattle.qs_core.specs.Scalars.{is_type, is_promoted}
-use Rattle.qs_core.specs.Interfaces.{parameter_types, signature, interface_of}
+use Rattle.qs_core.specs.Interfaces.{parameter_types, signature, interface_of, types_of_main, main_types}
 use Rattle.qs_core.specs.Ranges.{result_type_at}
 use Rattle.qs_core.specs.Fits as core
-use Rattle.qs_core.proofs.FitLaws.{both, all_at, type_is, unit_parts}
+use Rattle.qs_core.proofs.FitLaws.{both, all_at, unit_parts}
 use Rattle.qs_core.proofs.InitialLaws.{initial_memory_is_ready}
 use Rattle.qs_core.proofs.RangeLaws.{runs_leave_sound}
 use Rattle.qs_tac.specs.Trees.{InstructionTree, call, TacFunctionTree, TacUnitTree}
@@ -34,10 +35,11 @@ use Rattle.qs_tac.specs.declared.operands.Operand.{Operand}
 use Rattle.qs_lower.specs.Threads.{threaded_function}
 use Rattle.qs_lower.specs.Units.{straight_function, lower_data}
 use Rattle.qs_lower.proofs.UnitFits.{lowered_fits}
-use Rattle.qs_emit.specs.Relation.{no_function, function_at, IsShortCall, IsEmittable}
+use Rattle.qs_select.specs.Laws.{HasFewArguments}
+use Rattle.qs_emit.specs.Relation.{no_function, function_at, IsEmittable}
 use Rattle.qs_emit.specs.Images.{data_of, IsFirstMemory}
 use Rattle.qs_emit.specs.Emitted.{IsInteger}
-use Rattle.qs_build.specs.Units.{linear, own_slots, types_of_main, main_types, IsWithinSizes, start_of, MainReturns}
+use Rattle.qs_build.specs.Units.{linear, own_slots, IsWithinSizes, start_of, MainReturns}
 
 -- ---- functions of linear code
 
@@ -182,7 +184,7 @@ module _ (u : CoreUnitTree) (fits : core.unit_fits u ≡ true) where
     passed_few PutChar os h = grind (arith, nat_tests, h)
     passed_few GetChar os h = grind (arith, nat_tests, h)
 
-    calls_short : (f : ℕ) (g : TacFunctionTree) → slice_get t.functions f ≡ Some g → (k : ℕ) (i : InstructionTree) → slice_get g.code k ≡ Some i → IsShortCall i
+    calls_short : (f : ℕ) (g : TacFunctionTree) → slice_get t.functions f ≡ Some g → (k : ℕ) (i : InstructionTree) → slice_get g.code k ≡ Some i → HasFewArguments i
     calls_short f g is k i at x to os same =
         let function = all_at (function_fits t) t.functions f g functions_fit is in
         let code = (both _ (list_all (instruction_fits t g) g.code) function).1 in
@@ -190,10 +192,10 @@ module _ (u : CoreUnitTree) (fits : core.unit_fits u ≡ true) where
         let call_fits : instruction_fits t g (call x to os) ≡ true = ap (instruction_fits t g) (sym same) ∙ here in
         passed_few to os (both (taken_fits g x) (callee_fits t to os) (both _ (list_all (operand_fits t g) os) call_fits).0).1
 
-    few_arguments : (f k : ℕ) (i : InstructionTree) → slice_get (function_at t f).code k ≡ Some i → IsShortCall i
+    few_arguments : (f k : ℕ) (i : InstructionTree) → slice_get (function_at t f).code k ≡ Some i → HasFewArguments i
     few_arguments f k i at = by (found_or_none t.functions f)
       where
-        by : (slice_get t.functions f ≡ Some (function_at t f)) ⊎ (function_at t f ≡ no_function) → IsShortCall i
+        by : (slice_get t.functions f ≡ Some (function_at t f)) ⊎ (function_at t f ≡ no_function) → HasFewArguments i
         by (inl is) = calls_short f (function_at t f) is k i at
         by (inr none) = let nothing : None ≡ Some i = sym (ap (λ (x : TacFunctionTree). slice_get x.code k) none) ∙ at in cc
 

@@ -30,12 +30,13 @@ use Rattle.qs_lower.proofs.UnitWords.{lowered_sizes_are_kept}
 use Rattle.qs_lower.proofs.UnitFits.{lowered_fits, function_there}
 use Rattle.qs_frames.specs.Layout.{total, layout, largest_frame}
 use Rattle.qs_frames.proofs.FrameLaws.{frames_are_laid_out, no_more_is_kept}
-use Rattle.qs_select.specs.Data.{data_sizes}
+use Rattle.qs_select.specs.Data.{data_sizes, data_address}
 use Rattle.qs_select.specs.Limits.{most_arguments, passes_few, has_few, place_fits, places_fit, frame_fits, largest_data, data_fit, function_fault, functions_fault}
+use Rattle.qs_select.specs.Laws.{HasFewArguments}
 use Rattle.qs_select.specs.declared.fault.SelectionFault.{SelectionFault}
 use Rattle.qs_select.specs.declared.fault.SelectionFault.TheVariants as selection
 use Rattle.qs_select.proofs.Sizes.{units_keep_words}
-use Rattle.qs_emit.specs.Relation.{data_address, function_at, IsShortCall}
+use Rattle.qs_emit.specs.Relation.{function_at}
 use Rattle.qs_build.specs.Units.{linear, own_slots, most_parameters}
 use Rattle.qs_build.specs.Limits.{code_words, selection_fault, Passes}
 use Rattle.qs_build.specs.Small.{most_block_bytes, most_values, IsSmall, SmallUnitsPassNoSize}
@@ -58,7 +59,7 @@ within n m h = grind (arith, nat_tests, h)
 
 -- ---- one function
 
-short_passes : (i : InstructionTree) → IsShortCall i → passes_few i ≡ true
+short_passes : (i : InstructionTree) → HasFewArguments i → passes_few i ≡ true
 short_passes (move x o) h = refl
 short_passes (unary op x o) h = refl
 short_passes (binary op x o p) h = refl
@@ -73,7 +74,7 @@ short_passes (jump to) h = refl
 short_passes (branch c to) h = refl
 short_passes (return o) h = refl
 
-all_pass : (code : List InstructionTree) → ((k : ℕ) (i : InstructionTree) → slice_get code k ≡ Some i → IsShortCall i) → list_all passes_few code ≡ true
+all_pass : (code : List InstructionTree) → ((k : ℕ) (i : InstructionTree) → slice_get code k ≡ Some i → HasFewArguments i) → list_all passes_few code ≡ true
 all_pass [] h = refl
 all_pass (i ∷ code) h =
     both_true (passes_few i) (list_all passes_few code) (short_passes i (h 0 i refl)) (all_pass code (λ k j is. h (suc k) j is))
@@ -156,7 +157,7 @@ module _ (u : CoreUnitTree) (fits : unit_fits u ≡ true) (small : IsSmall u) wh
   functions_fit : list_all (function_fits t) t.functions ≡ true
   functions_fit = (both (list_all (function_fits t) t.functions) _ (both _ (list_all data_fits t.data_blocks) linear_fits).0).0
 
-  calls_short : (f : ℕ) (g : TacFunctionTree) → slice_get t.functions f ≡ Some g → (k : ℕ) (i : InstructionTree) → slice_get g.code k ≡ Some i → IsShortCall i
+  calls_short : (f : ℕ) (g : TacFunctionTree) → slice_get t.functions f ≡ Some g → (k : ℕ) (i : InstructionTree) → slice_get g.code k ≡ Some i → HasFewArguments i
   calls_short f g is k i at x to os same =
       let function = all_at (function_fits t) t.functions f g functions_fit is in
       let code = (both _ (list_all (instruction_fits t g) g.code) function).1 in
@@ -179,7 +180,7 @@ module _ (u : CoreUnitTree) (fits : unit_fits u ≡ true) (small : IsSmall u) wh
       (slots_fit 0 (lowered_function c).temporaries)
       (frame_is_small (lowered_function c) (subst (λ (l : List ℕ). total l ≤ most_block_bytes) (sym sizes.blocks) blocks) (omega (arith, less, values)))
     where
-      code_short : (i : ℕ) (c : CoreFunctionTree) → slice_get t.functions i ≡ Some (lowered_function c) → (k : ℕ) (j : InstructionTree) → slice_get (lowered_function c).code k ≡ Some j → IsShortCall j
+      code_short : (i : ℕ) (c : CoreFunctionTree) → slice_get t.functions i ≡ Some (lowered_function c) → (k : ℕ) (j : InstructionTree) → slice_get (lowered_function c).code k ≡ Some j → HasFewArguments j
       code_short i c there k j at = calls_short i (lowered_function c) there k j at
 
   functions_are_none : (i : ℕ) (g : TacFunctionTree) → slice_get t.functions i ≡ Some g → function_fault g (slice_index_or (own_slots t) (0 + i) no_places) ≡ None

@@ -6,13 +6,13 @@ use Rattle.std.proofs.lemmas.Bool.Decides.{nat_tests}
 use Rattle.std.proofs.Math.Nat.{pow-le-pow_right}
 use Rattle.std.proofs.lemmas.List.{length-drop}
 use Rattle.std.proofs.lemmas.Nat.{shr-shr, pow-add}
+use Rattle.qs_memory.specs.Scalars.{same_scalar, is_type}
 use Rattle.qs_memory.specs.declared.scalar.Scalar.{Scalar}
 use Rattle.qs_memory.specs.declared.scalar.Scalar.TheVariants as scalars
 use Rattle.qs_core.specs.declared.units.CoreParameter.{CoreParameter}
 use Rattle.qs_core.specs.declared.units.CoreVariable.{CoreVariable}
 use Rattle.qs_core.specs.TreeOf.{parameter_tree, variable_tree}
 use Rattle.qs_core.specs.Interfaces.{types_of}
-use Rattle.qs_core.specs.Scalars.{same_scalar, is_type}
 use Rattle.qs_build.specs.Units.{set_of}
 
 abbrev bit : Bool → ℕ

@@ -8,11 +8,11 @@ use Rattle.std.proofs.lemmas.List.Elements.{All-from_get_or}
 use Rattle.std.proofs.lemmas.Option.{slice_get-map, slice_get-get_or, slice_get_within, get_or_from_slice_get}
 use Rattle.std.proofs.lemmas.Slice.Eq.{bytes_eq-Decides}
 use Rattle.qs_base.specs.Names.{is_name}
+use Rattle.qs_memory.specs.Scalars.{is_type}
 use Rattle.qs_memory.proofs.Options.{some_same}
 use Rattle.qs_core.specs.Trees.{CoreFunctionTree, CoreUnitTree}
 use Rattle.qs_core.specs.Units.{initial_memory}
 use Rattle.qs_core.specs.Fits.{differ, main_name, is_main, unit_fits}
-use Rattle.qs_core.specs.Scalars.{is_type}
 use Rattle.qs_core.proofs.FitLaws.{both, function_at_fits, unit_parts}
 use Rattle.qs_isa.specs.Addresses.{code_start}
 use Rattle.qs_asm.specs.Assembly.{label_offset}
@@ -22,10 +22,12 @@ use Rattle.qs_tac.specs.Places.{PlacesTree}
 use Rattle.qs_frames.specs.Layout.{total, kept}
 use Rattle.qs_frames.proofs.FrameLaws.{is_cost}
 use Rattle.qs_select.specs.Emission.{first_label, enter}
+use Rattle.qs_select.specs.Data.{data_address}
+use Rattle.qs_select.specs.Units.{selected}
 use Rattle.qs_emit.specs.Machine.{instruction_at}
 use Rattle.qs_emit.specs.Surroundings.{Surroundings}
-use Rattle.qs_emit.specs.Relation.{Setup, data_address, context, entry, place, cost_at, context_at}
-use Rattle.qs_emit.specs.Images.{items_of, record_at, no_record, IsWithinLimits}
+use Rattle.qs_emit.specs.Relation.{Setup, context, entry, place, cost_at, context_at}
+use Rattle.qs_emit.specs.Images.{record_at, no_record, IsWithinLimits}
 use Rattle.qs_emit.specs.Emitted.{AreSurroundings}
 use Rattle.qs_emit.proofs.Beginning.{quiet_room}
 use Rattle.qs_emit.proofs.SetUp.{set_up}
@@ -151,7 +153,7 @@ module _ (u : CoreUnitTree) (image : Image) (fits : unit_fits u ≡ true) (sizes
       let low = has.place_low 0 (omega arith) in
       let aligned = has.entry_aligned in
       let is = built.code.addresses f lt in
-      let offset = unwrap_or (label_offset (items_of t ps) (first_label t.functions f)) 0 in
+      let offset = unwrap_or (label_offset (selected t ps) (first_label t.functions f)) 0 in
       record { k = offset / 4; below = omega (arith, end, some, low); at = omega (arith, is, aligned) }
 
   -- ---- records

@@ -1,7 +1,7 @@
 -- The bytes of what a block of data begins with.
 use Rattle.std.specs.Prelude.{ℕ, ◌+◌, ◌%◌, ◌^◌, List, [], ◌∷◌, ◌++◌, replicate}
 use Rattle.qs_core.specs.Trees.{PieceTree, blank, bytes, pointer}
-use Rattle.qs_core.specs.Operands.{blank_size}
+use Rattle.qs_memory.specs.Sizes.{blank_size}
 use Rattle.qs_image.specs.Image.{word_bytes}
 
 -- a pointer is the word of its target's address

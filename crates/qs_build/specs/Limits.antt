@@ -5,9 +5,9 @@ use Rattle.qs_asm.specs.Counting.{reached_words}
 use Rattle.qs_core.specs.Trees.{CoreFunctionTree, CoreUnitTree}
 pub use Rattle.qs_image.specs.Limits.{most_functions, most_name_bytes}
 use Rattle.qs_select.specs.Limits.{first_fault}
+use Rattle.qs_select.specs.Units.{selected}
 use Rattle.qs_select.specs.declared.fault.SelectionFault.{SelectionFault}
 use Rattle.qs_select.specs.declared.fault.SelectionFault.TheVariants as selection
-use Rattle.qs_emit.specs.Images.{items_of}
 use Rattle.qs_build.specs.Units.{linear, own_slots}
 use Rattle.qs_build.specs.declared.fault.BuildFault.{BuildFault}
 use Rattle.qs_build.specs.declared.fault.BuildFault.TheVariants.{NoMemory, TooManyFunctions, NamesTooLong, TooManyParameters, FrameTooLarge, DataTooLarge, CodeTooLong}
@@ -27,7 +27,7 @@ abbrev pub HasShortNames : CoreUnitTree → Type 0
 HasShortNames u = name_bytes u ≤ most_name_bytes
 
 abbrev pub code_words : CoreUnitTree → ℕ
-code_words u = sum_by item_words (items_of (linear u) (own_slots (linear u)))
+code_words u = sum_by item_words (selected (linear u) (own_slots (linear u)))
 
 -- why no code is selected for it
 abbrev pub selection_fault : CoreUnitTree → Option SelectionFault

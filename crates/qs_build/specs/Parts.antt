@@ -8,8 +8,9 @@ use Rattle.qs_image.specs.Image.{FunctionRecord}
 use Rattle.qs_tac.specs.Trees.{TacUnitTree}
 use Rattle.qs_tac.specs.Places.{PlacesTree}
 use Rattle.qs_select.specs.Limits.{first_fault}
-use Rattle.qs_emit.specs.Relation.{data_address}
-use Rattle.qs_emit.specs.Images.{items_of, data_bytes}
+use Rattle.qs_select.specs.Data.{data_address}
+use Rattle.qs_select.specs.Units.{selected}
+use Rattle.qs_emit.specs.Images.{data_bytes}
 use Rattle.qs_build.specs.Units.{linear, own_slots}
 use Rattle.qs_build.specs.Records.{HaveRecords}
 use Rattle.qs_build.specs.Limits.{HasFewFunctions, HasShortNames}
@@ -20,8 +21,8 @@ pub record AreParts (u : CoreUnitTree) (t : TacUnitTree) (ps : List PlacesTree) 
   pub few : HasFewFunctions u
   pub short : HasShortNames u
   pub free : first_fault t ps ≡ None
-  pub records : HaveRecords u.functions t.functions ps (items_of t ps) functions
-  pub assembly : IsAssembly (items_of t ps) code
+  pub records : HaveRecords u.functions t.functions ps (selected t ps) functions
+  pub assembly : IsAssembly (selected t ps) code
   pub reached : length code ≤ reached_words
   pub words : All (λ word. word < 2 ^ 32) code
   pub octets : bytes ≡ data_bytes (data_address t.data_blocks) (initial_memory u)

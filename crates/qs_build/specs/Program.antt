@@ -23,7 +23,7 @@ use Rattle.qs_frames.specs.declared.blocks.Starts.{Starts}
 use Rattle.qs_frames.specs.Starts.{start_of}
 use Rattle.qs_image.specs.Image.{FunctionRecord}
 use Rattle.qs_emit.specs.Images.{data_bytes}
-use Rattle.qs_emit.specs.Relation.{data_address}
+use Rattle.qs_select.specs.Data.{data_address}
 use Rattle.qs_build.specs.Bytes.{piece_bytes, pieces_bytes}
 use Rattle.qs_build.specs.Records.{AreAddresses, FramesFit, AreFrameCosts, AreRecords, HaveRecords}
 

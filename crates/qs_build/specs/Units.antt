@@ -1,17 +1,16 @@
 -- What an image of a unit of core is made of: the unit's linear code, the places of its values, and main's parameters.
-use Rattle.std.specs.Prelude.{◌≡◌, ◌≢◌, ℕ, ◌+◌, ◌*◌, ◌<◌, ◌≤◌, if◌then◌else◌, List, [], ◌∷◌, length, map, All, Option, Some, None}
-use Rattle.std.specs.List.{slice_get}
+use Rattle.std.specs.Prelude.{◌≡◌, ◌≢◌, ℕ, ◌+◌, ◌*◌, ◌<◌, ◌≤◌, if◌then◌else◌, List, [], ◌∷◌, length, map, All, None}
 use Rattle.qs_memory.specs.Values.{Value}
 use Rattle.qs_memory.specs.Memory.{Memory}
+use Rattle.qs_memory.specs.Scalars.{same_scalar}
 use Rattle.qs_memory.specs.declared.scalar.Scalar.{Scalar}
 use Rattle.qs_memory.specs.declared.scalar.Scalar.TheVariants as scalars
 use Rattle.qs_events.specs.Runs.{Left, has_ended, ending_of}
 use Rattle.qs_calls.specs.World.{World}
 use Rattle.qs_calls.specs.Starts.{MayStart}
-use Rattle.qs_core.specs.Trees.{CoreFunctionTree, CoreUnitTree}
+use Rattle.qs_core.specs.Trees.{CoreUnitTree}
 use Rattle.qs_core.specs.Units.{initial_memory, main_run}
-use Rattle.qs_core.specs.Scalars.{same_scalar}
-use Rattle.qs_core.specs.Interfaces.{parameter_types, interface_of}
+use Rattle.qs_core.specs.Interfaces.{interface_of}
 use Rattle.qs_tac.specs.Trees.{TacUnitTree}
 use Rattle.qs_tac.specs.Places.{PlacesTree, all_slots}
 use Rattle.qs_lower.specs.Units.{lower_unit}
@@ -28,15 +27,7 @@ linear u = lower_unit u
 abbrev pub own_slots : TacUnitTree → List PlacesTree
 own_slots t = map all_slots t.functions
 
-abbrev pub types_of_main : Option CoreFunctionTree → List Scalar
-types_of_main None = []
-types_of_main (Some f) = parameter_types f
-
--- the types of main's parameters
-abbrev pub main_types : CoreUnitTree → List Scalar
-main_types u = types_of_main (slice_get u.functions u.main)
-
--- the `unsigned` among them, as bits from the lowest on
+-- the `unsigned` among main's parameters, as bits from the lowest on
 abbrev pub set_of : List Scalar → ℕ
 set_of [] = 0
 set_of (s ∷ types) = (if same_scalar s scalars.Unsigned then 1 else 0) + 2 * set_of types

@@ -2,6 +2,7 @@
 ghost use Rattle.std.specs.Prelude.{◌≡◌, ◌<◌, ◌≤◌, ◌^◌, All, IfOk, IfErr, length, nat_le, true};
 ghost use Rattle.qs_core.specs.UnitTrees as core;
 ghost use Rattle.qs_core.specs.TreeOf.{function_trees};
+ghost use Rattle.qs_core.specs.Interfaces.{main_types};
 ghost use Rattle.qs_tac.specs.UnitTrees as tac;
 ghost use Rattle.qs_tac.specs.Places.{places_trees};
 ghost use Rattle.qs_asm.specs.Assembly.{IsAssembly};
@@ -9,7 +10,7 @@ ghost use Rattle.qs_asm.specs.Counting.{reached_words};
 ghost use Rattle.qs_image.specs.Limits.{most_name_bytes};
 ghost use Rattle.qs_select.specs.Limits.{data_fit};
 ghost use Rattle.qs_emit.specs.Images.{IsWithinLimits};
-ghost use Rattle.qs_build.specs.Units.{main_types, IsWithinSizes};
+ghost use Rattle.qs_build.specs.Units.{IsWithinSizes};
 ghost use Rattle.qs_build.specs.Parts.{ArePartsOf};
 ghost use Rattle.qs_build.specs.Records.{FramesFit};
 ghost use Rattle.qs_build.specs.Program as program;

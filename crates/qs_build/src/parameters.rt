@@ -2,7 +2,7 @@
 ghost use Rattle.std.specs.Prelude.{◌≡◌, ◌≤◌, ◌<◌, ◌^◌, length, IfOk, if◌then◌else◌};
 ghost use Rattle.qs_core.specs.TreeOf.{function_tree};
 ghost use Rattle.qs_core.specs.Interfaces.{parameter_types};
-ghost use Rattle.qs_core.specs.Scalars.{same_scalar};
+ghost use Rattle.qs_memory.specs.Scalars.{same_scalar};
 ghost use Rattle.qs_memory.specs.declared.scalar.Scalar.TheVariants as scalars;
 ghost use Rattle.qs_build.specs.Units.{set_of};
 

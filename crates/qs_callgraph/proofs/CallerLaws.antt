@@ -5,7 +5,8 @@ use Rattle.std.specs.declared.vec.Vec.{Vec}
 use Rattle.std.proofs.lemmas.Bool.{both_ways, eq-eqb, ne_eqb, cases_eq, cases_lt, lt-ltb, le-ltb}
 use Rattle.std.proofs.lemmas.List.{get_or-set_same, get_or-set_other, length-set, map-set, get_or-map}
 use Rattle.qs_base.specs.declared.function.FnId.{FnId}
-use Rattle.qs_callgraph.specs.CallLists.{callees_in, is_member, numbers_in, number_lists}
+use Rattle.qs_core.specs.CallGraph.{is_member}
+use Rattle.qs_callgraph.specs.CallLists.{callees_in, numbers_in, number_lists}
 use Rattle.qs_callgraph.specs.Opens.{with_caller}
 use Rattle.qs_callgraph.proofs.MemberLaws.{member-push}
 

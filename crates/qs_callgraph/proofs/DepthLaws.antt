@@ -2,8 +2,7 @@
 use Rattle.std.proofs.Common.{◌≡◌, ℕ, ◌+◌, ◌<◌, ◌≤◌, ◌||◌, Bool, true, false, List, [], ◌∷◌, ◌++◌, length, drop, get_or, set, refl, sym, ap, ◌∙◌, subst, arith, add-one}
 use Rattle.std.proofs.lemmas.Bool.{both_ways, or_right, or_from}
 use Rattle.std.proofs.lemmas.List.{get_or-set_same, get_or-set_other, length_push, same_from_push, drop_more, drop_all}
-use Rattle.qs_core.specs.CallGraph.{below}
-use Rattle.qs_callgraph.specs.CallLists.{is_member}
+use Rattle.qs_core.specs.CallGraph.{below, is_member}
 use Rattle.qs_callgraph.specs.Laws.{OneDepthFirst}
 use Rattle.qs_callgraph.specs.Orders.{DepthFirst, ended, passes, enters}
 use Rattle.qs_callgraph.specs.Searches.{progress_of, Finishes, arrived, goes_back}

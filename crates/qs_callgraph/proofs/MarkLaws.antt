@@ -4,9 +4,9 @@ use Rattle.std.specs.List.{slice_get}
 use Rattle.std.proofs.lemmas.Bool.{eq-eqb, ne_eqb, cases_eq}
 use Rattle.std.proofs.lemmas.List.{get_or-set_same, get_or-set_other, get_or-replicate, length-set, length-replicate}
 use Rattle.std.proofs.lemmas.List.Elements.{filter-append}
-use Rattle.qs_core.specs.CallGraph.{below, callees_of, calls, called_by}
+use Rattle.qs_core.specs.CallGraph.{below, callees_of, calls, called_by, is_member}
 use Rattle.qs_core.specs.Trees.{CoreFunctionTree, CoreUnitTree, CoreStmtTree, branch, loop}
-use Rattle.qs_callgraph.specs.CallLists.{flag, is_member, marked}
+use Rattle.qs_callgraph.specs.CallLists.{flag, marked}
 use Rattle.std.specs.declared.alloc.Global.{Global}
 use Rattle.std.specs.declared.boxed.Box.{Box}
 use Rattle.qs_core.specs.TreeOf.{core_expr, core_stmt, stmt_step}

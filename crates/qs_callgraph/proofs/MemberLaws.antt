@@ -8,8 +8,8 @@ use Rattle.std.specs.declared.alloc.Global.{Global}
 use Rattle.std.specs.declared.vec.Vec.{Vec}
 use Rattle.std.proofs.lemmas.List.{take_at}
 use Rattle.qs_base.specs.declared.function.FnId.{FnId}
-use Rattle.qs_core.specs.CallGraph.{below}
-use Rattle.qs_callgraph.specs.CallLists.{is_member, numbers}
+use Rattle.qs_core.specs.CallGraph.{below, is_member}
+use Rattle.qs_callgraph.specs.CallLists.{numbers}
 
 or-false : (b : Bool) → (b || false) ≡ b
 or-false true = refl

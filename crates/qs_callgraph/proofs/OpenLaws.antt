@@ -4,10 +4,10 @@ use Rattle.std.specs.Prelude.{not}
 use Rattle.std.proofs.lemmas.Bool.{both_ways, false_from_ne_true, or_left, or_right, or_cases, and_from, cases_lt, cases_eq, cases_Bool, not-true, not_from_false}
 use Rattle.std.proofs.lemmas.List.{get_or-set_same, get_or-set_other, length_push, get_or_past, get_or-map, length-map}
 use Rattle.std.proofs.lemmas.List.Sums.{sum_by-set}
-use Rattle.qs_core.specs.CallGraph.{below, HasCall, Leads, no_call, first_call}
+use Rattle.qs_core.specs.CallGraph.{below, HasCall, Leads, no_call, first_call, is_member}
 use Rattle.qs_core.specs.Fits.{unit_fits}
 use Rattle.qs_core.specs.Trees.{CoreUnitTree}
-use Rattle.qs_callgraph.specs.CallLists.{call_lists, callees_in, flag, is_member, IsGraph}
+use Rattle.qs_callgraph.specs.CallLists.{call_lists, callees_in, flag, IsGraph}
 use Rattle.qs_callgraph.specs.Opens.{AreOf, TellsOpen, AreCallers, LeadsToSpec, has_one, calls_one, Closes, AreClosed, as_one, AddsDue, ClosesCallers}
 use Rattle.qs_callgraph.proofs.MarkLaws.{flag-marked, length-marked}
 use Rattle.qs_callgraph.proofs.MemberLaws.{member_cases, member_kept, member_last, member-filter, member_below}

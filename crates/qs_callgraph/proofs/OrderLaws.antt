@@ -2,9 +2,9 @@
 use Rattle.std.proofs.Common.{◌≡◌, length, ℕ, ◌<◌, ◌==◌, Bool, true, false, List, [], ◌∷◌, ⊎_elim, inl, inr, refl, sym, ap, ◌∙◌, subst}
 use Rattle.std.specs.Prelude.{◌⊎◌}
 use Rattle.std.proofs.lemmas.Bool.{both_ways, or_right}
-use Rattle.qs_core.specs.CallGraph.{below, called_by, HasCall, IsChain, IsCircle, IsCycle}
+use Rattle.qs_core.specs.CallGraph.{below, called_by, HasCall, IsChain, IsCircle, IsCycle, is_member}
 use Rattle.qs_core.specs.Trees.{CoreUnitTree}
-use Rattle.qs_callgraph.specs.CallLists.{call_lists, callees_in, flag, is_member, numbers}
+use Rattle.qs_callgraph.specs.CallLists.{call_lists, callees_in, flag, numbers}
 use Rattle.qs_callgraph.specs.Laws.{OrdersExcludeCycles, OrdersExcludeRecursion}
 use Rattle.qs_callgraph.specs.Orders.{CalleesFirst, DepthFirst, IsDepthFirst, IsOrder, IsTrueCycle}
 use Rattle.qs_callgraph.specs.Searches.{IsCycleIn, IsOrderIn, IsCircleIn, Ends}

@@ -2,10 +2,9 @@
 use Rattle.std.proofs.Common.{◌≡◌, ℕ, ◌==◌, true, false, List, [], ◌∷◌, ◌++◌, refl, sym, ap, ◌∙◌, subst}
 use Rattle.std.proofs.lemmas.Bool.{or_parts, or_from, ne_eqb, eqb-false}
 use Rattle.std.proofs.lemmas.List.{append_assoc, same_from_push}
-use Rattle.qs_core.specs.CallGraph.{IsChain, IsCircle}
+use Rattle.qs_core.specs.CallGraph.{IsChain, IsCircle, is_member}
 use Rattle.qs_core.specs.Trees.{CoreUnitTree}
 use Rattle.qs_core.specs.CallGraph.{called_by}
-use Rattle.qs_callgraph.specs.CallLists.{is_member}
 use Rattle.qs_callgraph.specs.Searches.{IsLinked, IsChainIn, IsCircleIn, AreApart}
 use Rattle.qs_callgraph.proofs.MemberLaws.{member-push}
 use Rattle.qs_callgraph.proofs.UnitCalls.{is_call}

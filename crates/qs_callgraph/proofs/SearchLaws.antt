@@ -5,7 +5,8 @@ use Rattle.std.specs.List.{list_any}
 use Rattle.std.proofs.lemmas.Bool.{both_ways, false_from_ne_true, or_from, cases_eq, cases_lt}
 use Rattle.std.proofs.lemmas.List.{get_or-set_same, get_or-set_other, length-set, take_more, take_all, length-replicate, get_or-replicate, get_or_past}
 use Rattle.std.proofs.lemmas.List.Folds.{list_any-append}
-use Rattle.qs_callgraph.specs.CallLists.{callees_in, flag, is_member}
+use Rattle.qs_core.specs.CallGraph.{is_member}
+use Rattle.qs_callgraph.specs.CallLists.{callees_in, flag}
 use Rattle.qs_callgraph.specs.Orders.{CalleesFirst}
 use Rattle.qs_callgraph.specs.Searches.{progress_of, is_new, steps_left, all_steps_left, Keeps, IsLinked, IsChainIn, IsCycleIn, IsPathFrom, IsLast, IsBegun, Holds, IsOrderIn}
 use Rattle.qs_callgraph.specs.declared.search.Progress.{Progress}

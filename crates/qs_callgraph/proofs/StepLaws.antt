@@ -3,9 +3,9 @@ use Rattle.std.proofs.Common.{◌≡◌, ℕ, zero, suc, ◌+◌, ◌<◌, ◌�
 use Rattle.std.proofs.lemmas.Bool.{both_ways, or_right, false_from_ne_true}
 use Rattle.std.proofs.lemmas.List.{append-nil, get_or-set_same}
 use Rattle.std.specs.Prelude.{not}
-use Rattle.qs_core.specs.CallGraph.{below}
+use Rattle.qs_core.specs.CallGraph.{below, is_member}
 use Rattle.qs_callgraph.specs.Orders.{DepthFirst, ended}
-use Rattle.qs_callgraph.specs.CallLists.{callees_in, flag, is_member, numbers, IsGraph}
+use Rattle.qs_callgraph.specs.CallLists.{callees_in, flag, numbers, IsGraph}
 use Rattle.qs_callgraph.specs.Searches.{progress_of, is_new, steps_left, all_steps_left, Keeps, IsLinked, IsPathFrom, IsLast, IsCalleeAt, IsBegun, AreApart, Holds, HoldsIn, IsCycleIn, Finishes, FinishesIn, Sets, IsNewSearch, Moves, Visited}
 use Rattle.qs_callgraph.specs.declared.search.Progress.{Progress}
 use Rattle.qs_callgraph.specs.declared.search.Progress.TheVariants.{New, Open, Done}

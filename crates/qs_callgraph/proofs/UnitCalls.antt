@@ -10,13 +10,13 @@ use Rattle.std.proofs.lemmas.Option.{slice_get_past, slice_get-map}
 use Rattle.qs_calls.specs.Starts.{signature_of}
 use Rattle.qs_calls.specs.declared.callee.Callee.{Callee}
 use Rattle.qs_calls.specs.declared.callee.Callee.TheVariants.{Function, PutChar, GetChar}
-use Rattle.qs_core.specs.CallGraph.{below, callee, callees, all_callees, callees_of, calls, called_by, HasCall}
+use Rattle.qs_core.specs.CallGraph.{below, callee, callees, all_callees, callees_of, calls, called_by, HasCall, is_member}
 use Rattle.qs_core.specs.Fits.{stmt_fits, stmts_fit, unit_fits, call_fits, exprs_fit}
 use Rattle.qs_core.specs.Interfaces.{interface_of, signature}
 use Rattle.qs_core.proofs.FitLaws.{function_at_fits}
 use Rattle.qs_core.specs.Trees as core
 use Rattle.qs_core.specs.Trees.{CoreExprTree, CoreStmtTree, CoreStmts, no_stmts, stmt_and, CoreFunctionTree, CoreUnitTree}
-use Rattle.qs_callgraph.specs.CallLists.{call_lists, callees_in, is_member, IsGraph}
+use Rattle.qs_callgraph.specs.CallLists.{call_lists, callees_in, IsGraph}
 use Rattle.qs_callgraph.proofs.MemberLaws.{below_member, member_below, member-filter, first_cases}
 
 pub length-below : (n : ℕ) → length (below n) ≡ n

@@ -1,10 +1,9 @@
 -- The functions that each function calls, as lists of numbers.
-use Rattle.std.specs.Prelude.{◌≡◌, ℕ, ◌<◌, ◌==◌, Bool, true, false, List, [], ◌∷◌, filter, length, map, slice_index_or, slice_set, Result, IfOk}
-use Rattle.std.specs.List.{list_any}
+use Rattle.std.specs.Prelude.{◌≡◌, ℕ, ◌<◌, Bool, true, false, List, [], ◌∷◌, filter, length, map, slice_index_or, slice_set, Result, IfOk}
 use Rattle.std.specs.declared.alloc.Global.{Global}
 use Rattle.std.specs.declared.vec.Vec.{Vec}
 use Rattle.qs_base.specs.declared.function.FnId.{FnId}
-use Rattle.qs_core.specs.CallGraph.{below, called_by}
+use Rattle.qs_core.specs.CallGraph.{is_member, below, called_by}
 use Rattle.qs_core.specs.Trees.{CoreUnitTree}
 
 abbrev pub numbers : List FnId → List ℕ
@@ -26,9 +25,6 @@ callees_in graph f = slice_index_or graph f []
 -- a value for each function, false for what is none
 abbrev pub flag : List Bool → (f : ℕ) → Bool
 flag flags f = slice_index_or flags f false
-
-abbrev pub is_member : ℕ → List ℕ → Bool
-is_member f fs = list_any (λ g. g == f) fs
 
 -- those with a value that is true, in order
 abbrev pub flagged : List Bool → List ℕ

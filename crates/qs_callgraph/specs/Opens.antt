@@ -3,9 +3,9 @@ use Rattle.std.specs.Prelude.{◌≡◌, ◌⊎◌, ℕ, ◌+◌, ◌<◌, Bool,
 use Rattle.std.specs.declared.alloc.Global.{Global}
 use Rattle.std.specs.declared.vec.Vec.{Vec}
 use Rattle.qs_base.specs.declared.function.FnId.{FnId}
-use Rattle.qs_core.specs.CallGraph.{IsOpen}
+use Rattle.qs_core.specs.CallGraph.{IsOpen, is_member}
 use Rattle.qs_core.specs.Trees.{CoreUnitTree}
-use Rattle.qs_callgraph.specs.CallLists.{callees_in, flag, is_member, marked, number_lists, numbers, numbers_in}
+use Rattle.qs_callgraph.specs.CallLists.{callees_in, flag, marked, number_lists, numbers, numbers_in}
 
 -- the values are those of the test, one for each function
 pub record AreOf (u : CoreUnitTree) (test : ℕ → Bool) (flags : List Bool) : Type 0 where

@@ -1,9 +1,9 @@
 -- Orders of functions in which callees stand before callers, and cycles.
 use Rattle.std.specs.Prelude.{◌≡◌, ℕ, ◌<◌, ◌||◌, Bool, true, false, List, [], ◌∷◌, ◌++◌, length}
 use Rattle.std.specs.List.{list_any}
-use Rattle.qs_core.specs.CallGraph.{below, called_by, IsCycle}
+use Rattle.qs_core.specs.CallGraph.{below, called_by, IsCycle, is_member}
 use Rattle.qs_core.specs.Trees.{CoreUnitTree}
-use Rattle.qs_callgraph.specs.CallLists.{is_member, numbers}
+use Rattle.qs_callgraph.specs.CallLists.{numbers}
 use Rattle.qs_callgraph.specs.declared.fault.CycleFault.{CycleFault}
 use Rattle.qs_callgraph.specs.declared.fault.CycleFault.TheVariants.{NoMemory, Cycle}
 

@@ -4,8 +4,8 @@ use Rattle.std.specs.declared.alloc.Global.{Global}
 use Rattle.std.specs.declared.vec.Vec.{Vec}
 use Rattle.std.specs.List.{list_any}
 use Rattle.qs_base.specs.declared.function.FnId.{FnId}
-use Rattle.qs_core.specs.CallGraph.{below}
-use Rattle.qs_callgraph.specs.CallLists.{callees_in, flag, is_member, number_lists, numbers}
+use Rattle.qs_core.specs.CallGraph.{below, is_member}
+use Rattle.qs_callgraph.specs.CallLists.{callees_in, flag, number_lists, numbers}
 use Rattle.qs_callgraph.specs.Orders.{CalleesFirst, DepthFirst}
 use Rattle.qs_callgraph.specs.declared.fault.CycleFault.{CycleFault}
 use Rattle.qs_callgraph.specs.declared.fault.CycleFault.TheVariants.{NoMemory, Cycle}

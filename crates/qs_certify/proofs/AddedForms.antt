@@ -11,15 +11,15 @@ use Rattle.qs_base.specs.Names.{is_name, is_word}
 use Rattle.qs_assert.specs.Trees.{AssertionTree, named, assertions_of}
 use Rattle.qs_calls.specs.declared.callee.Callee.{Callee}
 use Rattle.qs_calls.specs.declared.callee.Callee.TheVariants.{Function, PutChar, GetChar}
-use Rattle.qs_core.specs.CallGraph.{below, calls, called_by}
+use Rattle.qs_core.specs.CallGraph.{below, calls, called_by, is_member}
 use Rattle.qs_core.specs.Fits.{unit_fits}
 use Rattle.qs_core.specs.Trees.{CoreStmtTree, skip, seq, assign, store, copy, fill, call, branch, loop, break, continue, return, CoreStmts, no_stmts, stmt_and, CoreFunctionTree, CoreUnitTree}
+use Rattle.qs_core.specs.FunctionNames.{function_name, name_in}
 use Rattle.qs_core.proofs.FitLaws.{function_at_fits}
 use Rattle.qs_nesting.specs.Nesting.{nesting, nesting_in_all, functions_nesting, unit_nesting}
 use Rattle.qs_sexpr.specs.Bytes.{is_symbol_byte, starts_symbol}
 use Rattle.qs_sexpr.specs.Writing.{Form, is_symbol, IsWritable, AreWritable}
-use Rattle.qs_triples.specs.Filled.{for_call, for_calls, function_name, name_in, open_definition}
-use Rattle.qs_callgraph.specs.CallLists.{is_member}
+use Rattle.qs_triples.specs.Filled.{for_call, for_calls, open_definition}
 use Rattle.qs_callgraph.proofs.MemberLaws.{member_first}
 use Rattle.qs_callgraph.proofs.UnitCalls.{call_within, length-below}
 use Rattle.qs_prooftext.specs.Writing.{Words, forms_of, assertion_form, assertion_forms, certificate_form, derivation_form, derivation_forms, define_form, entry_form}

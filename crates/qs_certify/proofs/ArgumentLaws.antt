@@ -10,6 +10,7 @@ use Rattle.qs_base.proofs.WordLaws.{wrap-below}
 use Rattle.qs_memory.specs.Memory.{Memory}
 use Rattle.qs_memory.specs.Partial.{◌>>=◌}
 use Rattle.qs_memory.specs.Values.{integer}
+use Rattle.qs_memory.specs.Scalars.{is_promoted}
 use Rattle.qs_memory.specs.declared.scalar.Scalar.{Scalar}
 use Rattle.qs_memory.specs.declared.scalar.Scalar.TheVariants as scalars
 use Rattle.qs_memory.proofs.Options.{some_same}
@@ -22,7 +23,6 @@ use Rattle.qs_assert.specs.declared.variable.VarKind.{VarKind}
 use Rattle.qs_assert.specs.declared.variable.VarKind.TheVariants as kinds
 use Rattle.qs_core.specs.Fits.{parameter_fits, parameters_fit}
 use Rattle.qs_core.specs.Interfaces.{types_of, parameter_types}
-use Rattle.qs_core.specs.Scalars.{is_promoted}
 use Rattle.qs_core.specs.Trees.{CoreParameterTree, CoreVariableTree, CoreFunctionTree}
 use Rattle.qs_core.proofs.FitLaws.{both}
 use Rattle.qs_triples.specs.Mentions.{is_plain_parameter, in_pre}

@@ -7,12 +7,13 @@ use Rattle.std.proofs.lemmas.List.Sums.{length-filter, count_by-le-length}
 use Rattle.qs_base.specs.declared.function.FnId.{FnId}
 use Rattle.qs_core.specs.Fits.{unit_fits}
 use Rattle.qs_core.specs.Trees.{CoreUnitTree}
+use Rattle.qs_core.specs.CallGraph.{is_member}
 use Rattle.qs_triples.specs.Derivations.{EntryTree, ProofsTree, is_entry_of}
 use Rattle.qs_triples.specs.Entries.{has_entry, fault_of_entry, function_fault, Covers}
 use Rattle.qs_triples.specs.Rules.{DerivationFault}
 use Rattle.qs_triples.specs.TreeOf.{entry_tree, proofs_tree}
 use Rattle.qs_triples.specs.declared.derivation.Proofs.{Proofs}
-use Rattle.qs_callgraph.specs.CallLists.{is_member, numbers}
+use Rattle.qs_callgraph.specs.CallLists.{numbers}
 use Rattle.qs_analyse.specs.Fillable.{IsFillable, entry_functions}
 use Rattle.qs_analyse.specs.Laws.{GivenAreDerived}
 use Rattle.qs_analyse.proofs.AddedLaws.{found}

@@ -14,15 +14,15 @@ use Rattle.qs_assert.specs.declared.define.Amount.TheVariants.{Finite, Wide}
 use Rattle.qs_assert.specs.declared.variable.Var.{Var}
 use Rattle.qs_assert.specs.Trees.{AssertionTree, assertions_of}
 use Rattle.qs_assert.specs.Values.{State, Extended, finite, or_infinite, plus, greater, value}
-use Rattle.qs_core.specs.CallGraph.{called_by, IsOpen}
+use Rattle.qs_core.specs.CallGraph.{called_by, IsOpen, is_member}
 use Rattle.qs_core.specs.Fits.{unit_fits}
 use Rattle.qs_core.specs.Trees.{CoreUnitTree}
+use Rattle.qs_core.specs.FunctionNames.{function_name}
 use Rattle.qs_triples.specs.Derivations.{ProofsTree}
 use Rattle.qs_triples.specs.Entries.{AreClosed, has_entry}
-use Rattle.qs_triples.specs.Filled.{for_call, for_calls, function_name, open_definition, pre_in, pre_of, CalleesFirst, Filled}
+use Rattle.qs_triples.specs.Filled.{for_call, for_calls, open_definition, pre_in, pre_of, CalleesFirst, Filled}
 use Rattle.qs_triples.specs.Valuations.{state_of, number_at, at_entry, value_at_entry}
 use Rattle.qs_triples.proofs.Names.{state_is}
-use Rattle.qs_callgraph.specs.CallLists.{is_member}
 use Rattle.qs_callgraph.proofs.MemberLaws.{member_first, first_cases}
 use Rattle.qs_prooftext.specs.Proofs.{no_proofs}
 use Rattle.qs_analyse.specs.Paths.{IsLongestPath}

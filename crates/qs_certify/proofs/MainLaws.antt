@@ -3,6 +3,7 @@ use Rattle.std.proofs.Common.{◌≡◌, ⊎_elim, ℕ, ◌<◌, Bool, true, fal
 use Rattle.std.specs.Prelude.{◌&&◌, bytes_eq, filter, not, All}
 use Rattle.std.specs.List.{slice_get, find, list_any, list_all}
 use Rattle.std.proofs.lemmas.Option.{slice_get-map, slice_get_within}
+use Rattle.qs_memory.specs.Scalars.{is_type, is_promoted}
 use Rattle.qs_memory.specs.declared.scalar.Scalar.TheVariants as scalars
 use Rattle.qs_events.specs.Weights.{Costs, run_weight}
 use Rattle.qs_calls.specs.World.{World}
@@ -17,8 +18,7 @@ use Rattle.qs_assert.specs.Variables.{variables, mentions}
 use Rattle.qs_assert.proofs.Variabled.{of_its_variables}
 use Rattle.qs_entail.specs.Meaning.{AtLeast}
 use Rattle.qs_core.specs.Fits.{main_name, is_main, unit_fits}
-use Rattle.qs_core.specs.Interfaces.{signature, interface_of, parameter_types}
-use Rattle.qs_core.specs.Scalars.{is_type, is_promoted}
+use Rattle.qs_core.specs.Interfaces.{signature, interface_of, parameter_types, types_of_main}
 use Rattle.qs_core.specs.Trees.{CoreFunctionTree, CoreUnitTree}
 use Rattle.qs_core.specs.Units.{initial_memory, main_run}
 use Rattle.qs_core.proofs.FitLaws.{both, unit_parts, function_at_fits}
@@ -32,7 +32,7 @@ use Rattle.qs_triples.proofs.Answers.{none_found, not_false}
 use Rattle.qs_triples.proofs.BoundLaws.{derivations_bound_runs}
 use Rattle.qs_triples.proofs.FunctionLaws.{entry_is_of, derived_parts}
 use Rattle.qs_triples.proofs.Names.{seen, state_is}
-use Rattle.qs_certify.specs.Bound.{main_bound, costs_of, values_of, AreNumbersOf, types_in, AreArguments}
+use Rattle.qs_certify.specs.Bound.{main_bound, costs_of, values_of, AreNumbersOf, AreArguments}
 use Rattle.qs_certify.specs.Laws.{MainBoundsRuns}
 use Rattle.qs_certify.proofs.ArgumentLaws.{argument_number, values_are}
 
@@ -109,7 +109,7 @@ module _ (u : CoreUnitTree) (fits : unit_fits u ≡ true) (given proofs : Proofs
   has = found.1
 
   numbers_are : AreNumbersOf (parameter_types f) zs
-  numbers_are = subst (λ (o : Option CoreFunctionTree). AreNumbersOf (types_in o) zs) main.is are
+  numbers_are = subst (λ (o : Option CoreFunctionTree). AreNumbersOf (types_of_main o) zs) main.is are
 
   valid : IsValid u proofs e
   valid = covers.valid u.main e within has

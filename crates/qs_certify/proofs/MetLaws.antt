@@ -4,6 +4,7 @@ use Rattle.std.specs.Prelude.{is_some}
 use Rattle.std.proofs.lemmas.Bool.{both_ways, or_right}
 use Rattle.qs_core.specs.Fits.{unit_fits}
 use Rattle.qs_core.specs.Trees.{CoreUnitTree}
+use Rattle.qs_core.specs.CallGraph.{is_member}
 use Rattle.qs_triples.specs.Derivations.{EntryTree, ProofsTree, entry_of}
 use Rattle.qs_triples.specs.Entries.{has_entry, function_fault}
 use Rattle.qs_triples.specs.Filled.{Filled}
@@ -11,7 +12,7 @@ use Rattle.qs_triples.specs.Rules.{DerivationFault, no_spec, bad_order}
 use Rattle.qs_triples.specs.Told.{IsDue}
 use Rattle.qs_triples.specs.declared.fault.DerivFault.{DerivFault}
 use Rattle.qs_triples.specs.declared.fault.DerivFault.TheVariants as faults
-use Rattle.qs_callgraph.specs.CallLists.{is_member, numbers}
+use Rattle.qs_callgraph.specs.CallLists.{numbers}
 use Rattle.qs_callgraph.proofs.MemberLaws.{member_first}
 use Rattle.qs_callgraph.proofs.OrderLaws.{circle_known}
 use Rattle.qs_analyse.specs.Fillable.{entry_functions}

@@ -4,7 +4,7 @@ use Rattle.std.specs.Prelude.{◌⊎◌}
 use Rattle.std.proofs.lemmas.Bool.{both_ways}
 use Rattle.qs_assert.specs.Order.{order_fault, IsInOrder}
 use Rattle.qs_assert.specs.declared.define.Define.{Define}
-use Rattle.qs_core.specs.CallGraph.{IsCycle, IsWithoutRecursion}
+use Rattle.qs_core.specs.CallGraph.{IsCycle, IsWithoutRecursion, is_member}
 use Rattle.qs_core.specs.Trees.{CoreUnitTree}
 use Rattle.qs_prooftext.specs.Proofs.{no_proofs}
 use Rattle.qs_prooftext.specs.Reading.{Fault}
@@ -13,7 +13,7 @@ use Rattle.qs_prooftext.proofs.OneMeaning as meanings
 use Rattle.qs_triples.specs.Derivations.{ProofsTree, entry_of}
 use Rattle.qs_triples.specs.Entries.{has_entry, fault_of_entry, function_fault}
 use Rattle.qs_triples.specs.Filled.{Filled}
-use Rattle.qs_callgraph.specs.CallLists.{is_member, numbers}
+use Rattle.qs_callgraph.specs.CallLists.{numbers}
 use Rattle.qs_callgraph.proofs.MemberLaws.{member_first}
 use Rattle.qs_analyse.specs.Fillable.{entry_functions}
 use Rattle.qs_analyse.specs.Laws.{GivenAreDerived, HasNoCycle}

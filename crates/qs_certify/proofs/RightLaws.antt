@@ -2,12 +2,11 @@
 use Rattle.std.proofs.Common.{◌≡◌, ℕ, ◌<◌, ◌==◌, ◌||◌, Bool, true, false, cond, List, [], ◌∷◌, filter, length, None, is_some, refl, sym, ap, ◌∙◌, subst}
 use Rattle.std.specs.List.{list_any}
 use Rattle.std.proofs.lemmas.Bool.{both_ways, or_right}
-use Rattle.qs_core.specs.CallGraph.{HasCall, no_call}
+use Rattle.qs_core.specs.CallGraph.{HasCall, no_call, is_member}
 use Rattle.qs_core.specs.Trees.{CoreUnitTree}
 use Rattle.qs_triples.specs.Derivations.{EntryTree, ProofsTree}
 use Rattle.qs_triples.specs.Entries.{has_entry, IsDerived}
 use Rattle.qs_triples.specs.Filled.{Filled}
-use Rattle.qs_callgraph.specs.CallLists.{is_member}
 use Rattle.qs_callgraph.proofs.MemberLaws.{member_first}
 use Rattle.qs_callgraph.proofs.UnitCalls.{has_caller}
 use Rattle.qs_analyse.specs.Fillable.{entry_functions}

@@ -14,17 +14,18 @@ use Rattle.qs_assert.specs.Images.{assertion_image}
 use Rattle.qs_assert.specs.Order.{names_known, is_among, order_fault_behind, IsInOrder}
 use Rattle.qs_assert.specs.Trees.{AssertionTree, infinity}
 use Rattle.qs_assert.proofs.Same.{name_equal}
-use Rattle.qs_core.specs.CallGraph.{called_by}
+use Rattle.qs_core.specs.CallGraph.{called_by, is_member}
 use Rattle.qs_core.specs.Fits.{unit_fits}
 use Rattle.qs_core.specs.Trees as core
 use Rattle.qs_core.specs.Trees.{CoreFunctionTree, CoreUnitTree}
+use Rattle.qs_core.specs.FunctionNames.{function_name}
 use Rattle.qs_entail.specs.Faults.{definition}
 use Rattle.qs_triples.specs.Derivations.{EntryTree, ProofsTree, SpecTree, is_entry_of, entry_of, spec_of}
 use Rattle.qs_triples.specs.Entries.{mentions_fault, order_told, entry_told, result_at_end, function_posts, scope_of, fault_in, fault_of_known, has_entry}
-use Rattle.qs_triples.specs.Filled.{function_name, open_definition, pre_in, pre_of, path_pre, HasBoth, Filled}
+use Rattle.qs_triples.specs.Filled.{open_definition, pre_in, pre_of, path_pre, HasBoth, Filled}
 use Rattle.qs_triples.specs.Mentions.{in_pre, in_post, first_other, as_plain}
 use Rattle.qs_triples.specs.Rules.{DerivationFault, in_precondition, in_postcondition, pre}
-use Rattle.qs_callgraph.specs.CallLists.{is_member, numbers}
+use Rattle.qs_callgraph.specs.CallLists.{numbers}
 use Rattle.qs_callgraph.specs.Orders.{CalleesFirst}
 use Rattle.qs_callgraph.proofs.MemberLaws.{member_first, first_cases, none_passes}
 use Rattle.qs_analyse.specs.Laws.{GivenAreDerived}

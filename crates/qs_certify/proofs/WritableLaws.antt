@@ -9,14 +9,15 @@ use Rattle.qs_assert.specs.declared.define.Define.{Define}
 use Rattle.qs_assert.specs.Trees.{AssertionTree, named, assertions_of, assertion_list}
 use Rattle.qs_calls.specs.declared.callee.Callee.{Callee}
 use Rattle.qs_calls.specs.declared.callee.Callee.TheVariants.{Function, PutChar, GetChar}
-use Rattle.qs_core.specs.CallGraph.{called_by, no_call}
+use Rattle.qs_core.specs.CallGraph.{called_by, no_call, is_member}
 use Rattle.qs_core.specs.Fits.{differ, unit_fits}
 use Rattle.qs_core.specs.Trees.{CoreStmtTree, skip, seq, assign, store, copy, fill, call, branch, loop, break, continue, return, CoreStmts, no_stmts, stmt_and, CoreFunctionTree, CoreUnitTree}
+use Rattle.qs_core.specs.FunctionNames.{function_name}
 use Rattle.qs_nesting.specs.Nesting.{unit_nesting}
 use Rattle.qs_triples.specs.Derivations.{EntryTree, ProofsTree, is_entry_of}
 use Rattle.qs_triples.specs.Entries.{has_entry}
-use Rattle.qs_triples.specs.Filled.{for_call, for_calls, function_name, open_definition, path_pre}
-use Rattle.qs_callgraph.specs.CallLists.{flag, is_member, numbers}
+use Rattle.qs_triples.specs.Filled.{for_call, for_calls, open_definition, path_pre}
+use Rattle.qs_callgraph.specs.CallLists.{flag, numbers}
 use Rattle.qs_callgraph.specs.Orders.{CalleesFirst}
 use Rattle.qs_callgraph.proofs.MemberLaws.{member_first, first_cases}
 use Rattle.qs_callgraph.proofs.UnitCalls.{call_within}

@@ -1,6 +1,5 @@
 -- The bound of main, and main's arguments.
-use Rattle.std.specs.Prelude.{ℕ, ◌≤ℤ◌, ℤ, List, [], ◌∷◌, map, slice_index_or, Option, Some, None}
-use Rattle.std.specs.List.{slice_get}
+use Rattle.std.specs.Prelude.{ℕ, ◌≤ℤ◌, ℤ, List, [], ◌∷◌, map, slice_index_or}
 use Rattle.qs_base.specs.Words.{wrap}
 use Rattle.qs_memory.specs.Values.{Value, integer}
 use Rattle.qs_memory.specs.declared.scalar.Scalar.{Scalar}
@@ -8,8 +7,8 @@ use Rattle.qs_events.specs.Weights.{Costs}
 use Rattle.qs_assert.specs.Bounds.{bound_at}
 use Rattle.qs_assert.specs.declared.define.Amount.{Amount}
 use Rattle.qs_entail.specs.Facts.{least, greatest_of_type}
-use Rattle.qs_core.specs.Interfaces.{parameter_types}
-use Rattle.qs_core.specs.Trees.{CoreFunctionTree, CoreUnitTree}
+use Rattle.qs_core.specs.Interfaces.{main_types}
+use Rattle.qs_core.specs.Trees.{CoreUnitTree}
 use Rattle.qs_core.specs.UnitTrees.{unit_tree}
 use Rattle.qs_core.specs.declared.unit.CoreUnit.{CoreUnit}
 use Rattle.qs_triples.specs.Derivations.{ProofsTree}
@@ -47,10 +46,6 @@ AreNumbersOf [] (z ∷ zs) = ⊥
 AreNumbersOf (s ∷ types) [] = ⊥
 AreNumbersOf (s ∷ types) (z ∷ zs) = IsNumberOf s z × AreNumbersOf types zs
 
-abbrev pub types_in : Option CoreFunctionTree → List Scalar
-types_in None = []
-types_in (Some f) = parameter_types f
-
 -- main's arguments: one for each of its parameters, a number of the parameter's type
 abbrev pub AreArguments : CoreUnitTree → List ℤ → Type 0
-AreArguments u arguments = AreNumbersOf (types_in (slice_get u.functions u.main)) arguments
+AreArguments u arguments = AreNumbersOf (main_types u) arguments

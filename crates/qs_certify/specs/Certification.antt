@@ -3,7 +3,7 @@ use Rattle.std.specs.Prelude.{◌≡◌, ℕ, ◌+◌, ◌<◌, true, List, leng
 use Rattle.std.specs.List.{slice_get}
 use Rattle.qs_assert.specs.Order.{order_fault, IsInOrder}
 use Rattle.qs_assert.specs.declared.define.Define.{Define}
-use Rattle.qs_core.specs.CallGraph.{IsCycle}
+use Rattle.qs_core.specs.CallGraph.{IsCycle, is_member}
 use Rattle.qs_base.specs.declared.function.FnId.{FnId}
 use Rattle.qs_core.specs.Trees.{CoreUnitTree}
 use Rattle.qs_core.specs.UnitTrees.{unit_tree}
@@ -14,7 +14,7 @@ use Rattle.qs_triples.specs.Filled.{Filled}
 use Rattle.qs_triples.specs.TreeOf.{proofs_tree}
 use Rattle.qs_triples.specs.declared.derivation.Proofs.{Proofs}
 use Rattle.qs_triples.specs.declared.fault.DerivFault.{DerivFault}
-use Rattle.qs_callgraph.specs.CallLists.{is_member, numbers}
+use Rattle.qs_callgraph.specs.CallLists.{numbers}
 use Rattle.qs_analyse.specs.Additions.{IsFilling}
 use Rattle.qs_analyse.specs.Fillable.{entry_functions}
 use Rattle.qs_analyse.specs.Laws.{DerivesOpen, HasNoCycle}

@@ -1,52 +1,15 @@
 -- What the tests of a unit say.
-use Rattle.std.proofs.Common.{◌≡◌, ℕ, zero, suc, ◌&&◌, Bool, true, false, List, [], ◌∷◌, map, Option, Some, None, refl, ap}
+use Rattle.std.proofs.Common.{◌≡◌, ℕ, zero, suc, ◌&&◌, Bool, true, false, List, [], ◌∷◌, map, Some, refl}
 use Rattle.std.specs.Prelude.{bytes_eq}
 use Rattle.std.specs.List.{slice_get, list_all}
 use Rattle.qs_base.specs.Names.{is_name}
-use Rattle.qs_memory.specs.declared.scalar.Scalar.{Scalar}
-use Rattle.qs_memory.specs.declared.scalar.Scalar.TheVariants as scalars
 use Rattle.qs_core.specs.Trees.{CoreFunctionTree, CoreUnitTree}
-use Rattle.qs_core.specs.Scalars.{same_scalar, same_scalars, is_type}
 use Rattle.qs_core.specs.Fits.{stmts_fit, differ, same_variable, is_named, parameters_fit, is_size, function_fits, is_main, data_fits, unit_fits}
 
 pub both : (a b : Bool) → (a && b) ≡ true → (a ≡ true) × (b ≡ true)
 both true true h = (refl, refl)
 both true false h = cc
 both false b h = cc
-
--- ---- types
-
-pub scalar_same : (s t : Scalar) → same_scalar s t ≡ true → s ≡ t
-scalar_same scalars.Char scalars.Char h = refl
-scalar_same scalars.Char scalars.Int h = cc
-scalar_same scalars.Char scalars.Unsigned h = cc
-scalar_same scalars.Char scalars.Pointer h = cc
-scalar_same scalars.Int scalars.Char h = cc
-scalar_same scalars.Int scalars.Int h = refl
-scalar_same scalars.Int scalars.Unsigned h = cc
-scalar_same scalars.Int scalars.Pointer h = cc
-scalar_same scalars.Unsigned scalars.Char h = cc
-scalar_same scalars.Unsigned scalars.Int h = cc
-scalar_same scalars.Unsigned scalars.Unsigned h = refl
-scalar_same scalars.Unsigned scalars.Pointer h = cc
-scalar_same scalars.Pointer scalars.Char h = cc
-scalar_same scalars.Pointer scalars.Int h = cc
-scalar_same scalars.Pointer scalars.Unsigned h = cc
-scalar_same scalars.Pointer scalars.Pointer h = refl
-
-pub scalars_same : (ss ts : List Scalar) → same_scalars ss ts ≡ true → ss ≡ ts
-scalars_same [] [] h = refl
-scalars_same [] (t ∷ ts) h = cc
-scalars_same (s ∷ ss) [] h = cc
-scalars_same (s ∷ ss) (t ∷ ts) h =
-    let two = both (same_scalar s t) (same_scalars ss ts) h in
-    let first = scalar_same s t two.0 in
-    let others = scalars_same ss ts two.1 in
-    cc
-
-pub type_is : (o : Option Scalar) (s : Scalar) → is_type o s ≡ true → o ≡ Some s
-type_is None s h = cc
-type_is (Some t) s h = ap Some (scalar_same t s h)
 
 -- ---- lists
 

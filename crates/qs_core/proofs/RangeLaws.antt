@@ -10,6 +10,8 @@ use Rattle.qs_memory.specs.Memory.{Memory, make, release}
 use Rattle.qs_memory.specs.Memory as memory
 use Rattle.qs_memory.specs.Pointers.{truth}
 use Rattle.qs_memory.specs.Soundness.{IsSound, ComesAfter}
+use Rattle.qs_memory.specs.Scalars.{same_scalar, same_scalars, is_type}
+use Rattle.qs_memory.proofs.ScalarLaws.{scalars_same, type_is}
 use Rattle.qs_memory.specs.declared.scalar.Scalar.{Scalar}
 use Rattle.qs_memory.specs.declared.scalar.Scalar.TheVariants as scalars
 use Rattle.qs_memory.specs.declared.operation.Signedness.TheVariants.{Signed}
@@ -33,11 +35,10 @@ use Rattle.qs_core.specs.Trees.{CoreExprTree, CoreStmtTree, skip, seq, assign, s
 use Rattle.qs_core.specs.Expressions.{Locals, value, values, type_of}
 use Rattle.qs_core.specs.Statements.{Continuation, Continuations, Context, assigned, take_result, given_pointer, repeated, after_step, runs, runs_all}
 use Rattle.qs_core.specs.Units.{calls_within}
-use Rattle.qs_core.specs.Scalars.{same_scalar, same_scalars, is_type}
 use Rattle.qs_core.specs.Interfaces.{variable_type, temporary_type, target_type, types_of, parameter_types, signature, interface_of}
 use Rattle.qs_core.specs.Fits.{expr_fits, exprs_fit, pointer_fits, call_fits, taken_fits, destination_fits, any_mentions, stmt_fits, stmts_fit, place_fits, parameter_fits, parameters_fit, unit_fits}
 use Rattle.qs_core.specs.Ranges.{VariablesAreOf, IsInRange, IsMoment, RelatedInRange, ReturnsInRange, AllInRange, CallsInRange, result_type_at, CallsStayInRange, BodiesStayInRange, RunsLeaveSound}
-use Rattle.qs_core.proofs.FitLaws.{both, scalars_same, type_is, function_at_fits}
+use Rattle.qs_core.proofs.FitLaws.{both, function_at_fits}
 use Rattle.qs_core.proofs.TypeLaws.{integer_is_of, value_is_of}
 
 -- ---- moments one after another

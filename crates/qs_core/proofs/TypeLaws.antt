@@ -7,6 +7,9 @@ use Rattle.qs_memory.specs.Values.{null, Value, integer, address, as_pointer, ha
 use Rattle.qs_memory.specs.Memory.{Memory}
 use Rattle.qs_memory.specs.Pointers.{member_of, truth}
 use Rattle.qs_memory.specs.Operations.{of_truth, integer_type}
+use Rattle.qs_memory.specs.Scalars.{same_scalar}
+use Rattle.qs_memory.specs.Operands.{unary_takes, binary_takes, conversion_takes}
+use Rattle.qs_memory.proofs.ScalarLaws.{scalar_same, type_is}
 use Rattle.qs_memory.specs.declared.scalar.Scalar.{Scalar}
 use Rattle.qs_memory.specs.declared.scalar.Scalar.TheVariants as scalars
 use Rattle.qs_memory.specs.declared.operation.Signedness.{Signedness}
@@ -20,12 +23,10 @@ use Rattle.qs_core.specs.declared.numbers.BlockId.{BlockId}
 use Rattle.qs_core.specs.declared.numbers.BlockId.TheVariants.{Local, Data}
 use Rattle.qs_core.specs.Trees.{literal, null_pointer, variable, temporary, address_of, load, member, unary, binary, conversion, logical_and, logical_or, conditional, CoreFunctionTree, DataBlockTree, CoreUnitTree}
 use Rattle.qs_core.specs.Expressions.{Locals, block_pointer, value, truth_value, type_of}
-use Rattle.qs_core.specs.Scalars.{same_scalar}
-use Rattle.qs_core.specs.Operands.{unary_takes, binary_takes, conversion_takes}
 use Rattle.qs_core.specs.Interfaces.{variable_type, temporary_type, data_extent}
 use Rattle.qs_core.specs.Fits.{block_fits, expr_fits}
 use Rattle.qs_core.specs.Ranges.{IsInRange, ExpressionsHaveTypes}
-use Rattle.qs_core.proofs.FitLaws.{both, scalar_same, type_is}
+use Rattle.qs_core.proofs.FitLaws.{both}
 
 -- ---- single values
 

@@ -34,9 +34,12 @@ abbrev pub callees_of : Option CoreFunctionTree → List ℕ
 callees_of None = []
 callees_of (Some f) = all_callees f.body
 
+abbrev pub is_member : ℕ → List ℕ → Bool
+is_member f fs = list_any (λ g. g == f) fs
+
 -- whether f calls g
 abbrev pub calls : CoreUnitTree → (f g : ℕ) → Bool
-calls u f g = list_any (λ h. h == g) (callees_of (slice_get u.functions f))
+calls u f g = is_member g (callees_of (slice_get u.functions f))
 
 abbrev pub HasCall : CoreUnitTree → (f g : ℕ) → Type 0
 HasCall u f g = calls u f g ≡ true

@@ -6,6 +6,9 @@ use Rattle.std.specs.Prelude.{Option, Some, None, codes, bytes_eq}
 use Rattle.std.specs.List.{slice_get, list_all}
 use Rattle.qs_base.specs.Names.{is_name}
 use Rattle.qs_memory.specs.Values.{integer, width, has_type}
+use Rattle.qs_memory.specs.Sizes.{largest_size, blank_size}
+use Rattle.qs_memory.specs.Scalars.{same_scalar, same_scalars, is_type, is_pointer, is_promoted}
+use Rattle.qs_memory.specs.Operands.{unary_takes, binary_takes, conversion_takes}
 use Rattle.qs_memory.specs.declared.scalar.Scalar.{Scalar}
 use Rattle.qs_memory.specs.declared.scalar.Scalar.TheVariants as scalars
 use Rattle.qs_calls.specs.Starts.{Signature, signature_of}
@@ -20,8 +23,6 @@ use Rattle.qs_core.specs.Trees.{CoreStmts, no_stmts, stmt_and, CoreParameterTree
 use Rattle.qs_core.specs.Trees.{PieceTree, blank, bytes, pointer, DataBlockTree, CoreUnitTree}
 use Rattle.qs_core.specs.Expressions.{type_of}
 use Rattle.qs_core.specs.Units.{data_block}
-use Rattle.qs_core.specs.Scalars.{same_scalar, same_scalars, is_type, is_pointer, is_promoted}
-use Rattle.qs_core.specs.Operands.{largest_size, blank_size, unary_takes, binary_takes, conversion_takes}
 use Rattle.qs_core.specs.Interfaces.{variable_type, temporary_type, target_type, parameter_types, interface_of}
 
 -- ---- expressions

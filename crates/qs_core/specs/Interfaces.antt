@@ -1,5 +1,5 @@
 -- The types of what core names by numbers, and what a unit shows to those who run its functions.
-use Rattle.std.specs.Prelude.{ℕ, List, [], ◌∷◌, map, Option, option_map}
+use Rattle.std.specs.Prelude.{ℕ, List, [], ◌∷◌, map, Option, Some, None, option_map}
 use Rattle.std.specs.List.{slice_get}
 use Rattle.qs_memory.specs.declared.scalar.Scalar.{Scalar}
 use Rattle.qs_calls.specs.Starts.{Signature, DataExtent, Interface}
@@ -27,6 +27,14 @@ types_of (p ∷ ps) (v ∷ vs) = v.scalar ∷ types_of ps vs
 -- parameters come first among the variables
 abbrev pub parameter_types : CoreFunctionTree → List Scalar
 parameter_types f = types_of f.parameters f.variables
+
+abbrev pub types_of_main : Option CoreFunctionTree → List Scalar
+types_of_main None = []
+types_of_main (Some f) = parameter_types f
+
+-- the types of main's parameters
+abbrev pub main_types : CoreUnitTree → List Scalar
+main_types u = types_of_main (slice_get u.functions u.main)
 
 abbrev pub signature : CoreFunctionTree → Signature
 signature f = record { parameters = parameter_types f; result_type = f.result_type }

@@ -3,14 +3,13 @@ pub mod TreeOf
 pub mod Expressions
 pub mod Statements
 pub mod Units
-pub mod Scalars
-pub mod Operands
 pub mod Interfaces
 pub mod TermTrees
 pub mod Terms
 pub mod TermTreeOf
 pub mod TermTexts
 pub mod TermLengths
+pub mod FunctionNames
 pub mod Outline
 pub mod Puts
 pub mod TextOf

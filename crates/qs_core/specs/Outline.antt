@@ -6,6 +6,7 @@ use Rattle.qs_calls.specs.declared.callee.Callee.TheVariants.{Function, PutChar,
 use Rattle.qs_core.specs.declared.numbers.Target.{Target}
 use Rattle.qs_core.specs.declared.numbers.Target.TheVariants as targets
 use Rattle.qs_core.specs.Trees.{CoreExprTree, CoreStmtTree, skip, seq, assign, store, copy, fill, call, branch, loop, break, continue, return, CoreStmts, no_stmts, stmt_and, CoreParameterTree, CoreFunctionTree, CoreUnitTree}
+use Rattle.qs_core.specs.FunctionNames.{name_in}
 use Rattle.qs_core.specs.TermTexts.{variable_text, temporary_text, expr_text, test_text}
 
 -- where a statement stands: the numbers of the parts that lead to it from the body, each behind a dot
@@ -34,13 +35,8 @@ abbrev pub destination_text : Option ℕ → List ℕ
 destination_text None = codes "-"
 destination_text (Some k) = temporary_text k
 
--- what stands at a number that no function has
-abbrev pub function_name : Option CoreFunctionTree → List ℕ
-function_name None = []
-function_name (Some f) = f.name
-
 abbrev pub function_text : List CoreFunctionTree → ℕ → List ℕ
-function_text functions f = function_name (slice_get functions f)
+function_text functions f = name_in (slice_get functions f)
 
 abbrev pub callee_text : List CoreFunctionTree → Callee → List ℕ
 callee_text functions (Function f) = function_text functions f.0

@@ -2,6 +2,7 @@
 use Rattle.std.specs.Prelude.{ℕ, ℤ, pos, ◌^◌, nat_le, nat_lt, Bool, true, false, Option, Some, None}
 use Rattle.qs_base.specs.Words.{signed}
 use Rattle.qs_memory.specs.Partial.{◌>>=◌, only_if}
+use Rattle.qs_memory.specs.Scalars.{is_integer}
 use Rattle.qs_memory.specs.declared.scalar.Scalar.{Scalar}
 use Rattle.qs_memory.specs.declared.scalar.Scalar.TheVariants as scalars
 use Rattle.qs_memory.specs.declared.operation.Signedness.{Signedness}
@@ -17,7 +18,6 @@ use Rattle.qs_memory.specs.declared.operation.BinaryOperation.TheVariants as bin
 use Rattle.qs_core.specs.Trees.{CoreExprTree, literal, null_pointer, variable, temporary, address_of, load, member}
 use Rattle.qs_core.specs.Trees.{unary, binary, conversion, logical_and, logical_or, conditional}
 use Rattle.qs_core.specs.Expressions.{type_of}
-use Rattle.qs_core.specs.Scalars.{is_integer}
 use Rattle.qs_core.specs.declared.term.TermOperation.{TermOperation}
 use Rattle.qs_core.specs.declared.term.TermOperation.TheVariants.{Add, Subtract, Multiply}
 use Rattle.qs_core.specs.declared.term.TermComparison.TheVariants.{Less, LessOrEqual, Equal, NotEqual}

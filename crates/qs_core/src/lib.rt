@@ -4,6 +4,7 @@
 
 mod conditions;
 mod expressions;
+mod function_names;
 mod laws;
 mod names;
 mod numbers;
@@ -19,6 +20,7 @@ mod units;
 
 pub use conditions::condition_of;
 pub use expressions::{CoreExpr, Operands};
+pub use function_names::name_of;
 pub use laws::{
     bodies_stay_in_range, calls_alone, calls_stay_in_range, core_grows, expressions_have_types,
     initial_memory_is_ready, runs_leave_sound,

@@ -1,6 +1,5 @@
 // The terms and conditions of expressions.
 ghost use Rattle.std.specs.Prelude.{◌≡◌, IfOk};
-ghost use Rattle.qs_core.specs.Scalars.{is_integer};
 ghost use Rattle.qs_core.specs.TreeOf.{core_expr};
 ghost use Rattle.qs_core.specs.TermTreeOf.{GivesTerm, core_term, option_term};
 ghost use Rattle.qs_core.specs.TermTrees.{combined, wrapped};
@@ -11,21 +10,10 @@ use crate::expressions::CoreExpr;
 use crate::term::{CoreTerm, TermOperation, TermPair};
 use crate::types::type_of;
 use qs_base::NoMemory;
-use qs_memory::{Arithmetic, BinaryOperation, Scalar, Signedness, UnaryOperation};
+use qs_memory::{Arithmetic, BinaryOperation, Scalar, Signedness, UnaryOperation, is_integer};
 use std::alloc::Global;
 
 // ---- literals
-
-fn is_integer(s: Scalar) -> bool
-    ensures { result ≡ is_integer s }
-{
-    match s {
-        Scalar::Char => true,
-        Scalar::Int => true,
-        Scalar::Unsigned => true,
-        Scalar::Pointer => false,
-    }
-}
 
 // The number that the bits of a literal stand for.
 fn literal_value(s: Scalar, n: u32) -> i64

@@ -1,20 +1,11 @@
 // The types of expressions.
 ghost use Rattle.std.specs.Prelude.{◌≡◌};
 ghost use Rattle.qs_core.specs.TreeOf.{core_expr};
-ghost use Rattle.qs_memory.specs.Operations.{integer_type, unary_type, binary_type};
+ghost use Rattle.qs_memory.specs.Operations.{unary_type, binary_type};
 ghost use Rattle.qs_core.specs.Expressions.{type_of};
 
 use crate::expressions::CoreExpr;
-use qs_memory::{BinaryOperation, Scalar, Signedness, UnaryOperation};
-
-fn integer_type(s: Signedness) -> Scalar
-    ensures { result ≡ integer_type s }
-{
-    match s {
-        Signedness::Signed => Scalar::Int,
-        Signedness::Unsigned => Scalar::Unsigned,
-    }
-}
+use qs_memory::{BinaryOperation, Scalar, UnaryOperation, integer_type};
 
 fn unary_type(op: UnaryOperation) -> Scalar
     ensures { result ≡ unary_type op }

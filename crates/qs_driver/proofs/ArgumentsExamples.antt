@@ -1,17 +1,18 @@
 -- The types of main's parameters, and the first argument that is no number of its type, at the edges of the types.
 use Rattle.std.proofs.Common.{◌≡◌, ◌-◌, ◌^◌, pos, negsuc, true, false, [], ◌∷◌, refl}
+use Rattle.qs_core.specs.Interfaces.{main_types}
 use Rattle.qs_memory.specs.declared.scalar.Scalar.TheVariants.{Int, Unsigned}
 use Rattle.qs_certify.specs.Bound.{IsNumberOf}
 use Rattle.qs_prooftext.proofs.Examples.{u}
-use Rattle.qs_driver.specs.Arguments.{parameters_of_main, IsFirstUnfit}
+use Rattle.qs_driver.specs.Arguments.{IsFirstUnfit}
 use Rattle.qs_driver.proofs.MainLaws.{number_of_type, type_of_number}
 
 -- `unsigned f(unsigned n, int q)`, whose second parameter lies in a block
-types : parameters_of_main u ≡ Unsigned ∷ Int ∷ []
+types : main_types u ≡ Unsigned ∷ Int ∷ []
 types = refl
 
 -- `void g(void)`
-no_types : parameters_of_main (record u { main = 1 }) ≡ []
+no_types : main_types (record u { main = 1 }) ≡ []
 no_types = refl
 
 -- ---- numbers

@@ -15,6 +15,7 @@ use Rattle.qs_assert.specs.declared.define.Amount.{Amount}
 use Rattle.qs_assert.specs.declared.define.Amount.TheVariants.{Finite, Infinite, Wide}
 use Rattle.qs_entail.specs.Meaning.{AtLeast}
 use Rattle.qs_entail.proofs.Amounts.{at_least_through}
+use Rattle.qs_core.specs.Interfaces.{main_types}
 use Rattle.qs_core.specs.Fits.{unit_fits}
 use Rattle.qs_core.specs.Trees.{CoreUnitTree}
 use Rattle.qs_core.specs.Units as core
@@ -35,7 +36,7 @@ use Rattle.qs_compile.specs.Compiled.{IsCompiled, IsImageOfSource, SourceHasStac
 use Rattle.qs_ports.specs.StoreView.{StoreView}
 use Rattle.qs_driver.specs.Bounds.{bound_by, bytes_by, costs_in, if_finite, linear_runs, main_runs, seen_runs, IsBounded, IsBoundedByMain, IsImageOf, WeighsWithin}
 use Rattle.qs_report.specs.Lines.{cost_line}
-use Rattle.qs_driver.specs.Arguments.{parameters_of_main, IsMisfit}
+use Rattle.qs_driver.specs.Arguments.{IsMisfit}
 use Rattle.qs_driver.specs.Lines.{record_line, cost_lines}
 use Rattle.qs_driver.specs.Certified.{CertifiedSource, CertifyWords, IsCertifiedAs, ReadsCertified}
 use Rattle.qs_driver.proofs.MainLaws.{arguments_are_mains, parameters_are, misfits}
@@ -194,10 +195,10 @@ module _ (w : CertifyWords) (v : StoreView) (s : CertifiedSource) (image : Image
   pub image_takes : (args : List ℤ) → AreArguments image args ↔ certify.AreArguments s.core args
   image_takes args = arguments_are_mains s.core image args source_fits source_built
 
-  pub image_parameters : image.parameters ≡ length (parameters_of_main s.core)
+  pub image_parameters : image.parameters ≡ length (main_types s.core)
   image_parameters = parameters_are s.core image [] source_fits source_built
 
-  pub image_misfits : (args : List ℤ) (at : ℕ) → length args ≡ image.parameters → first_misfit image 0 args ≡ Some at → IsMisfit (parameters_of_main s.core) args at
+  pub image_misfits : (args : List ℤ) (at : ℕ) → length args ≡ image.parameters → first_misfit image 0 args ≡ Some at → IsMisfit (main_types s.core) args at
   image_misfits args at count first = misfits s.core image args source_fits source_built at count first
 
 -- a certified source is bounded, for every stack metric

@@ -5,9 +5,9 @@ use Rattle.std.specs.Prelude.{Vec}
 use Rattle.std.specs.declared.alloc.Global.{Global}
 use Rattle.qs_base.specs.declared.places.Pos.{Pos}
 use Rattle.qs_core.specs.Trees.{CoreUnitTree}
+use Rattle.qs_core.specs.FunctionNames.{function_name}
 use Rattle.qs_elaborate.specs.Units.{core_of}
 use Rattle.qs_triples.specs.Derivations.{ProofsTree}
-use Rattle.qs_triples.specs.Filled.{function_name}
 use Rattle.qs_triples.specs.Rules.{DerivationFault}
 use Rattle.qs_analyse.specs.Fillable.{entry_functions}
 use Rattle.qs_callgraph.specs.CallLists.{numbers}

@@ -3,6 +3,7 @@ use Rattle.std.proofs.Common.{◌≡◌, ◌≢◌, ◌⊎◌, ◌∙◌, ℕ, �
 use Rattle.std.specs.List.{list_any}
 use Rattle.std.proofs.lemmas.Option.{same_Some}
 use Rattle.qs_syntax.specs.Trees.{UnitTree}
+use Rattle.qs_core.specs.Interfaces.{main_types}
 use Rattle.qs_core.specs.CallGraph.{IsWithoutRecursion}
 use Rattle.qs_core.specs.Trees.{CoreUnitTree}
 use Rattle.qs_elaborate.specs.Units.{core_of}
@@ -21,7 +22,7 @@ use Rattle.qs_driver.specs.Limits.{source_limit}
 use Rattle.qs_driver.specs.Source.{IsTypedAs, IsOfSource, missing_source, long_source, ill_spelled, no_reading, ill_typed}
 use Rattle.qs_driver.specs.Bounds.{bound_by, costs_in}
 use Rattle.qs_driver.specs.Certified.{CertifyWords, CertifiedSource, ReadsCertified, WasReadProof, IsRightFile, HoldsRight, HoldsRightProofs, IsOfCertified, of_source, missing_proof, long_proof, wrong_proof}
-use Rattle.qs_driver.specs.Arguments.{parameters_of_main, CountDiffers, IsMisfit}
+use Rattle.qs_driver.specs.Arguments.{CountDiffers, IsMisfit}
 use Rattle.qs_driver.specs.Made.{MakeWords, IsMade, ReadsMain, CannotMake, HoldsMain, FitsMain, IsOfMade, RefusesMade}
 use Rattle.qs_driver.specs.Made as meant
 use Rattle.qs_driver.specs.Promises.{StoreHeld, SaysStoreFailed}
@@ -196,9 +197,9 @@ main_there m v P told h = record {
   so = h.so;
 }
 
-main_read : (m : MakeWords) (v : StoreView) (s : CertifiedSource) (P : List Scalar → Type 0) → IsTrue v.told → ReadsCertified m.inputs v s → HoldsMain m v.files P → P (parameters_of_main s.core)
+main_read : (m : MakeWords) (v : StoreView) (s : CertifiedSource) (P : List Scalar → Type 0) → IsTrue v.told → ReadsCertified m.inputs v s → HoldsMain m v.files P → P (main_types s.core)
 main_read m v s P told r h =
-    subst (λ (u : CoreUnitTree). P (parameters_of_main u)) (sym (read_core m.inputs v s h.right h.core told r h.core_is)) h.so
+    subst (λ (u : CoreUnitTree). P (main_types u)) (sym (read_core m.inputs v s h.right h.core told r h.core_is)) h.so
 
 -- there aren't both so many and another number of parameters
 counts_differ : (types : List Scalar) (args : List ℤ) (parameters : ℕ) → CountDiffers types args parameters → length args ≡ length types → ⊥
@@ -214,10 +215,10 @@ made_no_good m v w status n (meant.not_certified l) = elim (certified_no_right m
 ]
 made_no_good m v w status n (meant.count_differs parameters u c e) = inl (λ told fits.
     let are = main_read m v c.source (λ types. AreNumbersOf types m.args) told c.reads fits in
-    counts_differ (parameters_of_main c.source.core) m.args parameters c.so (as_many (parameters_of_main c.source.core) m.args are))
+    counts_differ (main_types c.source.core) m.args parameters c.so (as_many (main_types c.source.core) m.args are))
 made_no_good m v w status n (meant.misfit i u x e) = inl (λ told fits.
     let are = main_read m v x.source (λ types. AreNumbersOf types m.args) told x.reads fits in
-    none_unfit (parameters_of_main x.source.core) m.args i are x.so.first)
+    none_unfit (main_types x.source.core) m.args i are x.so.first)
 made_no_good m v w status n (meant.no_memory u e) = inr e
 
 pub fits_main : (m : MakeWords) (v : StoreView) (image : Image) (bound : Amount) → IsTrue v.told → IsMade m v image bound → FitsMain m v.files
@@ -287,7 +288,7 @@ module _ (m : MakeWords) (v : StoreView) (status : Status) (memory : status ≢ 
     count_leads : MadeEnds m v status → HoldsMain m v.files Differs → status ≡ Words (ArgCount parameters (length m.args))
     count_leads (goes_on image bound made none) h =
         let d = main_read m v made.source Differs told made.makes.reads h in
-        absurd (counts_differ (parameters_of_main made.source.core) m.args parameters d (as_many (parameters_of_main made.source.core) m.args made.arguments))
+        absurd (counts_differ (main_types made.source.core) m.args parameters d (as_many (main_types made.source.core) m.args made.arguments))
     count_leads (cannot w n (meant.not_certified l)) h = elim (certified_no_right m.inputs v w status n l) [
       | inl never ↦ absurd (never told h.right)
       | inr e ↦ absurd (memory e)
@@ -296,7 +297,7 @@ module _ (m : MakeWords) (v : StoreView) (status : Status) (memory : status ≢ 
         let d = main_read m v c.source Differs told c.reads h in
         e ∙ ap (λ (k : ℕ). Words (ArgCount k (length m.args))) (c.so.parameters_are ∙ sym d.parameters_are)
     count_leads (cannot w n (meant.misfit i u x e)) h =
-        absurd (counts_differ (parameters_of_main x.source.core) m.args parameters (main_read m v x.source Differs told x.reads h) x.so.count)
+        absurd (counts_differ (main_types x.source.core) m.args parameters (main_read m v x.source Differs told x.reads h) x.so.count)
     count_leads (cannot w n (meant.no_memory u e)) h = absurd (memory e)
 
   -- ---- arguments of their parameters' types
@@ -317,16 +318,16 @@ module _ (m : MakeWords) (v : StoreView) (status : Status) (memory : status ≢ 
 
     argument_leads : MadeEnds m v status → HoldsMain m v.files Misfits → status ≡ Words (ArgRange i)
     argument_leads (goes_on image bound made none) h =
-        absurd (none_unfit (parameters_of_main made.source.core) m.args i made.arguments (main_read m v made.source Misfits told made.makes.reads h).first)
+        absurd (none_unfit (main_types made.source.core) m.args i made.arguments (main_read m v made.source Misfits told made.makes.reads h).first)
     argument_leads (cannot w n (meant.not_certified l)) h = elim (certified_no_right m.inputs v w status n l) [
       | inl never ↦ absurd (never told h.right)
       | inr e ↦ absurd (memory e)
     ]
     argument_leads (cannot w n (meant.count_differs found u c e)) h =
-        absurd (counts_differ (parameters_of_main c.source.core) m.args found c.so (main_read m v c.source Misfits told c.reads h).count)
+        absurd (counts_differ (main_types c.source.core) m.args found c.so (main_read m v c.source Misfits told c.reads h).count)
     argument_leads (cannot w n (meant.misfit found u x e)) h =
         let first = (main_read m v x.source Misfits told x.reads h).first in
-        e ∙ ap (λ (k : ℕ). Words (ArgRange k)) (one_unfit (parameters_of_main x.source.core) m.args found i x.so.first first)
+        e ∙ ap (λ (k : ℕ). Words (ArgRange k)) (one_unfit (main_types x.source.core) m.args found i x.so.first first)
     argument_leads (cannot w n (meant.no_memory u e)) h = absurd (memory e)
 
   -- ---- the clauses

@@ -3,21 +3,20 @@ use Rattle.std.proofs.Common.{◌≡◌, ℕ, zero, suc, ◌+◌, ◌-◌, ◌^�
 use Rattle.std.specs.Prelude.{◌↔◌, ◌≤ℤ◌, ◌&&◌, int_le, bytes_eq}
 use Rattle.std.specs.List.{slice_get, list_all}
 use Rattle.std.proofs.lemmas.Int.{ints}
+use Rattle.qs_memory.specs.Scalars.{same_scalar, is_type, is_promoted}
 use Rattle.qs_memory.specs.declared.scalar.Scalar.{Scalar}
 use Rattle.qs_memory.specs.declared.scalar.Scalar.TheVariants as scalars
 use Rattle.qs_core.specs.Fits.{main_name, is_main, unit_fits}
-use Rattle.qs_core.specs.Interfaces.{parameter_types}
-use Rattle.qs_core.specs.Scalars.{same_scalar, is_type, is_promoted}
+use Rattle.qs_core.specs.Interfaces.{main_types, parameter_types, types_of_main}
 use Rattle.qs_core.specs.Trees.{CoreFunctionTree, CoreUnitTree}
 use Rattle.qs_core.proofs.FitLaws.{both, unit_parts}
 use Rattle.qs_image.specs.Image.{Image}
 use Rattle.qs_machine.specs.Arguments.{is_unsigned, is_between, fits_parameter, first_misfit}
 use Rattle.qs_machine.specs.Arguments as image_arguments
 use Rattle.qs_build.specs.Built.{IsBuiltFrom}
-use Rattle.qs_build.specs.Units.{types_of_main, main_types}
-use Rattle.qs_certify.specs.Bound.{IsNumberOf, AreNumbersOf, types_in}
+use Rattle.qs_certify.specs.Bound.{IsNumberOf, AreNumbersOf}
 use Rattle.qs_certify.specs.Bound as certify
-use Rattle.qs_driver.specs.Arguments.{parameters_of_main, IsFirstUnfit, IsMisfit}
+use Rattle.qs_driver.specs.Arguments.{IsFirstUnfit, IsMisfit}
 
 -- ---- numbers
 
@@ -158,10 +157,6 @@ none_unfit (s ∷ types) (z ∷ zs) (suc i) are h = none_unfit types zs i are.1 
 
 -- ---- main
 
-same_types : (main : Option CoreFunctionTree) → types_in main ≡ types_of_main main
-same_types None = refl
-same_types (Some f) = refl
-
 promoted_types : (main : Option CoreFunctionTree) → is_main main ≡ true → list_all is_promoted (types_of_main main) ≡ true
 promoted_types None is = cc
 promoted_types (Some f) is = (both (bytes_eq f.name main_name && is_type f.result_type scalars.Int) (list_all is_promoted (parameter_types f)) is).1
@@ -173,38 +168,29 @@ module _ (u : CoreUnitTree) (image : Image) (args : List ℤ) (fits : unit_fits 
   tells : Tells image 0 (main_types u)
   tells j = let same : 0 + j ≡ j = omega arith in ap (is_unsigned image) same ∙ built.unsigned j
 
-  same : parameters_of_main u ≡ main_types u
-  same = same_types (slice_get u.functions u.main)
-
   -- it takes as many arguments as main of its core has parameters
-  pub parameters_are : image.parameters ≡ length (parameters_of_main u)
-  parameters_are = built.parameters ∙ ap length (sym same)
+  pub parameters_are : image.parameters ≡ length (main_types u)
+  parameters_are = built.parameters
 
   -- and where one doesn't fit, it is the first that is no number of its type
-  pub misfits : (i : ℕ) → length args ≡ image.parameters → first_misfit image 0 args ≡ Some i → IsMisfit (parameters_of_main u) args i
+  pub misfits : (i : ℕ) → length args ≡ image.parameters → first_misfit image 0 args ≡ Some i → IsMisfit (main_types u) args i
   misfits i count first =
       let long : length args ≡ length (main_types u) = count ∙ built.parameters in
       let (j, at, unfit) = unfit_from image 0 (main_types u) args i promoted tells long first in
       let here : j ≡ i = omega (arith, at) in
       record {
         count = count ∙ parameters_are;
-        first =
-            subst (λ (types : List Scalar). IsFirstUnfit types args i) (sym same)
-            (subst (λ (k : ℕ). IsFirstUnfit (main_types u) args k) here unfit);
+        first = subst (λ (k : ℕ). IsFirstUnfit (main_types u) args k) here unfit;
       }
 
   are_mains : image_arguments.AreArguments image args → certify.AreArguments u args
-  are_mains a =
-      subst (λ (types : List Scalar). AreNumbersOf types args) (sym same)
-      (are_numbers image 0 (main_types u) args promoted tells (a.count ∙ built.parameters) a.fit)
+  are_mains a = are_numbers image 0 (main_types u) args promoted tells (a.count ∙ built.parameters) a.fit
 
   are_images : certify.AreArguments u args → image_arguments.AreArguments image args
-  are_images a =
-      let are = subst (λ (types : List Scalar). AreNumbersOf types args) same a in
-      record {
-        count = as_many (main_types u) args are ∙ sym built.parameters;
-        fit = numbers_fit image 0 (main_types u) args promoted tells are;
-      }
+  are_images a = record {
+    count = as_many (main_types u) args a ∙ sym built.parameters;
+    fit = numbers_fit image 0 (main_types u) args promoted tells a;
+  }
 
 -- the arguments that an image takes are those that main of its core takes
 pub arguments_are_mains :

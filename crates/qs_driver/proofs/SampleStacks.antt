@@ -4,6 +4,7 @@ use Rattle.std.specs.List.{slice_get}
 use Rattle.qs_types.specs.Contexts.{start_context}
 use Rattle.qs_core.specs.Fits.{unit_fits}
 use Rattle.qs_core.specs.Trees.{CoreUnitTree}
+use Rattle.qs_core.specs.Interfaces.{types_of_main, main_types}
 use Rattle.qs_elaborate.specs.Names.{FunctionNames, names_in}
 use Rattle.qs_elaborate.specs.Units.{functions_core}
 use Rattle.qs_limits.specs.Caps.{caps}
@@ -11,7 +12,6 @@ use Rattle.qs_analyse.specs.Paths.{IsLongestPath}
 use Rattle.qs_assert.specs.declared.define.Amount.TheVariants.{Finite}
 use Rattle.qs_image.specs.Image.{Image}
 use Rattle.qs_machine.specs.Arguments.{AreArguments}
-use Rattle.qs_build.specs.Units.{types_of_main, main_types}
 use Rattle.qs_certify.specs.Bound.{costs_of}
 use Rattle.qs_certify.specs.Laws.{HasLongestBound}
 use Rattle.qs_certify.proofs.LongestLaws.{bounds_are_longest_paths}

@@ -1,10 +1,8 @@
 -- The arguments of main: numbers of its parameters' types, and their words for the machine.
 use Rattle.std.specs.Prelude.{◌≡◌, ◌≢◌, ℕ, zero, suc, ℤ, List, [], ◌∷◌, length, Some, Result, Ok, Err, Vec}
-use Rattle.std.specs.List.{slice_get}
 use Rattle.std.specs.declared.alloc.Global.{Global}
 use Rattle.qs_memory.specs.declared.scalar.Scalar.{Scalar}
-use Rattle.qs_core.specs.Trees.{CoreUnitTree}
-use Rattle.qs_certify.specs.Bound.{IsNumberOf, types_in}
+use Rattle.qs_certify.specs.Bound.{IsNumberOf}
 use Rattle.qs_image.specs.Image.{Image}
 use Rattle.qs_machine.specs.Arguments.{AreArguments, first_misfit, words_of}
 use Rattle.qs_driver.specs.declared.arguments.Parameters.{Parameters}
@@ -13,10 +11,6 @@ use Rattle.qs_driver.specs.declared.status.Status.TheVariants.{Words, NoMemory}
 use Rattle.qs_driver.specs.declared.status.WordsFault.TheVariants.{ArgCount, ArgRange}
 
 -- ---- by the types of main's parameters
-
--- the types of main's parameters, `int` or `unsigned`
-abbrev pub parameters_of_main : CoreUnitTree → List Scalar
-parameters_of_main u = types_in (slice_get u.functions u.main)
 
 -- there are so many parameters, and more or fewer arguments
 pub record CountDiffers (types : List Scalar) (args : List ℤ) (parameters : ℕ) : Type 0 where

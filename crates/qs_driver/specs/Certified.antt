@@ -5,13 +5,14 @@ use Rattle.qs_base.specs.declared.function.FnId.{FnId}
 use Rattle.qs_base.specs.declared.places.Pos.{Pos}
 use Rattle.qs_syntax.specs.Trees.{UnitTree}
 use Rattle.qs_typing.specs.TypedOf.{typed_tree}
-use Rattle.qs_core.specs.CallGraph.{IsCycle, IsWithoutRecursion}
+use Rattle.qs_core.specs.CallGraph.{IsCycle, IsWithoutRecursion, is_member}
 use Rattle.qs_core.specs.Trees.{CoreUnitTree}
 use Rattle.qs_core.specs.UnitTrees.{unit_tree}
+use Rattle.qs_core.specs.FunctionNames.{function_name}
 use Rattle.qs_core.specs.declared.unit.CoreUnit.{CoreUnit}
 use Rattle.qs_elaborate.specs.FitLaws.{HasCore}
 use Rattle.qs_elaborate.specs.Units.{core_of}
-use Rattle.qs_callgraph.specs.CallLists.{is_member, numbers}
+use Rattle.qs_callgraph.specs.CallLists.{numbers}
 use Rattle.qs_prooftext.specs.Reading.{Reading}
 use Rattle.qs_prooftext.specs.Writing.{variable_text}
 use Rattle.qs_prooftext.specs.declared.fault.TextFault.{TextFault}
@@ -22,7 +23,6 @@ use Rattle.qs_entail.specs.declared.fault.CertFault.TheVariants as certificates
 use Rattle.qs_triples.specs.Derivations.{ProofsTree}
 use Rattle.qs_triples.specs.Entries.{has_entry}
 use Rattle.qs_triples.specs.Rules.{DerivationFault}
-use Rattle.qs_triples.specs.Filled.{function_name}
 use Rattle.qs_triples.specs.Told.{callee_view}
 use Rattle.qs_triples.specs.TreeOf.{proofs_tree}
 use Rattle.qs_triples.specs.declared.fault.DerivFault.{DerivFault}

@@ -3,6 +3,7 @@ use Rattle.std.specs.Prelude.{◌≡◌, ◌↔◌, ℕ, ℤ, List, length, Some
 use Rattle.qs_memory.specs.declared.scalar.Scalar.{Scalar}
 use Rattle.qs_typing.specs.TypedOf.{typed_tree}
 use Rattle.qs_assert.specs.declared.define.Amount.{Amount}
+use Rattle.qs_core.specs.Interfaces.{main_types}
 use Rattle.qs_core.specs.Trees.{CoreUnitTree}
 use Rattle.qs_elaborate.specs.Units.{core_of}
 use Rattle.qs_certify.specs.Bound.{AreNumbersOf, AreArguments, main_bound}
@@ -12,7 +13,7 @@ use Rattle.qs_triples.specs.TreeOf.{proofs_tree}
 use Rattle.qs_compile.specs.Compiled.{IsImageOfSource}
 use Rattle.qs_image.specs.Image.{Image}
 use Rattle.qs_machine.specs.Arguments as machine
-use Rattle.qs_driver.specs.Arguments.{parameters_of_main, CountDiffers, IsMisfit, LacksWords}
+use Rattle.qs_driver.specs.Arguments.{CountDiffers, IsMisfit, LacksWords}
 use Rattle.qs_driver.specs.Files.{IsUntouched}
 use Rattle.qs_driver.specs.Certified.{CertifyWords, CertifiedSource, ReadsCertified, LacksCertified, HoldsRight, IsOfCertified, RefusesCertified}
 use Rattle.qs_driver.specs.Bounds.{IsImageOf, bound_by, costs_in}
@@ -54,7 +55,7 @@ pub record ReadsMain (m : MakeWords) (before : StoreView) (IsSo : List Scalar �
     : Type 0 where
   pub source : CertifiedSource
   pub reads : ReadsCertified m.inputs before source
-  pub so : IsSo (parameters_of_main source.core)
+  pub so : IsSo (main_types source.core)
 
 -- Why nothing is made, and the status at that. The tests come in this order.
 pub data CannotMake (m : MakeWords) (before after : StoreView) (status : Status) : Type 0 where
@@ -75,7 +76,7 @@ pub record HoldsMain (m : MakeWords) (files : Files) (IsSo : List Scalar → Typ
   pub right : HoldsRight m.inputs files
   pub core : CoreUnitTree
   pub core_is : core_of right.typed.unit.trees ≡ Some core
-  pub so : IsSo (parameters_of_main core)
+  pub so : IsSo (main_types core)
 
 -- The source is right with its proofs, and there is an argument for each of main's parameters, a number of its type.
 abbrev pub FitsMain : MakeWords → Files → Type 0

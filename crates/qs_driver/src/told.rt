@@ -7,14 +7,13 @@ ghost use Rattle.qs_driver.specs.Certified.{IsWrong, TellsOfAnyFile, TellsWrong}
 ghost use Rattle.qs_driver.specs.Told.{owner_of};
 ghost use Rattle.qs_certify.specs.Entries.{IsMet};
 ghost use Rattle.qs_certify.specs.declared.fault.CertifyFault.TheVariants as faults;
-ghost use Rattle.qs_triples.specs.Filled.{function_name};
 ghost use Rattle.qs_triples.specs.Told.{callee_view};
 ghost use Rattle.qs_triples.specs.declared.fault.DerivFault.TheVariants as entries;
 
 use crate::{ProofFault, Status};
 use qs_assert::Var;
-use qs_base::{FnId, Name, NoMemory};
-use qs_core::CoreUnit;
+use qs_base::{FnId, NoMemory};
+use qs_core::{CoreUnit, name_of};
 use qs_entail::CertFault;
 use qs_prooftext::variable_text;
 use qs_report::{Path, ProofText, Spot};
@@ -144,14 +143,6 @@ fn fault_told(alloc: Global, unit: &CoreUnit, f: FnId, fault: DerivFault) -> Res
         DerivFault::Entry(fault) => precondition_told(fault),
         DerivFault::BadOrder(_) => unreachable!(),
     }
-}
-
-/// The name of a function.
-pub fn name_of(alloc: Global, unit: &CoreUnit, f: FnId) -> Result<Name, NoMemory>
-    requires { f.0 < length unit.now.functions.items }
-    ensures { IfOk result (λ name. name ≡ function_name (unit_tree unit.now) f.0) }
-{
-    unit.functions[f.0 as usize].name.copy(alloc)
 }
 
 #[tactic(auto, using(crate::proofs::ToldLaws::named_is_told))]

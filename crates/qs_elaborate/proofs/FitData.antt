@@ -7,10 +7,10 @@ use Rattle.std.proofs.lemmas.List.{length-map}
 use Rattle.qs_memory.specs.Values.{Pointer, null, into}
 use Rattle.qs_memory.specs.Memory.{Cell, unset, BlankTree, zeros, nulls, repeated, nothing, joined, Block, block_at}
 use Rattle.qs_memory.specs.Soundness.{IsLive, IsSoundInto, IsSoundPointer, IsSoundCell}
+use Rattle.qs_memory.specs.Sizes.{largest_size}
 use Rattle.qs_memory.proofs.CellLaws.{Each}
 use Rattle.qs_core.specs.Trees.{PieceTree, blank, bytes, pointer, DataBlockTree, CoreUnitTree}
 use Rattle.qs_core.specs.Units.{data_block}
-use Rattle.qs_core.specs.Operands.{largest_size}
 use Rattle.qs_core.specs.Fits.{is_in_data, piece_fits, data_fits}
 use Rattle.qs_core.proofs.FitLaws.{both, all_at}
 use Rattle.qs_meaning.specs.Typed.{StaticBlock, TypedProgram}

@@ -4,6 +4,10 @@ use Rattle.std.specs.List.{slice_get}
 use Rattle.std.proofs.lemmas.Bool.Decides.{nat_tests}
 use Rattle.qs_memory.specs.Values.{integer, has_type}
 use Rattle.qs_memory.specs.Operations.{integer_type, binary_type}
+use Rattle.qs_memory.specs.Sizes.{largest_size, is_element}
+use Rattle.qs_memory.specs.Scalars.{same_scalar, is_type, is_pointer}
+use Rattle.qs_memory.specs.Operands.{unary_takes, binary_takes}
+use Rattle.qs_memory.proofs.BlankLaws.{blank_length}
 use Rattle.qs_memory.specs.declared.scalar.Scalar.{Scalar}
 use Rattle.qs_memory.specs.declared.scalar.Scalar.TheVariants as scalars
 use Rattle.qs_memory.specs.declared.operation.Signedness.{Signedness}
@@ -15,26 +19,23 @@ use Rattle.qs_calls.specs.declared.callee.Callee.{Callee}
 use Rattle.qs_core.specs.Trees.{CoreFunctionTree, CoreUnitTree}
 use Rattle.qs_core.specs.Trees as core
 use Rattle.qs_core.specs.Expressions as core_expressions
-use Rattle.qs_core.specs.Scalars.{is_type}
-use Rattle.qs_core.specs.Operands.{unary_takes, largest_size}
 use Rattle.qs_core.specs.Interfaces.{variable_type}
 use Rattle.qs_core.specs.Interfaces as core_interfaces
 use Rattle.qs_core.specs.Fits as fits
 use Rattle.qs_core.proofs.FitLaws.{both, all_at}
 use Rattle.qs_meaning.specs.Typed.{Conversion, unchanged, Object, local, static, Expr, constant, value, pointer_to, member, called, stepped_after, unary, cast, binary, logical_and, logical_or, conditional, assigned, sequence, Lvalue, variable, object, Arguments, no_arguments, argument_and, Assignment, set, update, Effect, nothing, discard, assign, perform, copy, fill, in_order, Function}
-use Rattle.qs_meaning.specs.Conversions as meaning
-use Rattle.qs_meaning.specs.Fits.{type_after, assigned_type, type_of, is_null, takes_operands, amount_type, object_there, expr_fits, lvalue_fits, arguments_fit, assignment_fits, effect_fits, conversion_fits, becomes, taken, is_whole_local}
+use Rattle.qs_meaning.specs.Fits.{type_after, assigned_type, type_of, is_null, amount_type, object_there, expr_fits, lvalue_fits, arguments_fit, assignment_fits, effect_fits, conversion_fits, becomes, taken, is_whole_local}
 use Rattle.qs_meaning.specs.Fits as source
 use Rattle.qs_elaborate.specs.Literals.{literal_value}
 use Rattle.qs_elaborate.specs.Acting.{acts, arguments_act}
 use Rattle.qs_elaborate.specs.Parts.{Temporaries, next_number, with_temporary, Valued, Listed, saved_if, joined, Located, address_saved_if, value_at, value_read, in_turn, before}
 use Rattle.qs_elaborate.specs.Expressions.{block_of, operation_core, updated_core, step_amount, step_valued, and_branching, or_branching, choice_branching, choice_joined, expression_core, lvalue_core, arguments_core, assignment_core, effect_core}
-use Rattle.qs_elaborate.proofs.FitParts.{together, blank_length, same_from, same_types, points, pointer_type, unary_same, extends_self, extends_then, extends_with, found_last, found_later, holding, none_fit, both_fit, expr_kept, ordered_type}
+use Rattle.qs_elaborate.proofs.FitParts.{together, same_from, same_types, points, pointer_type, extends_self, extends_then, extends_with, found_last, found_later, holding, none_fit, both_fit, expr_kept, ordered_type}
 use Rattle.qs_elaborate.proofs.FitOperands.{ValuedFits, pure_fits, valued_with, saved_fits, operand_fits, operand_more, converted_valued, ListedFits, then_fits, LocatedFits, location_kept, address_fits, place_fits, read_fits, written_fits, operation_fits, joined_fits, WrittenFits, write_alone, write_used, set_fits, updated_fits, AllValuedFit, argument_fits, call_used, call_alone, and_fits, or_fits, choice_fits, choice_joined_fits}
 
 -- a function in core has the variables, blocks and result that it has in the source, and its unit the functions
 pub record IsAlike (u : CoreUnitTree) (f : CoreFunctionTree) (i : Interface) (g : Function) : Type 0 where
-  pub variables : (x : ℕ) (s : Scalar) → source.is_type (slice_get g.variables x) s ≡ true → is_type (variable_type f x) s ≡ true
+  pub variables : (x : ℕ) (s : Scalar) → is_type (slice_get g.variables x) s ≡ true → is_type (variable_type f x) s ≡ true
   pub objects : (o : Object) → object_there i g o ≡ true → fits.block_fits u f (block_of o) ≡ true
   pub signatures : (callee : Callee) → signature_of (core_interfaces.interface_of u) callee ≡ signature_of i callee
   pub result : f.result_type ≡ g.result
@@ -52,16 +53,16 @@ one_of Signed = refl
 one_of Unsigned = refl
 
 module _ (u : CoreUnitTree) (f : CoreFunctionTree) where
-  amount_fits : (ts : Temporaries) (op : BinaryOperation) (s : Scalar) → takes_operands op s (amount_type op) ≡ true → ValuedFits u f ts (record { statements = []; value = step_amount op; temporaries = ts }) (amount_type op) false
+  amount_fits : (ts : Temporaries) (op : BinaryOperation) (s : Scalar) → binary_takes op s (amount_type op) ≡ true → ValuedFits u f ts (record { statements = []; value = step_amount op; temporaries = ts }) (amount_type op) false
   amount_fits ts (binaries.Arithmetic op s) t h = pure_fits u f ts (core.literal (integer_type s) 1) (integer_type s) false (one_of s) refl (λ e. cc)
   amount_fits ts (binaries.Compare op s) t h = pure_fits u f ts (core.literal (integer_type s) 1) (integer_type s) false (one_of s) refl (λ e. cc)
   amount_fits ts (binaries.Move direction s element) t h = pure_fits u f ts (core.literal (integer_type s) 1) (integer_type s) false (one_of s) refl (λ e. cc)
   amount_fits ts (binaries.Difference element) t h =
-      let two = both (source.is_pointer t && false) (source.is_element element) h in let never = both (source.is_pointer t) false two.0 in cc
-  amount_fits ts (binaries.ComparePointers op) t h = let never = both (source.is_pointer t) false h in cc
+      let two = both (is_pointer t && false) (is_element element) h in let never = both (is_pointer t) false two.0 in cc
+  amount_fits ts (binaries.ComparePointers op) t h = let never = both (is_pointer t) false h in cc
 
   -- a step whose value is used
-  step_fits : (ts : Temporaries) (s : Scalar) (op : BinaryOperation) (left back : Conversion) (l : Located) → LocatedFits u f ts l s → conversion_fits left s false ≡ true → takes_operands op (type_after left s) (amount_type op) ≡ true → (conversion_fits back (binary_type op) false && meaning.same_scalar (type_after back (binary_type op)) s) ≡ true → ValuedFits u f ts (step_valued s op left back l) s false
+  step_fits : (ts : Temporaries) (s : Scalar) (op : BinaryOperation) (left back : Conversion) (l : Located) → LocatedFits u f ts l s → conversion_fits left s false ≡ true → binary_takes op (type_after left s) (amount_type op) ≡ true → (conversion_fits back (binary_type op) false && same_scalar (type_after back (binary_type op)) s) ≡ true → ValuedFits u f ts (step_valued s op left back l) s false
   step_fits ts s op left back l h fit_left takes fit_back =
       let us : Temporaries = with_temporary l.temporaries s in
       let k = next_number l.temporaries in
@@ -103,7 +104,7 @@ module _ (u : CoreUnitTree) (f : CoreFunctionTree) (i : Interface) (g : Function
       joined_fits u f ts v b s t scalars.Int x y h hb core.logical_or (together (expr_kept u f v.temporaries b.temporaries hb.more v.value h.value) hb.value) refl
 
   -- the two ways of `?:`
-  choice_chosen : (q : Bool) (ts : Temporaries) (s : Scalar) (second third : Conversion) (v a b c : Valued) (r t w : Scalar) (x y z : Bool) → ValuedFits u f ts v r x → ValuedFits u f v.temporaries a t y → ValuedFits u f (with_temporary a.temporaries s) b w z → ValuedFits u f a.temporaries c w z → (conversion_fits second t y && meaning.same_scalar (type_after second t) s) ≡ true → (conversion_fits third w z && meaning.same_scalar (type_after third w) s) ≡ true → ValuedFits u f ts (if q then choice_branching s second third v a b else choice_joined second third v a c) s false
+  choice_chosen : (q : Bool) (ts : Temporaries) (s : Scalar) (second third : Conversion) (v a b c : Valued) (r t w : Scalar) (x y z : Bool) → ValuedFits u f ts v r x → ValuedFits u f v.temporaries a t y → ValuedFits u f (with_temporary a.temporaries s) b w z → ValuedFits u f a.temporaries c w z → (conversion_fits second t y && same_scalar (type_after second t) s) ≡ true → (conversion_fits third w z && same_scalar (type_after third w) s) ≡ true → ValuedFits u f ts (if q then choice_branching s second third v a b else choice_joined second third v a c) s false
   choice_chosen true ts s second third v a b c r t w x y z h ha hb hc fit_a fit_b = choice_fits u f ts s second third v a b r t w x y z h ha hb fit_a fit_b
   choice_chosen false ts s second third v a b c r t w x y z h ha hb hc fit_a fit_b = choice_joined_fits u f ts s second third v a c r t w x y z h ha hc fit_a fit_b
 
@@ -146,7 +147,7 @@ module _ (u : CoreUnitTree) (f : CoreFunctionTree) (i : Interface) (g : Function
     expression_fits (pointer_to o) h ts = pure_fits u f ts (core.address_of (block_of o)) scalars.Pointer false (object_fits ts o h) refl (λ e. cc)
     expression_fits (member offset a) h ts =
         let two = both (expr_fits i g a) _ h in
-        let room = both (source.is_pointer (type_of a)) _ two.1 in
+        let room = both (is_pointer (type_of a)) _ two.1 in
         let v = expression_fits a two.0 ts in
         valued_with u f ts _ _ _ v (core.member offset (expression_core a ts).value) scalars.Pointer (together (together v.value (points (v.type ∙ pointer_type room.0))) room.1) refl
     expression_fits (called s callee es) h ts =
@@ -155,7 +156,7 @@ module _ (u : CoreUnitTree) (f : CoreFunctionTree) (i : Interface) (g : Function
     expression_fits (stepped_after s l op left back) h ts =
         let two = both (lvalue_fits i g s l) _ h in
         let three = both (conversion_fits left s false) _ two.1 in
-        let four = both (takes_operands op (type_after left s) (amount_type op)) _ three.1 in
+        let four = both (binary_takes op (type_after left s) (amount_type op)) _ three.1 in
         step_fits u f ts s op left back (lvalue_core l ts) (lvalue_fits_too l s two.0 ts) three.0 four.0 four.1
     expression_fits (unary op c a) h ts =
         let two = both (expr_fits i g a) _ h in
@@ -163,7 +164,7 @@ module _ (u : CoreUnitTree) (f : CoreFunctionTree) (i : Interface) (g : Function
         let v = expression_fits a two.0 ts in
         let x = converted_valued u f ts _ c _ _ _ v extends_self three.0 in
         valued_with u f ts _ _ _ v _ _
-        (together x.value (ap (λ (t : Scalar). unary_takes op t) x.type ∙ sym (unary_same op (type_after c (type_of a))) ∙ three.1)) refl
+        (together x.value (ap (λ (t : Scalar). unary_takes op t) x.type ∙ three.1)) refl
     expression_fits (cast c a) h ts =
         let two = both (expr_fits i g a) _ h in
         let v = expression_fits a two.0 ts in
@@ -224,7 +225,7 @@ module _ (u : CoreUnitTree) (f : CoreFunctionTree) (i : Interface) (g : Function
         let parts = both (lvalue_fits i g s l) _ two.0 in
         let takes = both (conversion_fits left s false && conversion_fits right (type_of a) (is_null a)) _ two.1 in
         let conversions = both (conversion_fits left s false) _ takes.0 in
-        let operation = both (takes_operands op (type_after left s) (type_after right (type_of a))) _ takes.1 in
+        let operation = both (binary_takes op (type_after left s) (type_after right (type_of a))) _ takes.1 in
         let last = both (conversion_fits back (binary_type op) false) _ operation.1 in
         let at = place_fits u f ts (acts a) (lvalue_core l ts) s (lvalue_fits_too l s parts.0 ts) in
         let l_saved = address_saved_if (acts a) (lvalue_core l ts) in
@@ -251,9 +252,9 @@ module _ (u : CoreUnitTree) (f : CoreFunctionTree) (i : Interface) (g : Function
         let two = both (is_some (signature_of i callee)) _ h in
         call_alone u f ts callee (arguments_core es ts) (signature_of i callee) (alike.signatures callee) (arguments_fit_too es _ two.1 ts) two.0
     effect_fits_too (copy size alignment a b) h ts =
-        let two = both (expr_fits i g a && source.is_pointer (type_of a)) _ h in
+        let two = both (expr_fits i g a && is_pointer (type_of a)) _ h in
         let to_fit = both (expr_fits i g a) _ two.0 in
-        let aligned = both (expr_fits i g b && source.is_pointer (type_of b)) _ two.1 in
+        let aligned = both (expr_fits i g b && is_pointer (type_of b)) _ two.1 in
         let sizes = both (nat_le 1 alignment) _ aligned.1 in
         let from_fit = both (expr_fits i g b) _ aligned.0 in
         let to_core = saved_if (acts b) (expression_core a ts) in

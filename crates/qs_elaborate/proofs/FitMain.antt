@@ -5,11 +5,11 @@ use Rattle.qs_syntax.specs.Sameness.{same_bytes}
 use Rattle.qs_syntax.proofs.Exact.{bytes_exact}
 use Rattle.qs_syntax.specs.declared.types.Base.{Base}
 use Rattle.qs_syntax.specs.Trees.{VariableTree, ParameterTree, Stmts, DeclTree, structure, forward, function, variables, UnitTree}
+use Rattle.qs_memory.specs.Scalars.{is_type, is_promoted}
 use Rattle.qs_memory.specs.declared.scalar.Scalar.{Scalar}
 use Rattle.qs_memory.specs.declared.scalar.Scalar.TheVariants as scalars
 use Rattle.qs_memory.proofs.Options.{some_same, followed}
 use Rattle.qs_calls.specs.declared.parameter.Parameter.{Parameter}
-use Rattle.qs_core.specs.Scalars.{is_type, is_promoted}
 use Rattle.qs_core.proofs.FitLaws.{both}
 use Rattle.qs_types.specs.Types.{TypeTree, int, unsigned, char, void, pointer, array, struct, same_type, MemberTree, Structs}
 use Rattle.qs_types.specs.GivenFunctions.{Signature, main_name}

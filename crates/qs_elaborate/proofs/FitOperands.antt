@@ -3,6 +3,9 @@ use Rattle.std.proofs.Common.{◌≡◌, ℕ, ◌&&◌, not, Bool, true, false, 
 use Rattle.std.specs.List.{slice_get}
 use Rattle.qs_memory.specs.Values.{Value, integer}
 use Rattle.qs_memory.specs.Operations.{binary_type}
+use Rattle.qs_memory.specs.Scalars.{same_scalar, is_type}
+use Rattle.qs_memory.specs.Operands.{binary_takes}
+use Rattle.qs_memory.proofs.ScalarLaws.{scalar_same}
 use Rattle.qs_memory.specs.declared.scalar.Scalar.{Scalar}
 use Rattle.qs_memory.specs.declared.scalar.Scalar.TheVariants as scalars
 use Rattle.qs_memory.specs.declared.operation.BinaryOperation.{BinaryOperation}
@@ -11,12 +14,10 @@ use Rattle.qs_calls.specs.declared.callee.Callee.{Callee}
 use Rattle.qs_core.specs.Trees.{CoreExprTree, CoreStmtTree, stmts_of, CoreFunctionTree, CoreUnitTree}
 use Rattle.qs_core.specs.Trees as core
 use Rattle.qs_core.specs.Expressions.{type_of}
-use Rattle.qs_core.specs.Scalars.{is_type}
 use Rattle.qs_core.specs.Interfaces.{variable_type, interface_of}
 use Rattle.qs_core.specs.Fits.{expr_fits, exprs_fit, pointer_fits, any_mentions, taken_fits, call_fits, stmt_fits, stmts_fit}
-use Rattle.qs_core.proofs.FitLaws.{both, scalar_same}
+use Rattle.qs_core.proofs.FitLaws.{both}
 use Rattle.qs_meaning.specs.Typed.{Conversion, Order, as_written}
-use Rattle.qs_meaning.specs.Conversions as meaning
 use Rattle.qs_meaning.specs.Fits as source
 use Rattle.qs_meaning.specs.Fits.{type_after}
 use Rattle.qs_elaborate.specs.Literals.{literal_value, is_literal, converted_core}
@@ -90,7 +91,7 @@ module _ (u : CoreUnitTree) (f : CoreFunctionTree) where
   }
 
   -- to a type that it must have
-  pub becomes_fits : (ts us : Temporaries) (c : Conversion) (v : Valued) (s t : Scalar) (z : Bool) → ValuedFits ts v s z → Extends v.temporaries us → (source.conversion_fits c s z && meaning.same_scalar (type_after c s) t) ≡ true → ConvertedFits us c v.value t
+  pub becomes_fits : (ts us : Temporaries) (c : Conversion) (v : Valued) (s t : Scalar) (z : Bool) → ValuedFits ts v s z → Extends v.temporaries us → (source.conversion_fits c s z && same_scalar (type_after c s) t) ≡ true → ConvertedFits us c v.value t
   becomes_fits ts us c v s t z h e fit =
       let two = both (source.conversion_fits c s z) _ fit in
       let found = converted_valued ts us c v s z h e two.0 in
@@ -223,7 +224,7 @@ module _ (u : CoreUnitTree) (f : CoreFunctionTree) where
       (write_at_fits ts w.temporaries w.scalar w.location w.statements w.value h.more h.statements
       (subst (λ (t : Scalar). location_fits w.temporaries t w.location ≡ true) (sym h.scalar) h.location) h.value (h.type ∙ sym h.scalar))
 
-  pub set_fits : (ts : Temporaries) (s t : Scalar) (z : Bool) (c : Conversion) (l : Located) (v : Valued) → LocatedFits ts l s → ValuedFits l.temporaries v t z → (source.conversion_fits c t z && meaning.same_scalar (type_after c t) s) ≡ true → WrittenFits ts (set_core s c l v) s
+  pub set_fits : (ts : Temporaries) (s t : Scalar) (z : Bool) (c : Conversion) (l : Located) (v : Valued) → LocatedFits ts l s → ValuedFits l.temporaries v t z → (source.conversion_fits c t z && same_scalar (type_after c t) s) ≡ true → WrittenFits ts (set_core s c l v) s
   set_fits ts s t z c l v h k fit =
       let found = becomes_fits l.temporaries v.temporaries c v t s z k extends_self fit in
       record {
@@ -236,7 +237,7 @@ module _ (u : CoreUnitTree) (f : CoreFunctionTree) where
       }
 
   -- what a compound assignment writes
-  pub updated_fits : (ts us : Temporaries) (op : BinaryOperation) (left right back : Conversion) (v w : Valued) (s t : Scalar) (y z : Bool) → ValuedFits ts v s y → ValuedFits us w t z → Extends v.temporaries w.temporaries → source.conversion_fits left s y ≡ true → source.conversion_fits right t z ≡ true → source.takes_operands op (type_after left s) (type_after right t) ≡ true → source.conversion_fits back (binary_type op) false ≡ true → ConvertedFits w.temporaries back (operation_core op as_written left right v.value w.value) (type_after back (binary_type op))
+  pub updated_fits : (ts us : Temporaries) (op : BinaryOperation) (left right back : Conversion) (v w : Valued) (s t : Scalar) (y z : Bool) → ValuedFits ts v s y → ValuedFits us w t z → Extends v.temporaries w.temporaries → source.conversion_fits left s y ≡ true → source.conversion_fits right t z ≡ true → binary_takes op (type_after left s) (type_after right t) ≡ true → source.conversion_fits back (binary_type op) false ≡ true → ConvertedFits w.temporaries back (operation_core op as_written left right v.value w.value) (type_after back (binary_type op))
   updated_fits ts us op left right back v w s t y z h k e fit_left fit_right takes fit_back =
       let a = operation_core op as_written left right v.value w.value in
       let whole = operation_fits ts us op as_written left right v w s t y z h k e fit_left fit_right takes in
@@ -253,7 +254,7 @@ module _ (u : CoreUnitTree) (f : CoreFunctionTree) where
     pub values : exprs_fit u (holding u f v.temporaries) v.values ≡ true
     pub value_types : map type_of v.values ≡ types
 
-  pub argument_fits : (ts : Temporaries) (c : Conversion) (v : Valued) (s t : Scalar) (z : Bool) (rest : ValuedAll) (types : List Scalar) → ValuedFits ts v s z → AllValuedFit v.temporaries rest types → (source.conversion_fits c s z && meaning.same_scalar (type_after c s) t) ≡ true → AllValuedFit ts (argument_before c v rest) (t ∷ types)
+  pub argument_fits : (ts : Temporaries) (c : Conversion) (v : Valued) (s t : Scalar) (z : Bool) (rest : ValuedAll) (types : List Scalar) → ValuedFits ts v s z → AllValuedFit v.temporaries rest types → (source.conversion_fits c s z && same_scalar (type_after c s) t) ≡ true → AllValuedFit ts (argument_before c v rest) (t ∷ types)
   argument_fits ts c v s t z rest types h k fit =
       let found = becomes_fits ts rest.temporaries c v s t z h k.more fit in
       let first = found.type in
@@ -265,7 +266,7 @@ module _ (u : CoreUnitTree) (f : CoreFunctionTree) where
         value_types = ap (λ (x : Scalar). x ∷ map type_of rest.values) first ∙ ap (λ (xs : List Scalar). t ∷ xs) others;
       }
 
-  taken_is : (ts : Temporaries) (r : Option Scalar) (s : Scalar) (k : ℕ) → source.is_type r s ≡ true → slice_get ts k ≡ Some s → taken_fits (holding u f ts) r k ≡ true
+  taken_is : (ts : Temporaries) (r : Option Scalar) (s : Scalar) (k : ℕ) → is_type r s ≡ true → slice_get ts k ≡ Some s → taken_fits (holding u f ts) r k ≡ true
   taken_is ts None s k h e = cc
   taken_is ts (Some r) s k h e = ap (λ (o : Option Scalar). is_type o r) e ∙ same_from (sym (same_types h))
 
@@ -338,7 +339,7 @@ module _ (u : CoreUnitTree) (f : CoreFunctionTree) where
       (λ b c later e. branch_fits later b c w.statements k_is (truth_core w.value) scalars.Int (k.statements.fit b c later e)
       (truth_fits later w.value (expr_kept u f w.temporaries later e w.value k.value)) refl (found_later v.temporaries scalars.Int (extends_then k.more e)))
 
-  pub choice_fits : (ts : Temporaries) (s : Scalar) (second third : Conversion) (v a b : Valued) (r t w : Scalar) (x y z : Bool) → ValuedFits ts v r x → ValuedFits v.temporaries a t y → ValuedFits (with_temporary a.temporaries s) b w z → (source.conversion_fits second t y && meaning.same_scalar (type_after second t) s) ≡ true → (source.conversion_fits third w z && meaning.same_scalar (type_after third w) s) ≡ true → ValuedFits ts (choice_branching s second third v a b) s false
+  pub choice_fits : (ts : Temporaries) (s : Scalar) (second third : Conversion) (v a b : Valued) (r t w : Scalar) (x y z : Bool) → ValuedFits ts v r x → ValuedFits v.temporaries a t y → ValuedFits (with_temporary a.temporaries s) b w z → (source.conversion_fits second t y && same_scalar (type_after second t) s) ≡ true → (source.conversion_fits third w z && same_scalar (type_after third w) s) ≡ true → ValuedFits ts (choice_branching s second third v a b) s false
   choice_fits ts s second third v a b r t w x y z h ha hb fit_a fit_b =
       let k_is = next_number a.temporaries in
       let on = extends_then (extends_with a.temporaries s) hb.more in
@@ -350,7 +351,7 @@ module _ (u : CoreUnitTree) (f : CoreFunctionTree) where
       let found = becomes_fits (with_temporary a.temporaries s) later third b w s z hb e fit_b in
       branch_fits later p q b.statements k_is (converted_core third b.value) s (hb.statements.fit p q later e) found.value found.type (found_later a.temporaries s (extends_then hb.more e)))
 
-  pub choice_joined_fits : (ts : Temporaries) (s : Scalar) (second third : Conversion) (v a b : Valued) (r t w : Scalar) (x y z : Bool) → ValuedFits ts v r x → ValuedFits v.temporaries a t y → ValuedFits a.temporaries b w z → (source.conversion_fits second t y && meaning.same_scalar (type_after second t) s) ≡ true → (source.conversion_fits third w z && meaning.same_scalar (type_after third w) s) ≡ true → ValuedFits ts (choice_joined second third v a b) s false
+  pub choice_joined_fits : (ts : Temporaries) (s : Scalar) (second third : Conversion) (v a b : Valued) (r t w : Scalar) (x y z : Bool) → ValuedFits ts v r x → ValuedFits v.temporaries a t y → ValuedFits a.temporaries b w z → (source.conversion_fits second t y && same_scalar (type_after second t) s) ≡ true → (source.conversion_fits third w z && same_scalar (type_after third w) s) ≡ true → ValuedFits ts (choice_joined second third v a b) s false
   choice_joined_fits ts s second third v a b r t w x y z h ha hb fit_a fit_b =
       let met = becomes_fits v.temporaries b.temporaries second a t s y ha hb.more fit_a in
       let unmet = becomes_fits a.temporaries b.temporaries third b w s z hb extends_self fit_b in

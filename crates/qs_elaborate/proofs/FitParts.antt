@@ -1,30 +1,23 @@
 -- What it is that statements and a value fit; literals, conversions and operations fit.
-use Rattle.std.proofs.Common.{◌≡◌, ℕ, zero, suc, ◌+◌, ◌*◌, ◌<◌, ◌%◌, ◌^◌, ◌&&◌, ◌||◌, nat_lt, not, Bool, true, false, List, [], ◌∷◌, ◌++◌, length, Option, Some, None, refl, sym, ap, ◌∙◌, subst, arith}
+use Rattle.std.proofs.Common.{◌≡◌, ℕ, zero, suc, ◌+◌, ◌<◌, ◌%◌, ◌^◌, ◌&&◌, ◌||◌, nat_lt, not, Bool, true, false, List, [], ◌∷◌, ◌++◌, Option, Some, None, refl, sym, ap, ◌∙◌, subst, arith}
 use Rattle.std.specs.List.{slice_get}
 use Rattle.std.proofs.lemmas.Bool.Decides.{nat_tests}
-use Rattle.std.proofs.lemmas.List.{length-append}
 use Rattle.std.proofs.lemmas.Option.{slice_get_within}
 use Rattle.qs_memory.specs.Partial.{◌>>=◌}
-use Rattle.qs_memory.specs.Values.{null, Value, integer, address, has_type, pointer_of_integer, convert}
-use Rattle.qs_memory.specs.Memory.{Cell, byte, parts_of, BlankTree, zeros, nulls, repeated, nothing, joined, times, blank_cells}
-use Rattle.qs_memory.specs.Operations.{integer_type, binary_type}
+use Rattle.qs_memory.specs.Values.{Value, integer, address, has_type, pointer_of_integer, convert}
+use Rattle.qs_memory.specs.Operations.{binary_type}
+use Rattle.qs_memory.specs.Scalars.{same_scalar, same_scalars, is_type, is_integer, is_pointer}
+use Rattle.qs_memory.specs.Operands.{binary_takes, conversion_takes}
+use Rattle.qs_memory.proofs.ScalarLaws.{scalar_same, same_as, same_self, type_is}
 use Rattle.qs_memory.specs.declared.scalar.Scalar.{Scalar}
 use Rattle.qs_memory.specs.declared.scalar.Scalar.TheVariants as scalars
-use Rattle.qs_memory.specs.declared.operation.Arithmetic.{Arithmetic}
-use Rattle.qs_memory.specs.declared.operation.Arithmetic.TheVariants as arithmetics
-use Rattle.qs_memory.specs.declared.operation.UnaryOperation.{UnaryOperation}
-use Rattle.qs_memory.specs.declared.operation.UnaryOperation.TheVariants as unaries
 use Rattle.qs_memory.specs.declared.operation.BinaryOperation.{BinaryOperation}
-use Rattle.qs_memory.specs.declared.operation.BinaryOperation.TheVariants as binaries
 use Rattle.qs_core.specs.declared.numbers.BlockId.TheVariants.{Local, Data}
 use Rattle.qs_core.specs.Trees.{CoreExprTree, literal, null_pointer, variable, temporary, address_of, load, member, unary, binary, conversion, logical_and, logical_or, conditional, CoreStmtTree, stmts_of, CoreFunctionTree, CoreUnitTree}
 use Rattle.qs_core.specs.Expressions.{type_of}
-use Rattle.qs_core.specs.Scalars.{same_scalar, same_scalars, is_type, is_integer, is_pointer}
-use Rattle.qs_core.specs.Operands.{blank_size, unary_takes, right_takes, binary_takes, conversion_takes}
 use Rattle.qs_core.specs.Fits.{expr_fits, exprs_fit, mentions, any_mentions, stmt_fits, stmts_fit}
-use Rattle.qs_core.proofs.FitLaws.{both, scalar_same, type_is}
+use Rattle.qs_core.proofs.FitLaws.{both}
 use Rattle.qs_meaning.specs.Typed.{Conversion, unchanged, converted, Order, as_written, exchanged}
-use Rattle.qs_meaning.specs.Conversions as meaning
 use Rattle.qs_meaning.specs.Fits as source
 use Rattle.qs_meaning.specs.Fits.{type_after}
 use Rattle.qs_elaborate.specs.Literals.{literal_value, folded, converted_core}
@@ -41,22 +34,10 @@ pub neither : {a b : Bool} → a ≡ false → b ≡ false → (a || b) ≡ fals
 neither {a = false} h k = k
 neither {a = true} h k = cc
 
-both_same : {a b c d : Bool} → a ≡ b → c ≡ d → (a && c) ≡ (b && d)
-both_same h k = cc
-
-either_same : {a b c d : Bool} → a ≡ b → c ≡ d → (a || c) ≡ (b || d)
-either_same h k = cc
-
 -- ---- types
 
-pub same_self : (s : Scalar) → same_scalar s s ≡ true
-same_self scalars.Char = refl
-same_self scalars.Int = refl
-same_self scalars.Unsigned = refl
-same_self scalars.Pointer = refl
-
 pub same_from : {s t : Scalar} → s ≡ t → same_scalar s t ≡ true
-same_from {s = s} e = subst (λ (t : Scalar). same_scalar s t ≡ true) e (same_self s)
+same_from {s = s} {t = t} e = same_as s t e
 
 pub all_same_from : (ss ts : List Scalar) → ss ≡ ts → same_scalars ss ts ≡ true
 all_same_from ss ts e = subst (λ (us : List Scalar). same_scalars ss us ≡ true) e (all_same_self ss)
@@ -65,82 +46,14 @@ all_same_from ss ts e = subst (λ (us : List Scalar). same_scalars ss us ≡ tru
     all_same_self [] = refl
     all_same_self (u ∷ us) = together (same_self u) (all_same_self us)
 
--- the two tests of types are one
-pub one_test : (s t : Scalar) → meaning.same_scalar s t ≡ same_scalar s t
-one_test scalars.Char scalars.Char = refl
-one_test scalars.Char scalars.Int = refl
-one_test scalars.Char scalars.Unsigned = refl
-one_test scalars.Char scalars.Pointer = refl
-one_test scalars.Int scalars.Char = refl
-one_test scalars.Int scalars.Int = refl
-one_test scalars.Int scalars.Unsigned = refl
-one_test scalars.Int scalars.Pointer = refl
-one_test scalars.Unsigned scalars.Char = refl
-one_test scalars.Unsigned scalars.Int = refl
-one_test scalars.Unsigned scalars.Unsigned = refl
-one_test scalars.Unsigned scalars.Pointer = refl
-one_test scalars.Pointer scalars.Char = refl
-one_test scalars.Pointer scalars.Int = refl
-one_test scalars.Pointer scalars.Unsigned = refl
-one_test scalars.Pointer scalars.Pointer = refl
+pub same_types : {s t : Scalar} → same_scalar s t ≡ true → s ≡ t
+same_types {s = s} {t = t} h = scalar_same s t h
 
-pub same_types : {s t : Scalar} → meaning.same_scalar s t ≡ true → s ≡ t
-same_types {s = s} {t = t} h = scalar_same s t (sym (one_test s t) ∙ h)
-
-pub same_type_test : (o : Option Scalar) (s : Scalar) → source.is_type o s ≡ is_type o s
-same_type_test None s = refl
-same_type_test (Some t) s = one_test t s
-
-pub pointer_type : {s : Scalar} → source.is_pointer s ≡ true → s ≡ scalars.Pointer
+pub pointer_type : {s : Scalar} → is_pointer s ≡ true → s ≡ scalars.Pointer
 pointer_type h = same_types h
 
 pub points : {s : Scalar} → s ≡ scalars.Pointer → is_pointer s ≡ true
 points e = same_from e
-
--- ---- operations
-
-pub unary_same : (op : UnaryOperation) (t : Scalar) → source.takes_operand op t ≡ unary_takes op t
-unary_same (unaries.Plus s) t = one_test t (integer_type s)
-unary_same (unaries.Minus s) t = one_test t (integer_type s)
-unary_same (unaries.Complement s) t = one_test t (integer_type s)
-unary_same unaries.Not t = refl
-unary_same unaries.Truth t = refl
-
-promoted_same : (t : Scalar) → source.is_promoted t ≡ (same_scalar t scalars.Int || same_scalar t scalars.Unsigned)
-promoted_same t = either_same (one_test t scalars.Int) (one_test t scalars.Unsigned)
-
-right_same : (op : Arithmetic) (s : _) (t : Scalar) → source.takes_second op (integer_type s) t ≡ right_takes op s t
-right_same arithmetics.Add s t = one_test t (integer_type s)
-right_same arithmetics.Subtract s t = one_test t (integer_type s)
-right_same arithmetics.Multiply s t = one_test t (integer_type s)
-right_same arithmetics.Divide s t = one_test t (integer_type s)
-right_same arithmetics.Remainder s t = one_test t (integer_type s)
-right_same arithmetics.ShiftLeft s t = promoted_same t
-right_same arithmetics.ShiftRight s t = promoted_same t
-right_same arithmetics.And s t = one_test t (integer_type s)
-right_same arithmetics.Or s t = one_test t (integer_type s)
-right_same arithmetics.Xor s t = one_test t (integer_type s)
-
-pub binary_same : (op : BinaryOperation) (t u : Scalar) → source.takes_operands op t u ≡ binary_takes op t u
-binary_same (binaries.Arithmetic op s) t u = both_same (one_test t (integer_type s)) (right_same op s u)
-binary_same (binaries.Compare op s) t u = both_same (one_test t (integer_type s)) (one_test u (integer_type s))
-binary_same (binaries.Move direction s element) t u = both_same (both_same (one_test t scalars.Pointer) (one_test u (integer_type s))) refl
-binary_same (binaries.Difference element) t u = both_same (both_same (one_test t scalars.Pointer) (one_test u scalars.Pointer)) refl
-binary_same (binaries.ComparePointers op) t u = both_same (one_test t scalars.Pointer) (one_test u scalars.Pointer)
-
--- ---- the bytes of a blank
-
-times_length : (n : ℕ) (cells : List Cell) → length (times n cells) ≡ n * length cells
-times_length zero cells = grind arith
-times_length (suc n) cells =
-    length-append cells (times n cells) ∙ ap (λ (k : ℕ). length cells + k) (times_length n cells) ∙ grind arith
-
-pub blank_length : (b : BlankTree) → length (blank_cells b) ≡ blank_size b
-blank_length (zeros n) = times_length n (byte 0 ∷ []) ∙ grind arith
-blank_length (nulls n) = times_length n (parts_of null 0 4) ∙ grind arith
-blank_length (repeated n b) = times_length n (blank_cells b) ∙ ap (λ (k : ℕ). n * k) (blank_length b)
-blank_length nothing = refl
-blank_length (joined b c) = length-append (blank_cells b) (blank_cells c) ∙ ap (λ (k : ℕ). k + length (blank_cells c)) (blank_length b) ∙ ap (λ (k : ℕ). blank_size b + k) (blank_length c)
 
 -- ---- temporaries
 
@@ -335,10 +248,10 @@ module _ (u : CoreUnitTree) (f : CoreFunctionTree) where
 
   converts : (to from : Scalar) (z : Bool) → source.converts from to z ≡ true → Converts to from z
   converts to from z h =
-      let two = both (not (source.is_pointer from)) _ h in
+      let two = both (not (is_pointer from)) _ h in
       record {
-        integer = sym (one_test from scalars.Pointer) ∙ no_test (source.is_pointer from) two.0;
-        target = λ e. decided (source.is_pointer to) z two.1 (one_test to scalars.Pointer ∙ e);
+        integer = no_test (is_pointer from) two.0;
+        target = λ e. decided (is_pointer to) z two.1 e;
       }
     where
       no_test : (b : Bool) → not b ≡ true → b ≡ false
@@ -378,7 +291,7 @@ module _ (u : CoreUnitTree) (f : CoreFunctionTree) where
   pub converted_fits : (ts : Temporaries) (c : Conversion) (a : CoreExprTree) (s : Scalar) (z : Bool) → expr_fits u (holding ts) a ≡ true → type_of a ≡ s → source.conversion_fits c s z ≡ true → (z ≡ true → literal_value a ≡ Some (integer 0)) → expr_fits u (holding ts) (converted_core c a) ≡ true
   converted_fits ts unchanged a s z h e fit zero_is = h
   converted_fits ts (converted from to) a s z h e fit zero_is =
-      let two = both (meaning.same_scalar from s) _ fit in
+      let two = both (same_scalar from s) _ fit in
       let from_is : from ≡ type_of a = same_types two.0 ∙ sym e in
       folded_fits ts to a z h (converts to (type_of a) z (subst (λ (t : Scalar). source.converts t to z ≡ true) from_is two.1)) zero_is (literal_value a) refl
 
@@ -386,9 +299,9 @@ module _ (u : CoreUnitTree) (f : CoreFunctionTree) where
 
   pub ordered_fits : (ts : Temporaries) (op : BinaryOperation) (order : Order) (a b : CoreExprTree) (t w : Scalar) → expr_fits u (holding ts) a ≡ true → expr_fits u (holding ts) b ≡ true → type_of a ≡ t → type_of b ≡ w → source.takes_in_order order op t w ≡ true → expr_fits u (holding ts) (in_their_order op order a b) ≡ true
   ordered_fits ts op as_written a b t w h k e d takes =
-      together (together h k) (ap (λ (x : Scalar). binary_takes op x (type_of b)) e ∙ ap (binary_takes op t) d ∙ sym (binary_same op t w) ∙ takes)
+      together (together h k) (ap (λ (x : Scalar). binary_takes op x (type_of b)) e ∙ ap (binary_takes op t) d ∙ takes)
   ordered_fits ts op exchanged a b t w h k e d takes =
-      together (together k h) (ap (λ (x : Scalar). binary_takes op x (type_of a)) d ∙ ap (binary_takes op w) e ∙ sym (binary_same op w t) ∙ takes)
+      together (together k h) (ap (λ (x : Scalar). binary_takes op x (type_of a)) d ∙ ap (binary_takes op w) e ∙ takes)
 
   pub ordered_type : (op : BinaryOperation) (order : Order) (a b : CoreExprTree) → type_of (in_their_order op order a b) ≡ binary_type op
   ordered_type op as_written a b = refl

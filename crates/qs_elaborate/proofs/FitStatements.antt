@@ -1,11 +1,11 @@
 -- What a statement gives in core fits, where the statement does.
 use Rattle.std.proofs.Common.{◌≡◌, Bool, true, false, List, [], ◌∷◌, Option, Some, None, refl, sym, ap, ◌∙◌}
+use Rattle.qs_memory.specs.Scalars.{is_type}
 use Rattle.qs_memory.specs.declared.scalar.Scalar.{Scalar}
 use Rattle.qs_calls.specs.Starts.{Interface}
 use Rattle.qs_core.specs.Trees.{CoreStmtTree, stmts_of, CoreFunctionTree, CoreUnitTree}
 use Rattle.qs_core.specs.Trees as core
 use Rattle.qs_core.specs.Expressions as core_expressions
-use Rattle.qs_core.specs.Scalars.{is_type}
 use Rattle.qs_core.specs.Fits as fits
 use Rattle.qs_core.proofs.FitLaws.{both}
 use Rattle.qs_meaning.specs.Typed.{Conversion, Expr, Stmt, evaluate, block, branch, while_loop, do_loop, for_loop, break, continue, return, return_nothing, Stmts, no_stmts, stmt_and, Function}

@@ -5,6 +5,7 @@ use Rattle.std.specs.List.{slice_get, list_all}
 use Rattle.std.proofs.lemmas.List.{length-map}
 use Rattle.std.proofs.lemmas.Option.{slice_get-map}
 use Rattle.qs_memory.specs.Values.{width}
+use Rattle.qs_memory.specs.Scalars.{is_type, is_promoted}
 use Rattle.qs_memory.specs.declared.scalar.Scalar.{Scalar}
 use Rattle.qs_memory.specs.declared.scalar.Scalar.TheVariants as scalars
 use Rattle.qs_calls.specs.Starts.{Signature, signature_of}
@@ -13,7 +14,6 @@ use Rattle.qs_calls.specs.declared.callee.Callee.TheVariants as callees
 use Rattle.qs_calls.specs.declared.parameter.Parameter.{Parameter}
 use Rattle.qs_calls.specs.declared.parameter.Parameter.TheVariants.{Plain, Placed}
 use Rattle.qs_core.specs.Trees.{stmts_of, CoreParameterTree, CoreVariableTree, CoreFunctionTree, CoreUnitTree}
-use Rattle.qs_core.specs.Scalars.{is_type, is_promoted}
 use Rattle.qs_core.specs.Interfaces as core_interfaces
 use Rattle.qs_core.specs.Fits as fits
 use Rattle.qs_core.proofs.FitLaws.{both}
@@ -24,7 +24,7 @@ use Rattle.qs_elaborate.specs.Expressions.{block_of}
 use Rattle.qs_elaborate.specs.Names.{FunctionNames, VariableName}
 use Rattle.qs_elaborate.specs.Units.{named_parameters, named_variables, end_of_body, body_core, function_core, no_names, functions_core, unit_core}
 use Rattle.qs_elaborate.specs.FitLaws.{are_first, IsNamed, AreNamed, is_main_function, CoreFits}
-use Rattle.qs_elaborate.proofs.FitParts.{together, same_from, same_types, same_type_test, list_append, extends_self}
+use Rattle.qs_elaborate.proofs.FitParts.{together, same_from, same_types, list_append, extends_self}
 use Rattle.qs_elaborate.proofs.FitExpressions.{IsAlike}
 use Rattle.qs_elaborate.proofs.FitStatements.{statements_fit_too}
 use Rattle.qs_elaborate.proofs.FitData.{blocks_fit}
@@ -92,12 +92,12 @@ module _ (names : List FunctionNames) (p : TypedProgram) (main : ℕ) where
     small = small;
   }
     where
-      variable_kept : (x : ℕ) (s : Scalar) → source.is_type (slice_get g.variables x) s ≡ true → is_type (core_interfaces.variable_type (function_core n g) x) s ≡ true
+      variable_kept : (x : ℕ) (s : Scalar) → is_type (slice_get g.variables x) s ≡ true → is_type (core_interfaces.variable_type (function_core n g) x) s ≡ true
       variable_kept x s h =
           ap (λ (o : Option Scalar). is_type o s)
           (sym (slice_get-map (λ (v : CoreVariableTree). v.scalar) (named_variables n.variables g.variables) x)
           ∙ ap (λ (ss : List Scalar). slice_get ss x) (scalars_are n.variables g.variables))
-          ∙ sym (same_type_test (slice_get g.variables x) s) ∙ h
+          ∙ h
 
       object_kept : (o : Object) → source.object_there (source_interfaces.interface_of p) g o ≡ true → fits.block_fits unit (function_core n g) (block_of o) ≡ true
       object_kept (local k) h = h
@@ -106,9 +106,9 @@ module _ (names : List FunctionNames) (p : TypedProgram) (main : ℕ) where
 
   -- ---- functions
 
-  end_kept : (n : FunctionNames) (g : Function) (is_main : Bool) → (not is_main || source.is_type g.result scalars.Int) ≡ true → fits.stmts_fit unit (function_core n g) false false (stmts_of (end_of_body is_main)) ≡ true
+  end_kept : (n : FunctionNames) (g : Function) (is_main : Bool) → (not is_main || is_type g.result scalars.Int) ≡ true → fits.stmts_fit unit (function_core n g) false false (stmts_of (end_of_body is_main)) ≡ true
   end_kept n g false h = refl
-  end_kept n g true h = together (together refl (sym (same_type_test g.result scalars.Int) ∙ h)) refl
+  end_kept n g true h = together (together refl h) refl
 
   function_fits : (n : FunctionNames) (g : Function) → IsNamed n g → source.function_fits (source_interfaces.interface_of p) g ≡ true → fits.function_fits unit (function_core n g) ≡ true
   function_fits n g named h =

@@ -6,6 +6,7 @@ use Rattle.qs_syntax.specs.Trees.{ParameterTree, Stmts, FunctionTree, DeclTree, 
 use Rattle.qs_syntax.specs.Units.{Reading, IsRead}
 use Rattle.qs_memory.specs.Values.{Value}
 use Rattle.qs_memory.specs.Soundness.{IsSound}
+use Rattle.qs_memory.specs.Scalars.{is_type, is_promoted}
 use Rattle.qs_memory.specs.declared.scalar.Scalar.TheVariants as scalars
 use Rattle.qs_calls.specs.World.{World}
 use Rattle.qs_types.specs.Limits.{IsWithinLimits}
@@ -13,7 +14,6 @@ use Rattle.qs_types.specs.WellTyped.{WellTyped}
 use Rattle.qs_core.specs.Trees.{CoreParameterTree, CoreVariableTree, CoreUnitTree}
 use Rattle.qs_core.specs.Units.{core_run}
 use Rattle.qs_core.specs.Units as core_units
-use Rattle.qs_core.specs.Scalars.{is_type, is_promoted}
 use Rattle.qs_core.specs.Fits.{differ, same_variable, is_named, main_name, unit_fits}
 use Rattle.qs_meaning.specs.Typed.{Function, TypedProgram}
 use Rattle.qs_meaning.specs.Interfaces.{types_of}

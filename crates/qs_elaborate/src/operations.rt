@@ -1,6 +1,5 @@
 // Operations of core, with the conversions of their operands.
 ghost use Rattle.std.specs.Prelude.{◌≡◌};
-ghost use Rattle.qs_memory.specs.Operations.{integer_type};
 ghost use Rattle.qs_core.specs.TreeOf.{core_expr};
 ghost use Rattle.qs_typed.specs.TreeOf.{object_tree};
 ghost use Rattle.qs_elaborate.specs.Expressions as spec;
@@ -11,7 +10,7 @@ use crate::literals::converted;
 use crate::parts::{binary, unary};
 use qs_base::NoMemory;
 use qs_core::{BlockId, CoreExpr};
-use qs_memory::{BinaryOperation, Scalar, Signedness, UnaryOperation};
+use qs_memory::{BinaryOperation, Scalar, UnaryOperation, integer_type};
 use qs_typed::{Conversion, Object, Order};
 use std::alloc::Global;
 
@@ -71,15 +70,6 @@ pub fn updated(
 {
     let c = operated(alloc, operation, Order::AsWritten, left, right, a, b)?;
     converted(alloc, back, c)
-}
-
-fn integer_type(s: Signedness) -> Scalar
-    ensures { result ≡ integer_type s }
-{
-    match s {
-        Signedness::Signed => Scalar::Int,
-        Signedness::Unsigned => Scalar::Unsigned,
-    }
 }
 
 fn amount_type(operation: BinaryOperation) -> Scalar

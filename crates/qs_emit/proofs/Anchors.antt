@@ -11,6 +11,7 @@ use Rattle.qs_frames.proofs.FrameLaws.{offset_aligned}
 use Rattle.qs_tac.specs.declared.units.TacData.{TacData}
 use Rattle.qs_memory.specs.Operations.{apply_binary}
 use Rattle.qs_memory.specs.Pointers.{moved_by}
+use Rattle.qs_memory.specs.Sizes.{is_element}
 use Rattle.qs_memory.specs.declared.operation.Direction.TheVariants.{Up}
 use Rattle.qs_memory.specs.declared.operation.BinaryOperation.TheVariants as binaries
 use Rattle.qs_memory.proofs.Options.{some_same, followed}
@@ -22,11 +23,12 @@ use Rattle.qs_tac.specs.declared.operands.Operand.TheVariants.{Temporary, Intege
 use Rattle.qs_tac.specs.declared.operands.Index.{Index}
 use Rattle.qs_tac.specs.declared.operands.Address.{Address}
 use Rattle.qs_tac.specs.Holders.{File, is_saved_register}
-use Rattle.qs_tac.specs.Fits.{operand_fits, offset_fits, index_fits, address_fits, is_element}
+use Rattle.qs_tac.specs.Fits.{operand_fits, offset_fits, index_fits, address_fits}
 use Rattle.qs_tac.specs.Values.{Activation, operand, member_at, indexed, pointer}
 use Rattle.qs_tac.specs.Steps.{Waiting}
+use Rattle.qs_tac.specs.Operands.{is_constant}
 use Rattle.qs_select.specs.Pieces.{lui, addi, add, is_small, is_near, low_part, high_part, product}
-use Rattle.qs_select.specs.Operands.{Context, local_offset, operand_code, operand_register, Anchor, constant_count, is_constant, index_displacement, behind_frame, at_address, behind_pointer, based, add_elements, add_index, anchor_of, address_into, is_block, has_constant_index, is_word_address, displacement}
+use Rattle.qs_select.specs.Operands.{Context, local_offset, operand_code, operand_register, Anchor, constant_count, index_displacement, behind_frame, at_address, behind_pointer, based, add_elements, add_index, anchor_of, address_into, is_block, has_constant_index, is_word_address, displacement}
 use Rattle.qs_emit.specs.Machine.{Watched}
 use Rattle.qs_emit.specs.Lies.{Points, StandsForPointer, StandsFor, SameOwn}
 use Rattle.qs_emit.specs.Surroundings.{Lay, ground}

@@ -1,12 +1,12 @@
 -- Whole objects: copies and fills.
-use Rattle.std.proofs.Common.{◌≡◌, ◌⊎◌, inl, inr, ⊎_elim, ℕ, zero, suc, ◌+◌, ◌-◌, ◌*◌, ◌/◌, ◌%◌, ◌^◌, ◌==◌, ◌<◌, ◌≤◌, Bool, true, false, List, [], ◌∷◌, length, refl, sym, ap, ◌∙◌, subst, arith, length-append}
+use Rattle.std.proofs.Common.{◌≡◌, ◌⊎◌, inl, inr, ⊎_elim, ℕ, zero, suc, ◌+◌, ◌-◌, ◌*◌, ◌/◌, ◌%◌, ◌^◌, ◌==◌, ◌<◌, ◌≤◌, Bool, true, false, List, [], ◌∷◌, length, refl, sym, ap, ◌∙◌, subst, arith}
 use Rattle.std.specs.Prelude.{if◌then◌else◌}
 use Rattle.std.proofs.lemmas.Bool.{cases_lt, cases_eq}
 use Rattle.std.proofs.lemmas.Bool.Decides.{nat_tests}
 use Rattle.std.proofs.Math.Nat.{zero-div}
 use Rattle.qs_base.specs.Words as words
 use Rattle.qs_memory.specs.Values.{Pointer, null, into}
-use Rattle.qs_memory.specs.Memory.{Cell, byte, part, Memory, Target, parts_of, BlankTree, zeros, nulls, repeated, nothing, joined, times, blank_cells}
+use Rattle.qs_memory.specs.Memory.{Cell, byte, part, Memory, Target, parts_of, BlankTree, zeros, nulls, repeated, nothing, joined, blank_cells}
 use Rattle.qs_memory.specs.Accesses.{AreApart}
 use Rattle.qs_memory.proofs.BlockLaws.{IsRange}
 use Rattle.qs_memory.proofs.CellLaws.{Each}
@@ -19,7 +19,6 @@ use Rattle.qs_isa.specs.declared.instruction.StoreKind.TheVariants.{Sw, Sb}
 use Rattle.qs_isa.specs.declared.instruction.OpKind.TheVariants.{Add}
 use Rattle.qs_machine.specs.State.{register}
 use Rattle.qs_machine.specs.Step.{stored}
-use Rattle.qs_tac.specs.Fits.{blank_size}
 use Rattle.qs_select.specs.Pieces as pieces
 use Rattle.qs_select.specs.Pieces.{constant, loop_end, copy_loop, fill_loop, zero_bytes}
 use Rattle.qs_select.specs.Emission.{unless_none, fill_code}
@@ -36,17 +35,6 @@ use Rattle.qs_emit.proofs.Operands.{argument_scratch, saved_apart}
 use Rattle.qs_emit.proofs.Loops.{IsAccess, words_are_accesses, bytes_are_accesses, turn_bytes, Filling, fill_loop_does, Copying, copy_loop_does}
 
 -- ---- blanks
-
-times_length : (n : ℕ) (cells : List Cell) → length (times n cells) ≡ n * length cells
-times_length zero cells = omega arith
-times_length (suc n) cells = let k = times_length n cells in let j = length-append cells (times n cells) in omega (arith, k, j)
-
-pub blank_length : (b : BlankTree) → length (blank_cells b) ≡ blank_size b
-blank_length (zeros n) = times_length n (byte 0 ∷ []) ∙ omega arith
-blank_length (nulls n) = times_length n (parts_of null 0 4) ∙ omega arith
-blank_length (repeated n b) = times_length n (blank_cells b) ∙ ap (λ (k : ℕ). n * k) (blank_length b)
-blank_length nothing = refl
-blank_length (joined b d) = length-append (blank_cells b) (blank_cells d) ∙ ap (λ (k : ℕ). k + length (blank_cells d)) (blank_length b) ∙ ap (λ (k : ℕ). blank_size b + k) (blank_length d)
 
 -- a byte 0 holds the cell
 abbrev pub IsZero : Memory → (address_of : ℕ → ℕ) → Cell → Type 0

@@ -31,10 +31,11 @@ use Rattle.qs_frames.specs.Layout.{offset, kept}
 use Rattle.qs_frames.proofs.FrameLaws.{offset_inside}
 use Rattle.qs_select.specs.Pieces.{constant}
 use Rattle.qs_select.specs.Operands.{Context, frame_of, slot_offset, local_offset, place_into, byte_into, into as operand_into, register_of, unless_there, operand_code, operand_register, result_register, put_place, result_code}
+use Rattle.qs_select.specs.Data.{data_address}
 use Rattle.qs_emit.specs.Machine.{Watched}
 use Rattle.qs_emit.specs.Lies.{number_at, StandsFor, SameOwn}
 use Rattle.qs_emit.specs.Surroundings.{Lay, ground}
-use Rattle.qs_emit.specs.Relation.{Setup, data_address, data_end, context, function_at, HasPlace, IsRelated}
+use Rattle.qs_emit.specs.Relation.{Setup, data_end, context, function_at, HasPlace, IsRelated}
 use Rattle.qs_emit.proofs.Bytes.{number_small}
 use Rattle.qs_emit.proofs.Injection.{HaveWords, value_here, value_there}
 use Rattle.qs_emit.proofs.Steps.{Does, Gets, Writes, IsFree, does_with, does_then, does_is, does_none, op_imm_does}

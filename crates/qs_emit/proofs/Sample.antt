@@ -26,8 +26,10 @@ use Rattle.qs_tac.specs.declared.places.Place.TheVariants.{Slot}
 use Rattle.qs_tac.specs.Places.{PlacesTree, Accepted, no_places}
 use Rattle.qs_frames.specs.Layout.{rounded, frame_cost}
 use Rattle.qs_select.specs.Pieces.{is_small, low_part, high_part, is_near}
-use Rattle.qs_emit.specs.Relation.{cost_at, function_at, IsShortCall, IsEmittable}
-use Rattle.qs_emit.specs.Images.{IsFirstMemory, record_at, AreCosts, items_of, function_address, IsImageOf, IsWithinLimits}
+use Rattle.qs_select.specs.Laws.{HasFewArguments}
+use Rattle.qs_select.specs.Units.{selected}
+use Rattle.qs_emit.specs.Relation.{cost_at, function_at, IsEmittable}
+use Rattle.qs_emit.specs.Images.{IsFirstMemory, record_at, AreCosts, function_address, IsImageOf, IsWithinLimits}
 use Rattle.qs_emit.specs.Emitted.{start_run, IsInteger, MayStart, FollowsFrom, Emitted}
 use Rattle.qs_emit.proofs.Whole.{images_follow}
 
@@ -80,7 +82,7 @@ few : (f : ℕ) → length (function_at unit f).parameters ≤ 8
 few zero = omega arith
 few (suc f) = omega arith
 
-no_calls : (f k : ℕ) (i : InstructionTree) → slice_get (function_at unit f).code k ≡ Some i → IsShortCall i
+no_calls : (f k : ℕ) (i : InstructionTree) → slice_get (function_at unit f).code k ≡ Some i → HasFewArguments i
 no_calls zero zero i e x g arguments c = absurd (none (e ∙ ap Some c))
   where
     none : Some (store scalars.Int variable (Constant 7)) ≡ Some (call x g arguments) → ⊥
@@ -135,9 +137,9 @@ memory = record { blocks = refl; live = live; sound = record { cells = sound } }
 
 -- ---- the image
 
-code_is : IsAssembly (items_of unit places) image.code
+code_is : IsAssembly (selected unit places) image.code
 unfolding decode_of is_small low_part high_part is_near frame_cost rounded
-code_is = assembly (label_offset (items_of unit places)) (items_of unit places) (unwrap_or (assembled (items_of unit places)) []) image.code (record { each = λ l. refl }) refl refl
+code_is = assembly (label_offset (selected unit places)) (selected unit places) (unwrap_or (assembled (selected unit places)) []) image.code (record { each = λ l. refl }) refl refl
 
 address_is : (f : ℕ) → f < 1 → (record_at image f).address ≡ function_address unit places f
 unfolding is_small low_part high_part is_near frame_cost rounded

@@ -12,11 +12,13 @@ use Rattle.qs_image.specs.Image.{Image}
 use Rattle.qs_machine.specs.State.{is_code}
 use Rattle.qs_tac.specs.Trees.{TacUnitTree}
 use Rattle.qs_tac.specs.Places.{PlacesTree}
+use Rattle.qs_select.specs.Data.{data_address}
+use Rattle.qs_select.specs.Units.{selected}
 use Rattle.qs_select.proofs.Sizes.{units_keep_words}
 use Rattle.qs_emit.specs.Machine.{instruction_at}
 use Rattle.qs_emit.specs.Surroundings.{Surroundings}
-use Rattle.qs_emit.specs.Relation.{IsEmittable, data_address, data_end, Setup}
-use Rattle.qs_emit.specs.Images.{IsFirstMemory, items_of, IsImageOf, IsWithinLimits}
+use Rattle.qs_emit.specs.Relation.{IsEmittable, data_end, Setup}
+use Rattle.qs_emit.specs.Images.{IsFirstMemory, IsImageOf, IsWithinLimits}
 use Rattle.qs_emit.specs.Emitted.{AreSurroundings}
 use Rattle.qs_emit.specs.Laws.{CodeIsShort}
 use Rattle.qs_emit.proofs.DataBytes.{data_length}
@@ -64,7 +66,7 @@ module _ (u : TacUnitTree) (ps : List PlacesTree) (first : Memory) (t : Surround
     places = ps;
     emittable = emittable;
     image = t.image;
-    label_at = label_at (items_of u ps) code_start;
+    label_at = label_at (selected u ps) code_start;
     code_end = code_start + 4 * length t.image.code;
     laid = is.code.lays (instruction_at t.image) code_start (words_lie t.image);
     short = let le = limits.code in omega (arith, le);
@@ -90,5 +92,5 @@ pub code_is_short : CodeIsShort
 code_is_short u ps first image emittable is =
     let at = instruction_at image in
     let lays = is.code.lays at code_start (words_lie image) in
-    let end = (units_keep_words u ps (data_address u.data_blocks) emittable.places).laid at (label_at (items_of u ps) code_start) code_start (code_start + 4 * length image.code) lays in
+    let end = (units_keep_words u ps (data_address u.data_blocks) emittable.places).laid at (label_at (selected u ps) code_start) code_start (code_start + 4 * length image.code) lays in
     omega (arith, end)

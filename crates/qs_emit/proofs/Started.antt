@@ -18,10 +18,11 @@ use Rattle.qs_tac.specs.Fits.{function_fits, data_fits}
 use Rattle.std.specs.List.{list_all}
 use Rattle.qs_select.specs.Pieces.{addi}
 use Rattle.qs_select.specs.Emission.{start_items, functions_items}
+use Rattle.qs_select.specs.Data.{data_address}
 use Rattle.qs_emit.specs.Machine.{Room, Watched, Sight, goes, exits, traps, breaks, instruction_at, is_set, only, watch_on, after, watched}
 use Rattle.qs_emit.specs.Lies.{StandsFor}
 use Rattle.qs_emit.specs.Surroundings.{Lay, ground}
-use Rattle.qs_emit.specs.Relation.{Setup, cost, entry, data_address, around}
+use Rattle.qs_emit.specs.Relation.{Setup, cost, entry, around}
 use Rattle.qs_emit.specs.Entries.{IsEntry, HasReturned, ComesTo, IsResult}
 use Rattle.qs_emit.specs.Started.{main_run, IsStart, HasRoom, ExitsBehind, StartsTo, IsExitOf, FollowsFromStart, EmittedCodeFollowsFromStart}
 use Rattle.qs_emit.proofs.Injection.{value_there}

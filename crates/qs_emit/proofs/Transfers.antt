@@ -6,6 +6,8 @@ use Rattle.std.proofs.Math.Nat.{mul-mod_left, mul_assoc, mul_comm, mod-add-div}
 use Rattle.qs_memory.specs.Values.{Pointer}
 use Rattle.qs_memory.specs.Memory as memory
 use Rattle.qs_memory.specs.Memory.{Memory, block_at, Target, cells_at, BlankTree, blank_cells}
+use Rattle.qs_memory.specs.Sizes.{blank_size}
+use Rattle.qs_memory.proofs.BlankLaws.{blank_length}
 use Rattle.qs_memory.proofs.BlockLaws.{IsRange}
 use Rattle.qs_memory.proofs.CellLaws.{length-cells_from}
 use Rattle.qs_memory.proofs.StepLaws.{copied, filled}
@@ -14,7 +16,7 @@ use Rattle.qs_isa.specs.declared.instruction.LoadKind.TheVariants.{Lw, Lbu}
 use Rattle.qs_isa.specs.declared.instruction.StoreKind.TheVariants.{Sw, Sb}
 use Rattle.qs_tac.specs.declared.operands.Address.{Address}
 use Rattle.qs_tac.specs.Holders.{File}
-use Rattle.qs_tac.specs.Fits.{blank_size, address_fits}
+use Rattle.qs_tac.specs.Fits.{address_fits}
 use Rattle.qs_tac.specs.Values.{Activation, pointer}
 use Rattle.qs_tac.specs.Steps.{Waiting}
 use Rattle.qs_select.specs.Pieces.{copy_loop}
@@ -32,7 +34,7 @@ use Rattle.qs_emit.proofs.Operands.{holder, saved_apart, argument_scratch, IsAmi
 use Rattle.qs_emit.proofs.Anchors.{HasAddress, address_into_does, word_address_aligned}
 use Rattle.qs_emit.proofs.Fetches.{range_word, written_amid}
 use Rattle.qs_emit.proofs.Loops.{words_are_accesses, bytes_are_accesses}
-use Rattle.qs_emit.proofs.Objects.{blank_length, zero_blank, zeros_hold, ranges_apart, turns_of_bytes, turns_of_words, fill_code_does, IsMoved, copy_does}
+use Rattle.qs_emit.proofs.Objects.{zero_blank, zeros_hold, ranges_apart, turns_of_bytes, turns_of_words, fill_code_does, IsMoved, copy_does}
 
 module _ (s : Setup) (a : Activation File) (w : Memory) (stack : List (Waiting File)) (l : Lay) (sp : ℕ) where
   abbrev c : Context

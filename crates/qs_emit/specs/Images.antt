@@ -6,7 +6,6 @@ use Rattle.qs_memory.specs.Memory.{Cell, unset, byte, part, Block, Memory, cells
 use Rattle.qs_memory.specs.Soundness.{IsLive, IsSound}
 use Rattle.qs_events.specs.Weights.{Costs}
 use Rattle.qs_isa.specs.Addresses.{code_start}
-use Rattle.qs_asm.specs.declared.item.Item.{Item}
 use Rattle.qs_asm.specs.Assembly.{label_at, IsAssembly}
 use Rattle.qs_image.specs.Image.{Image, FunctionRecord}
 use Rattle.qs_image.specs.Limits.{most_code_words, most_data_bytes}
@@ -14,8 +13,10 @@ use Rattle.qs_tac.specs.Trees.{TacUnitTree}
 use Rattle.qs_tac.specs.Places.{PlacesTree}
 use Rattle.qs_tac.specs.declared.units.TacData.{TacData}
 use Rattle.qs_frames.specs.Layout.{rounded}
-use Rattle.qs_select.specs.Emission.{first_label, unit_items}
-use Rattle.qs_emit.specs.Relation.{data_address, function_at, cost_at}
+use Rattle.qs_select.specs.Emission.{first_label}
+use Rattle.qs_select.specs.Units.{selected}
+use Rattle.qs_select.specs.Data.{data_address}
+use Rattle.qs_emit.specs.Relation.{function_at, cost_at}
 
 -- ---- data
 
@@ -70,15 +71,12 @@ pub record AreCosts (image : Image) (costs : Costs) : Type 0 where
 
 -- ---- images
 
-abbrev pub items_of : TacUnitTree → List PlacesTree → List Item
-items_of u ps = unit_items u ps (data_address u.data_blocks)
-
 -- where a function begins
 abbrev pub function_address : TacUnitTree → List PlacesTree → (f : ℕ) → ℕ
-function_address u ps f = label_at (items_of u ps) code_start (first_label u.functions f)
+function_address u ps f = label_at (selected u ps) code_start (first_label u.functions f)
 
 pub record IsImageOf (u : TacUnitTree) (ps : List PlacesTree) (m : Memory) (image : Image) : Type 0 where
-  pub code : IsAssembly (items_of u ps) image.code
+  pub code : IsAssembly (selected u ps) image.code
   pub entry : image.entry ≡ code_start
   pub parameters : image.parameters ≡ length (function_at u u.main).parameters
   pub count : length image.functions ≡ length u.functions

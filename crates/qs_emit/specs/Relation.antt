@@ -1,18 +1,16 @@
 -- How a run of linear code, its values in places, stands to the machine that runs its emitted code.
 use Rattle.std.specs.Prelude.{◌≡◌, ◌⊎◌, ℕ, ◌+◌, ◌*◌, ◌%◌, ◌^◌, ◌<◌, ◌≤◌, ◌==◌, true, if◌then◌else◌}
-use Rattle.std.specs.Prelude.{List, [], ◌∷◌, length, map, All, Option, Some, slice_get, slice_index_or}
+use Rattle.std.specs.Prelude.{List, [], ◌∷◌, length, All, Some, slice_get, slice_index_or}
 use Rattle.qs_memory.specs.Values.{Value}
 use Rattle.qs_memory.specs.Memory.{Memory, block_at}
 use Rattle.qs_memory.specs.Soundness.{IsLive}
 use Rattle.qs_calls.specs.World.{World}
-use Rattle.qs_calls.specs.declared.callee.Callee.{Callee}
-use Rattle.qs_isa.specs.Addresses.{code_start, data_start}
-use Rattle.qs_tac.specs.declared.operands.Operand.{Operand}
+use Rattle.qs_isa.specs.Addresses.{code_start}
 use Rattle.qs_image.specs.Image.{Image}
 use Rattle.qs_image.specs.Limits.{most_code_words, most_data_bytes}
 use Rattle.qs_machine.specs.State.{stack_pointer, stack_top, stack_limit}
 use Rattle.qs_asm.specs.Items.{Lays, plain}
-use Rattle.qs_tac.specs.Trees.{InstructionTree, call, TacFunctionTree, TacUnitTree}
+use Rattle.qs_tac.specs.Trees.{InstructionTree, TacFunctionTree, TacUnitTree}
 use Rattle.qs_tac.specs.Fits.{unit_fits}
 use Rattle.qs_tac.specs.Places.{PlacesTree, place_of, no_places}
 use Rattle.qs_tac.specs.Holders.{File, is_saved_register}
@@ -22,16 +20,14 @@ use Rattle.qs_tac.specs.Laws.{AreAccepted}
 use Rattle.qs_tac.specs.declared.places.Place.{Place}
 use Rattle.qs_tac.specs.declared.places.Place.TheVariants.{Slot, Register}
 use Rattle.qs_tac.specs.declared.units.TacData.{TacData}
-use Rattle.qs_frames.specs.Layout.{rounded, offset, slot_count, used_registers, register_at}
+use Rattle.qs_frames.specs.Layout.{rounded, slot_count, used_registers, register_at}
 use Rattle.qs_emit.specs.Machine.{Room, Watched, base, instruction_at}
+use Rattle.qs_select.specs.Data.{data_address}
+use Rattle.qs_select.specs.Laws.{HasFewArguments}
 use Rattle.qs_select.specs.Operands.{Context, frame_of, slot_offset, local_offset}
 use Rattle.qs_select.specs.Emission.{first_label, unit_items, take_result}
 use Rattle.qs_emit.specs.Lies.{number_at, AreBytes, StandsFor, frame, IsInReach}
 use Rattle.qs_emit.specs.Surroundings.{Surroundings, Ground, Lay, ground, HasBlocks}
-
--- the data in order, each at its least multiple of 4
-abbrev pub data_address : List TacData → (block : ℕ) → ℕ
-data_address data_blocks block = data_start + offset (map (λ d. d.size) data_blocks) block
 
 -- ---- the functions of a unit
 
@@ -53,17 +49,13 @@ cost_at u ps f = (frame_of (context_at u ps f)).cost
 
 -- ---- what linear code is emitted from
 
-abbrev pub IsShortCall : InstructionTree → Type 0
-IsShortCall i =
-    (x : Option ℕ) (f : Callee) (arguments : List Operand) → i ≡ call x f arguments → length arguments ≤ 8
-
 -- the condition of emission: places that are accepted, frames of at most 2 ^ 28 bytes, and arguments that registers hold
 pub record IsEmittable (u : TacUnitTree) (ps : List PlacesTree) : Type 0 where
   pub fits : unit_fits u ≡ true
   pub places : AreAccepted u ps
   pub cost : (f : ℕ) → f < length u.functions → cost_at u ps f ≤ stack_limit
   pub parameters : (f : ℕ) → length (function_at u f).parameters ≤ 8
-  pub arguments : (f k : ℕ) (i : InstructionTree) → slice_get (function_at u f).code k ≡ Some i → IsShortCall i
+  pub arguments : (f k : ℕ) (i : InstructionTree) → slice_get (function_at u f).code k ≡ Some i → HasFewArguments i
 
 -- the least data that have room for all blocks
 abbrev pub data_end : List TacData → ℕ

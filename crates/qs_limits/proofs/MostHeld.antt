@@ -7,11 +7,12 @@ use Rattle.qs_calls.specs.declared.callee.Callee.{Callee}
 use Rattle.qs_calls.specs.declared.callee.Callee.TheVariants.{Function, PutChar, GetChar}
 use Rattle.qs_core.specs.Trees.{CoreExprTree, CoreStmtTree, skip, seq, assign, store, copy, fill, call, branch, loop, break, continue, return, CoreStmts, no_stmts, stmt_and, stmts_of, CoreParameterTree, CoreVariableTree, CoreFunctionTree, CoreUnitTree}
 use Rattle.qs_core.specs.Expressions.{type_of}
-use Rattle.qs_core.specs.Scalars.{same_scalars}
+use Rattle.qs_memory.specs.Scalars.{same_scalars}
+use Rattle.qs_memory.proofs.ScalarLaws.{scalars_same}
 use Rattle.qs_core.specs.Interfaces.{types_of, signature, interface_of}
 use Rattle.qs_core.specs.Fits.{expr_fits, exprs_fit, destination_fits, call_fits, stmt_fits, stmts_fit}
 use Rattle.qs_core.specs.Sizes.{held, all_held, option_held, held_in, held_in_all}
-use Rattle.qs_core.proofs.FitLaws.{both, scalars_same}
+use Rattle.qs_core.proofs.FitLaws.{both}
 use Rattle.qs_elaborate.specs.Parts.{one_statement}
 use Rattle.qs_elaborate.proofs.SizeFacts.{own_small, own_held, parts_small}
 use Rattle.qs_meaning.proofs.Options.{never, nothing, same}

@@ -5,6 +5,7 @@ use Rattle.std.specs.Prelude.{◌&&◌, nat_lt, if◌then◌else◌}
 use Rattle.std.specs.List.{list_all}
 use Rattle.std.proofs.lemmas.Bool.Decides.{nat_tests}
 use Rattle.qs_memory.specs.Partial.{◌>>=◌}
+use Rattle.qs_memory.specs.Sizes.{is_element}
 use Rattle.qs_memory.specs.declared.scalar.Scalar.{Scalar}
 use Rattle.qs_memory.specs.declared.operation.Signedness.{Signedness}
 use Rattle.qs_memory.specs.declared.operation.Direction.TheVariants.{Up, Down}
@@ -18,7 +19,7 @@ use Rattle.qs_tac.specs.declared.operands.Operand.{Operand}
 use Rattle.qs_tac.specs.declared.operands.Operand.TheVariants.{Constant}
 use Rattle.qs_tac.specs.declared.operands.Condition.{Condition}
 use Rattle.qs_tac.specs.declared.operands.Condition.TheVariants as conditions
-use Rattle.qs_tac.specs.Fits.{is_word, is_element, operand_fits, option_fits, offset_fits, index_fits, address_fits, condition_fits, operation_fits, instruction_fits}
+use Rattle.qs_tac.specs.Fits.{is_word, operand_fits, option_fits, offset_fits, index_fits, address_fits, condition_fits, operation_fits, instruction_fits}
 use Rattle.qs_lower.specs.Exits.{Exit, falls, goes, is_fall, place_of, settled, exit_code, opposite, branch_size, branch_code}
 use Rattle.qs_lower.specs.Operands.{converted, truth_of, truth_operand, swaps}
 use Rattle.qs_lower.specs.Expressions.{IndexCode, ExprCode, simple_size, size_of, simple_code, code_of, simple_operand, operand_of, own, used_by, based, known_size, known_code, tested, no_code, by_operand, by_value, number_of, by_test, index_at, address_at, of_load, further, behind_parts, behind, unindexed, indexed_by, by_address, of_member, of_element, of_unary_value, with_test, of_truth, of_plus, of_compound, simple_or, converting, converting_instruction, of_convert, pair_size, pair_code, pair_used, binary_instruction, of_binary_value, with_condition, of_operation, stepped_or, both_size, of_both_tests, either_size, of_either_test, of_choice, of_and, of_or, of_conditional}

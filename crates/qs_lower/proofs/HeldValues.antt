@@ -2,6 +2,8 @@
 use Rattle.std.proofs.Common.{◌≡◌, ℕ, ◌+◌, ◌≤◌, max, Bool, true, false, List, [], ◌∷◌, map, Option, Some, None, refl, arith}
 use Rattle.std.specs.Prelude.{if◌then◌else◌}
 use Rattle.qs_memory.specs.Partial.{◌>>=◌}
+use Rattle.qs_memory.specs.Scalars.{is_integer, same_scalar}
+use Rattle.qs_memory.specs.Operands.{binary_takes, conversion_takes}
 use Rattle.qs_memory.specs.declared.scalar.Scalar.{Scalar}
 use Rattle.qs_memory.specs.declared.operation.Direction.TheVariants.{Up, Down}
 use Rattle.qs_memory.specs.declared.operation.Signedness.{Signedness}
@@ -12,8 +14,6 @@ use Rattle.qs_memory.specs.declared.operation.BinaryOperation.TheVariants as bin
 use Rattle.qs_core.specs.Trees as core
 use Rattle.qs_core.specs.Trees.{CoreExprTree, CoreStmtTree, CoreStmts, no_stmts, stmt_and, CoreFunctionTree, CoreUnitTree}
 use Rattle.qs_core.specs.Expressions.{type_of}
-use Rattle.qs_core.specs.Scalars.{is_integer, same_scalar}
-use Rattle.qs_core.specs.Operands.{binary_takes, conversion_takes}
 use Rattle.qs_core.specs.Fits.{expr_fits, exprs_fit, pointer_fits, stmt_fits, stmts_fit}
 use Rattle.qs_core.specs.Sizes as counts
 use Rattle.qs_core.specs.Sizes.{is_operand, parts_held, held, all_held, held_in, held_in_all}

@@ -26,7 +26,6 @@ pub mod JoinedLaws
 pub mod JoinedEmission
 pub mod PlanTrees
 pub mod LeadLaws
-pub mod DataLaws
 pub mod LowerLaws
 pub mod ExprFits
 pub mod OperandFits

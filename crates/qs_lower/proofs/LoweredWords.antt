@@ -4,6 +4,9 @@ use Rattle.std.specs.Prelude.{nat_lt, nat_le, if◌then◌else◌, sum_by}
 use Rattle.std.proofs.lemmas.Bool.Decides.{nat_tests}
 use Rattle.std.proofs.lemmas.List.Sums.{sum_by-cons}
 use Rattle.qs_memory.specs.Partial.{◌>>=◌}
+use Rattle.qs_memory.specs.Sizes.{largest_size}
+use Rattle.qs_memory.specs.Scalars.{is_integer, same_scalar}
+use Rattle.qs_memory.specs.Operands.{binary_takes, conversion_takes}
 use Rattle.qs_memory.specs.declared.scalar.Scalar.{Scalar}
 use Rattle.qs_memory.specs.declared.scalar.Scalar.TheVariants as scalars
 use Rattle.qs_memory.specs.declared.operation.Direction.TheVariants.{Up, Down}
@@ -15,8 +18,6 @@ use Rattle.qs_memory.specs.declared.operation.BinaryOperation.TheVariants as bin
 use Rattle.qs_core.specs.Trees as core
 use Rattle.qs_core.specs.Trees.{CoreExprTree, CoreFunctionTree, CoreUnitTree}
 use Rattle.qs_core.specs.Expressions.{type_of}
-use Rattle.qs_core.specs.Scalars.{is_integer, same_scalar}
-use Rattle.qs_core.specs.Operands.{largest_size, binary_takes, conversion_takes}
 use Rattle.qs_core.specs.Fits.{expr_fits, exprs_fit}
 use Rattle.qs_core.specs.Sizes as counts
 use Rattle.qs_core.specs.Sizes.{is_operand, is_block, read_words, as_operand, as_address, as_condition, as_assigned, converted_words, use_of, taken_words, address_words, assigned_words, all_taken_words}

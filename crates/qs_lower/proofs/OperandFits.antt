@@ -7,6 +7,8 @@ use Rattle.qs_base.proofs.WordLaws.{sub-below, xor-below}
 use Rattle.qs_memory.specs.Partial.{◌>>=◌, only_if}
 use Rattle.qs_memory.specs.Values.{integer, has_type}
 use Rattle.qs_memory.specs.Integers.{calculate, compares, minus, complement}
+use Rattle.qs_memory.specs.Sizes.{largest_size}
+use Rattle.qs_memory.specs.Operands.{binary_takes}
 use Rattle.qs_memory.specs.declared.scalar.Scalar.{Scalar}
 use Rattle.qs_memory.specs.declared.scalar.Scalar.TheVariants as scalars
 use Rattle.qs_memory.specs.declared.operation.Signedness.{Signedness}
@@ -25,7 +27,6 @@ use Rattle.qs_core.specs.declared.numbers.BlockId.TheVariants as blocks
 use Rattle.qs_core.specs.Trees as core
 use Rattle.qs_core.specs.Trees.{CoreExprTree, CoreFunctionTree, CoreUnitTree}
 use Rattle.qs_core.specs.Interfaces.{interface_of}
-use Rattle.qs_core.specs.Operands.{largest_size, binary_takes}
 use Rattle.qs_core.specs.Fits.{block_fits, expr_fits, exprs_fit, pointer_fits}
 use Rattle.qs_core.proofs.FitLaws.{both}
 use Rattle.qs_tac.specs.Trees.{TacFunctionTree, TacUnitTree}

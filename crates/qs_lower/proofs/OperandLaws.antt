@@ -13,6 +13,7 @@ use Rattle.qs_memory.specs.Memory as memory
 use Rattle.qs_memory.specs.Integers.{calculate, compares}
 use Rattle.qs_memory.specs.Pointers.{truth, elements, difference, compares_pointers, moved_by, member_of}
 use Rattle.qs_memory.specs.Operations.{apply_unary, apply_binary, of_truth}
+use Rattle.qs_memory.specs.Scalars.{is_integer, is_pointer}
 use Rattle.qs_memory.specs.declared.scalar.Scalar.{Scalar}
 use Rattle.qs_memory.specs.declared.scalar.Scalar.TheVariants as scalars
 use Rattle.qs_memory.specs.declared.operation.Signedness.{Signedness}
@@ -25,7 +26,6 @@ use Rattle.qs_memory.specs.declared.operation.BinaryOperation.TheVariants as bin
 use Rattle.qs_core.specs.Trees as core
 use Rattle.qs_core.specs.Trees.{CoreExprTree}
 use Rattle.qs_core.specs.Expressions.{Locals, value, truth_value}
-use Rattle.qs_core.specs.Scalars.{is_integer, is_pointer}
 use Rattle.qs_tac.specs.Holders.{Holder}
 use Rattle.qs_tac.specs.Values.{Activation, operand}
 use Rattle.qs_tac.specs.declared.operands.Operand.{Operand}

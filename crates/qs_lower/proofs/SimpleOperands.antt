@@ -4,6 +4,9 @@ use Rattle.std.proofs.Common.{◌≡◌, ℕ, Bool, true, false, Option, Some, N
 use Rattle.std.specs.Prelude.{if◌then◌else◌}
 use Rattle.qs_memory.specs.Partial.{◌>>=◌}
 use Rattle.qs_memory.specs.Operations.{integer_type, unary_type, binary_type}
+use Rattle.qs_memory.specs.Scalars.{same_scalar, is_integer}
+use Rattle.qs_memory.specs.Operands.{unary_takes, conversion_takes}
+use Rattle.qs_memory.proofs.ScalarLaws.{scalar_same}
 use Rattle.qs_memory.specs.declared.scalar.Scalar.{Scalar}
 use Rattle.qs_memory.specs.declared.scalar.Scalar.TheVariants as scalars
 use Rattle.qs_memory.specs.declared.operation.Signedness.{Signedness}
@@ -15,12 +18,10 @@ use Rattle.qs_memory.specs.declared.operation.BinaryOperation.{BinaryOperation}
 use Rattle.qs_memory.specs.declared.operation.BinaryOperation.TheVariants as binaries
 use Rattle.qs_core.specs.Trees as core
 use Rattle.qs_core.specs.Trees.{CoreExprTree, CoreFunctionTree, CoreUnitTree}
-use Rattle.qs_core.specs.Scalars.{same_scalar, is_integer}
 use Rattle.qs_core.specs.Expressions.{type_of}
-use Rattle.qs_core.specs.Operands.{unary_takes, conversion_takes}
 use Rattle.qs_core.specs.Sizes.{is_operand}
 use Rattle.qs_core.specs.Fits.{expr_fits}
-use Rattle.qs_core.proofs.FitLaws.{both, scalar_same}
+use Rattle.qs_core.proofs.FitLaws.{both}
 use Rattle.qs_tac.specs.declared.operands.Operand.{Operand}
 use Rattle.qs_tac.specs.declared.operands.Operand.TheVariants.{Temporary, Integer, Byte, Constant, Null, Local, Data}
 use Rattle.qs_lower.specs.Operands.{constant, converted, truth_of, truth_operand, unary_of, constant_of, binary_of, folded, gives_integer, gives_truth, is_idle, constant_step, byte_operand, integer_operand}

@@ -1,8 +1,11 @@
 -- The code of loops and of statements fits.
-use Rattle.std.proofs.Common.{◌≡◌, ℕ, ◌+◌, ◌*◌, ◌<◌, ◌≤◌, Bool, true, false, List, [], ◌∷◌, ◌++◌, length, map, Option, Some, None, refl, sym, ap, subst, arith}
+use Rattle.std.proofs.Common.{◌≡◌, ℕ, ◌+◌, ◌<◌, ◌≤◌, Bool, true, false, List, [], ◌∷◌, ◌++◌, length, map, Option, Some, None, refl, ap, subst, arith}
 use Rattle.std.specs.Prelude.{◌&&◌, ◌||◌, not, nat_le, if◌then◌else◌}
 use Rattle.std.proofs.lemmas.List.{length-map}
-use Rattle.qs_memory.specs.Memory.{BlankTree, zeros, nulls, repeated, nothing, joined}
+use Rattle.qs_memory.specs.Memory.{BlankTree}
+use Rattle.qs_memory.specs.Sizes.{largest_size, blank_size}
+use Rattle.qs_memory.specs.Scalars.{is_type, same_scalars}
+use Rattle.qs_memory.proofs.ScalarLaws.{scalars_same}
 use Rattle.qs_memory.specs.declared.scalar.Scalar.{Scalar}
 use Rattle.qs_calls.specs.Starts.{Signature, signature_of}
 use Rattle.qs_calls.specs.declared.callee.Callee.{Callee}
@@ -11,11 +14,9 @@ use Rattle.qs_core.specs.Trees.{CoreExprTree, CoreStmtTree, CoreStmts, no_stmts,
 use Rattle.qs_core.specs.declared.numbers.Target.{Target}
 use Rattle.qs_core.specs.declared.numbers.Target.TheVariants as targets
 use Rattle.qs_core.specs.Expressions.{type_of}
-use Rattle.qs_core.specs.Scalars.{is_type, same_scalars}
 use Rattle.qs_core.specs.Interfaces.{target_type, interface_of}
-use Rattle.qs_core.specs.Operands.{largest_size, blank_size}
 use Rattle.qs_core.specs.Fits.{expr_fits, exprs_fit, pointer_fits, destination_fits, call_fits, stmt_fits, stmts_fit}
-use Rattle.qs_core.proofs.FitLaws.{both, scalars_same}
+use Rattle.qs_core.proofs.FitLaws.{both}
 use Rattle.qs_tac.specs.Trees.{store, copy, fill, call, jump, return, TacFunctionTree, TacUnitTree}
 use Rattle.qs_tac.specs.Fits as tac
 use Rattle.qs_tac.specs.Fits.{is_word}
@@ -362,7 +363,7 @@ module _ (u : TacUnitTree) (f : TacFunctionTree) where
       (together (together (together size_is alignment_is) (address_at_fits u f p h t (omega (arith, used))))
       (address_at_fits u f e k (t + p.base_own) (omega (arith, used)))))))
 
-  fill_fits : (t : ℕ) (q : Bool) (blank : BlankTree) (p : ExprCode) → is_word (tac.blank_size blank) ≡ true → ExprFits u f p → Fits u f t q (of_fill t blank p)
+  fill_fits : (t : ℕ) (q : Bool) (blank : BlankTree) (p : ExprCode) → is_word (blank_size blank) ≡ true → ExprFits u f p → Fits u f t q (of_fill t blank p)
   fill_fits t q blank p size_is h =
       straight_fits u f t q _ _ _
       (λ used at room.
@@ -370,13 +371,6 @@ module _ (u : TacUnitTree) (f : TacFunctionTree) where
       (fit_one u f (fill blank (address_at p t)) (together size_is (address_at_fits u f p h t used))))
 
 -- ---- statements
-
-blank_sizes : (b : BlankTree) → tac.blank_size b ≡ blank_size b
-blank_sizes (zeros n) = refl
-blank_sizes (nulls n) = refl
-blank_sizes (repeated n b) = ap (λ m. n * m) (blank_sizes b)
-blank_sizes nothing = refl
-blank_sizes (joined b c) = let first = blank_sizes b in let second = blank_sizes c in omega (arith, first, second)
 
 module _ (c : CoreUnitTree) (g : CoreFunctionTree) (u : TacUnitTree) (f : TacFunctionTree) (has : Has c g u f) where
   abbrev v : ℕ
@@ -432,7 +426,7 @@ module _ (c : CoreUnitTree) (g : CoreFunctionTree) (u : TacUnitTree) (f : TacFun
         (pointer_lowered c g u f has a two.0) (pointer_lowered c g u f has e two.1)
     stmt_fits_all t b q (core.fill blank a) h =
         let two = both (pointer_fits c g a) (nat_le (blank_size blank) largest_size) h in
-        fill_fits u f t q blank (lowered v a) (subst (λ (n : ℕ). is_word n ≡ true) (sym (blank_sizes blank)) (small_word (blank_size blank) two.1)) (pointer_lowered c g u f has a two.0)
+        fill_fits u f t q blank (lowered v a) (small_word (blank_size blank) two.1) (pointer_lowered c g u f has a two.0)
     stmt_fits_all t b q (core.call x to es) h =
         let two = both (exprs_fit c g es) _ h in
         straight_fits u f t q _ _ _

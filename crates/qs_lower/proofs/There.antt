@@ -4,6 +4,8 @@ use Rattle.std.proofs.lemmas.Bool.Decides.{nat_tests}
 use Rattle.std.specs.List.{slice_get}
 use Rattle.std.specs.Option.{option_map}
 use Rattle.std.proofs.lemmas.Option.{slice_get_within}
+use Rattle.qs_memory.specs.Scalars.{is_type}
+use Rattle.qs_memory.proofs.ScalarLaws.{type_is}
 use Rattle.qs_memory.specs.declared.scalar.Scalar.{Scalar}
 use Rattle.qs_calls.specs.Starts.{Signature}
 use Rattle.qs_calls.specs.declared.parameter.Parameter.{Parameter}
@@ -12,11 +14,10 @@ use Rattle.qs_core.specs.Trees as core
 use Rattle.qs_core.specs.Trees.{CoreExprTree, CoreStmtTree, CoreStmts, no_stmts, stmt_and, CoreParameterTree, CoreVariableTree, CoreFunctionTree, CoreUnitTree}
 use Rattle.qs_core.specs.declared.numbers.Target.{Target}
 use Rattle.qs_core.specs.declared.numbers.Target.TheVariants as targets
-use Rattle.qs_core.specs.Scalars.{is_type}
 use Rattle.qs_core.specs.Interfaces.{variable_type, temporary_type, target_type}
 use Rattle.qs_core.specs.Statements.{Context}
 use Rattle.qs_core.specs.Fits.{expr_fits, exprs_fit, pointer_fits, call_fits, destination_fits, stmt_fits, stmts_fit, place_fits, parameter_fits, parameters_fit}
-use Rattle.qs_core.proofs.FitLaws.{both, type_is}
+use Rattle.qs_core.proofs.FitLaws.{both}
 use Rattle.qs_tac.specs.Trees.{InstructionTree}
 use Rattle.qs_lower.proofs.Real.{Model, Stack, CallsReal, IsCode}
 use Rattle.qs_lower.proofs.ExprReal as expr

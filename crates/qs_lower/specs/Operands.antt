@@ -2,6 +2,7 @@
 use Rattle.std.specs.Prelude.{ℕ, ◌*◌, ◌%◌, ◌^◌, ◌==◌, ◌&&◌, nat_lt, not, Bool, true, false, if◌then◌else◌, Option, Some, None}
 use Rattle.qs_memory.specs.Partial.{◌>>=◌, only_if}
 use Rattle.qs_memory.specs.Integers.{calculate, compares, minus, complement}
+use Rattle.qs_memory.specs.Scalars.{is_integer, is_pointer}
 use Rattle.qs_memory.specs.declared.scalar.Scalar.{Scalar}
 use Rattle.qs_memory.specs.declared.scalar.Scalar.TheVariants as scalars
 use Rattle.qs_memory.specs.declared.operation.Signedness.{Signedness}
@@ -12,11 +13,11 @@ use Rattle.qs_memory.specs.declared.operation.UnaryOperation.{UnaryOperation}
 use Rattle.qs_memory.specs.declared.operation.UnaryOperation.TheVariants as unaries
 use Rattle.qs_memory.specs.declared.operation.BinaryOperation.{BinaryOperation}
 use Rattle.qs_memory.specs.declared.operation.BinaryOperation.TheVariants as binaries
-use Rattle.qs_core.specs.Scalars.{is_integer, is_pointer}
 use Rattle.qs_core.specs.Trees.{CoreExprTree, literal, null_pointer, variable, temporary, address_of, load, member}
 use Rattle.qs_core.specs.Trees.{unary, binary, conversion, logical_and, logical_or, conditional}
 use Rattle.qs_core.specs.declared.numbers.BlockId.{BlockId}
 use Rattle.qs_core.specs.declared.numbers.BlockId.TheVariants as blocks
+use Rattle.qs_tac.specs.Operands.{is_constant}
 use Rattle.qs_tac.specs.declared.operands.Operand.{Operand}
 use Rattle.qs_tac.specs.declared.operands.Operand.TheVariants.{Temporary, Integer, Byte, Constant, Null, Local, Data}
 use Rattle.qs_tac.specs.Fits.{is_word}
@@ -236,15 +237,6 @@ commutes (binaries.Compare op s) = false
 commutes (binaries.Move direction s element) = false
 commutes (binaries.Difference element) = false
 commutes (binaries.ComparePointers op) = false
-
-abbrev pub is_constant : Operand → Bool
-is_constant (Constant n) = true
-is_constant (Temporary t) = false
-is_constant (Integer t) = false
-is_constant (Byte t) = false
-is_constant Null = false
-is_constant (Local i) = false
-is_constant (Data i) = false
 
 abbrev pub swaps : BinaryOperation → (left : Operand) → Bool
 swaps op left = commutes op && is_constant left

@@ -1,10 +1,10 @@
 // The blocks of data of a unit of linear code: of each only its size is known.
 ghost use Rattle.std.specs.Prelude.{◌≡◌, IfOk, length, map};
 ghost use Rattle.qs_memory.specs.BlankOf.{blank_tree};
-ghost use Rattle.qs_core.specs.Operands.{blank_size};
 ghost use Rattle.qs_core.specs.TreeOf.{data_block_tree, piece_tree};
 ghost use Rattle.qs_core.specs.Units.{piece_cells, cells_of_pieces};
 ghost use Rattle.qs_memory.specs.BlankOf.{joined_of};
+ghost use Rattle.qs_memory.specs.Sizes.{blank_size};
 ghost use Rattle.qs_lower.specs.Units as spec;
 
 use qs_base::{NoMemory, count, product, sum};
@@ -37,7 +37,7 @@ fn blanks_size(parts: &[Blank]) -> Result<u32, NoMemory>
     Ok(size)
 }
 
-#[tactic(auto, using(crate::proofs::DataLaws::blank_length))]
+#[tactic(auto, using(qs_memory::proofs::BlankLaws::blank_length))]
 fn piece_size(p: &Piece) -> Result<u32, NoMemory>
     ensures { IfOk result (λ n. n ≡ length (piece_cells (piece_tree p.now))) }
 {

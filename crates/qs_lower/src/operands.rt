@@ -8,7 +8,7 @@ use qs_core::BlockId;
 use qs_memory::{
     Arithmetic, BinaryOperation, Comparison, Direction, Scalar, Signedness, UnaryOperation,
 };
-use qs_tac::Operand;
+use qs_tac::{Operand, is_constant};
 
 // ---- constants
 
@@ -23,20 +23,6 @@ fn constant(o: Operand) -> Option<u32>
         Operand::Null => None,
         Operand::Local(_) => None,
         Operand::Data(_) => None,
-    }
-}
-
-fn is_constant(o: Operand) -> bool
-    ensures { result ≡ spec.is_constant o }
-{
-    match o {
-        Operand::Constant(_) => true,
-        Operand::Temporary(_) => false,
-        Operand::Integer(_) => false,
-        Operand::Byte(_) => false,
-        Operand::Null => false,
-        Operand::Local(_) => false,
-        Operand::Data(_) => false,
     }
 }
 

@@ -1,22 +1,11 @@
 // What an expression gives, where it gives a value.
 ghost use Rattle.std.specs.Prelude.{◌≡◌};
-ghost use Rattle.qs_core.specs.Scalars as scalars;
+ghost use Rattle.qs_memory.specs.Scalars as scalars;
 ghost use Rattle.qs_core.specs.TreeOf.{core_expr};
 ghost use Rattle.qs_lower.specs.Operands as spec;
 
 use qs_core::CoreExpr;
-use qs_memory::{BinaryOperation, Scalar, UnaryOperation};
-
-fn is_integer(s: Scalar) -> bool
-    ensures { result ≡ scalars.is_integer s }
-{
-    match s {
-        Scalar::Char => true,
-        Scalar::Int => true,
-        Scalar::Unsigned => true,
-        Scalar::Pointer => false,
-    }
-}
+use qs_memory::{BinaryOperation, Scalar, UnaryOperation, is_integer};
 
 fn is_pointer(s: Scalar) -> bool
     ensures { result ≡ scalars.is_pointer s }

@@ -8,6 +8,7 @@ use Rattle.qs_syntax.specs.declared.types.Base.{Base}
 use Rattle.qs_syntax.specs.Trees.{InitialiserTree, VariableTree, DeclTree, structure, forward, function, variables, UnitTree}
 use Rattle.qs_syntax.specs.Trees as trees
 use Rattle.qs_memory.specs.Memory.{Cell, byte, BlankTree, blank_cells}
+use Rattle.qs_memory.specs.Sizes.{largest_size}
 use Rattle.qs_memory.proofs.Options.{followed}
 use Rattle.qs_types.specs.Types.{TypeTree, Structs}
 use Rattle.qs_types.specs.Layout.{defined_structs}
@@ -30,7 +31,7 @@ use Rattle.qs_meaning.specs.Blanks.{blank_of}
 use Rattle.qs_meaning.specs.Initialisers.{pieces}
 use Rattle.qs_meaning.specs.InitialValues.{text_cells, initial_cells, variable_block, text_block}
 use Rattle.qs_meaning.specs.Units.{function_typed, file_variable_typed, file_variables_typed, declaration_typed, declarations_typed, start_scope, typed_of}
-use Rattle.qs_meaning.specs.Fits.{are_small, largest_size}
+use Rattle.qs_meaning.specs.Fits.{are_small}
 use Rattle.qs_meaning.specs.FitLaws.{is_filled, variables_filled, declaration_filled, IsAsRead}
 use Rattle.qs_meaning.specs.TypedLaws.{IsFileScope}
 use Rattle.qs_meaning.specs.Whole.{AreWhole, TypedDataIsWhole}

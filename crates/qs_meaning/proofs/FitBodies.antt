@@ -5,6 +5,8 @@ use Rattle.std.proofs.lemmas.List.{length-append}
 use Rattle.qs_syntax.specs.Sameness.{same_bytes}
 use Rattle.qs_syntax.specs.Trees.{ParameterTree, FunctionTree, Stmts}
 use Rattle.qs_syntax.specs.Nodes.{all_nodes, parameter_nodes, stmts_nodes}
+use Rattle.qs_memory.specs.Scalars.{is_type}
+use Rattle.qs_memory.proofs.ScalarLaws.{same_self}
 use Rattle.qs_memory.specs.declared.scalar.Scalar.{Scalar}
 use Rattle.qs_memory.specs.declared.scalar.Scalar.TheVariants as scalars
 use Rattle.qs_memory.proofs.Options.{followed}
@@ -25,7 +27,7 @@ use Rattle.qs_meaning.specs.Typed as typed_trees
 use Rattle.qs_meaning.specs.Conversions.{scalar_of}
 use Rattle.qs_meaning.specs.Names.{Locals, Scope, place_among, local_lvalue}
 use Rattle.qs_meaning.specs.Units.{nodes_of, placed_among, plain_among, variables_among, parameters_in, scalars_of, parameter_typed, parameters_typed, result_scalar}
-use Rattle.qs_meaning.specs.Fits.{is_type, lvalue_fits, parameters_placed, end_fits, stmts_fit, are_small, function_fits}
+use Rattle.qs_meaning.specs.Fits.{lvalue_fits, parameters_placed, end_fits, stmts_fit, are_small, function_fits}
 use Rattle.qs_meaning.specs.FitLaws.{are_different, statements_filled}
 use Rattle.qs_meaning.specs.TypedLaws.{IsFileScope}
 use Rattle.qs_meaning.proofs.Options.{never, left, right, nothing, same, Known}
@@ -33,7 +35,7 @@ use Rattle.qs_meaning.proofs.Faultless.{none_right, second_unbroken}
 use Rattle.qs_meaning.proofs.TypedExpressions.{kept}
 use Rattle.qs_meaning.proofs.Functions.{all_scalar, same_result, same_structs_with}
 use Rattle.qs_meaning.proofs.UnitsTyped.{header_parts, header_unbroken, header_result, header_scalar}
-use Rattle.qs_meaning.proofs.FitConversions.{both, same_self}
+use Rattle.qs_meaning.proofs.FitConversions.{both}
 use Rattle.qs_meaning.proofs.FitTypes.{SmallTable}
 use Rattle.qs_meaning.proofs.FitLeaves.{is_short, places, AllFit}
 use Rattle.qs_meaning.proofs.FitInitialisers.{LocalPlace, in_variable, in_block, site_sure}

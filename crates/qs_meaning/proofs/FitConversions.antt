@@ -10,32 +10,26 @@ use Rattle.qs_memory.specs.declared.operation.Arithmetic.{Arithmetic}
 use Rattle.qs_memory.specs.declared.operation.Arithmetic.TheVariants as arithmetics
 use Rattle.qs_memory.specs.declared.operation.Comparison.{Comparison}
 use Rattle.qs_memory.specs.Operations.{integer_type, binary_type}
+use Rattle.qs_memory.specs.Sizes.{is_element}
+use Rattle.qs_memory.specs.Scalars.{same_scalar, is_promoted}
+use Rattle.qs_memory.specs.Operands.{right_takes, binary_takes}
+use Rattle.qs_memory.proofs.ScalarLaws.{scalar_same, same_self}
 use Rattle.qs_memory.proofs.Options.{some_same, followed}
 use Rattle.qs_types.specs.Types.{TypeTree, int, unsigned, char, void, pointer, array, struct, is_integer, is_pointer, is_scalar, referenced, same_type, Structs}
 use Rattle.qs_types.specs.Layout.{size_of}
 use Rattle.qs_types.specs.Conversions.{decayed, arithmetic, common}
 use Rattle.qs_types.specs.Expressions.{both_integers, is_object_pointer, may_add, may_subtract, difference_type}
 use Rattle.qs_meaning.specs.Typed.{unchanged, converted, as_written}
-use Rattle.qs_meaning.specs.Conversions.{scalar_of, same_scalar, conversion}
+use Rattle.qs_meaning.specs.Conversions.{scalar_of, conversion}
 use Rattle.qs_meaning.specs.Operations.{Operated, combined, shifted, compared, moved, moved_from_left, apart, summed, subtracted}
-use Rattle.qs_meaning.specs.Fits.{type_after, converts, conversion_fits, is_promoted, takes_second, is_element, takes_operands, takes_in_order, amount_type}
+use Rattle.qs_meaning.specs.Fits.{type_after, converts, conversion_fits, takes_in_order, amount_type}
 use Rattle.qs_meaning.proofs.Options.{never, left, right, either}
-use Rattle.qs_meaning.proofs.TypedValues.{scalar_same}
 
 -- ---- tests
 
 pub both : (x y : Bool) → x ≡ true → y ≡ true → (x && y) ≡ true
 both true y e f = f
 both false y e f = never e
-
-pub same_self : (s : Scalar) → same_scalar s s ≡ true
-same_self scalars.Char = refl
-same_self scalars.Int = refl
-same_self scalars.Unsigned = refl
-same_self scalars.Pointer = refl
-
-pub same_as : (s t : Scalar) → s ≡ t → same_scalar s t ≡ true
-same_as s t e = subst (λ z. same_scalar s z ≡ true) e (same_self s)
 
 pub scalar_decayed : (t : TypeTree) → scalar_of (decayed t) ≡ scalar_of t
 scalar_decayed int = refl
@@ -149,7 +143,7 @@ pub record OperatedFits (o : Operated) (t u : TypeTree) (n m : Bool) : Type 0 wh
 pub record PlainFits (o : Operated) (t u : TypeTree) : Type 0 where
   pub left : (n : Bool) → conversion_fits o.left (scalar_of t) n ≡ true
   pub right : (m : Bool) → conversion_fits o.right (scalar_of u) m ≡ true
-  pub takes : takes_operands o.operation (type_after o.left (scalar_of t)) (type_after o.right (scalar_of u)) ≡ true
+  pub takes : binary_takes o.operation (type_after o.left (scalar_of t)) (type_after o.right (scalar_of u)) ≡ true
   pub order : o.order ≡ as_written
   pub type : binary_type o.operation ≡ scalar_of o.type
 
@@ -165,7 +159,7 @@ promoted_type : (s : Signedness) → is_promoted (integer_type s) ≡ true
 promoted_type Signed = refl
 promoted_type Unsigned = refl
 
-second_same : (op : Arithmetic) (s : Signedness) → takes_second op (integer_type s) (integer_type s) ≡ true
+second_same : (op : Arithmetic) (s : Signedness) → right_takes op s (integer_type s) ≡ true
 second_same arithmetics.Add s = same_self (integer_type s)
 second_same arithmetics.Subtract s = same_self (integer_type s)
 second_same arithmetics.Multiply s = same_self (integer_type s)
@@ -190,7 +184,7 @@ combined_fits op a_char a_char = record { left = λ n. refl; right = λ m. refl;
 
 -- whether an operation takes a promoted second operand
 abbrev pub Shifts : Arithmetic → Type 0
-Shifts op = (s t : Scalar) → is_promoted t ≡ true → takes_second op s t ≡ true
+Shifts op = (s : Signedness) (t : Scalar) → is_promoted t ≡ true → right_takes op s t ≡ true
 
 pub shifted_fits : {t u : TypeTree} (op : Arithmetic) → Shifts op → Integer t → Integer u → PlainFits (shifted op t u) t u
 shifted_fits op h an_int an_int = record { left = λ n. refl; right = λ m. refl; takes = h _ _ refl; order = refl; type = refl }

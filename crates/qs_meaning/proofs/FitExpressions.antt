@@ -17,6 +17,10 @@ use Rattle.qs_syntax.specs.Trees.{ExprTree, expr, ShapeTree, Exprs, no_exprs, ex
 use Rattle.qs_syntax.specs.Trees as trees
 use Rattle.qs_memory.specs.Partial.{◌>>=◌}
 use Rattle.qs_memory.specs.Operations.{integer_type, unary_type, binary_type}
+use Rattle.qs_memory.specs.Sizes.{largest_size}
+use Rattle.qs_memory.specs.Scalars.{same_scalar}
+use Rattle.qs_memory.specs.Operands.{unary_takes, binary_takes}
+use Rattle.qs_memory.proofs.ScalarLaws.{same_self, same_as}
 use Rattle.qs_memory.specs.declared.operation.Signedness.{Signedness}
 use Rattle.qs_memory.specs.declared.operation.UnaryOperation.{UnaryOperation}
 use Rattle.qs_memory.specs.declared.operation.UnaryOperation.TheVariants as operations
@@ -37,16 +41,16 @@ use Rattle.qs_types.specs.Expressions.{is_lvalue, is_null_constant, is_assignabl
 use Rattle.qs_types.specs.Expressions as expressions
 use Rattle.qs_types.specs.References.{TextBlock}
 use Rattle.qs_meaning.specs.Typed.{Expr, member, stepped_after, unary, Lvalue, object, Arguments, update, Function}
-use Rattle.qs_meaning.specs.Conversions.{scalar_of, same_scalar, conversion}
+use Rattle.qs_meaning.specs.Conversions.{scalar_of, conversion}
 use Rattle.qs_meaning.specs.Operations.{Operated, operation_of, combined, shifted, compared, signedness}
 use Rattle.qs_meaning.specs.Forms.{Form, lvalue, call, TypedExpr, lvalue_of, address_of, type_in_use, value_in_use}
 use Rattle.qs_meaning.specs.Names.{Scope, entity_lvalue, Designator, entity_designated, text_object}
 use Rattle.qs_meaning.specs.Expressions.{operated, operator_value, arguments_of, member_offset, member_form, set_form, struct_form, plain_form, compound_form, assign_form, one, step_after_form, step_form, unary_form, size_form, cast_form, beside_zero, operator_form, binary_form, subscript_form, conditional_form, typed, form_of, all_typed}
 use Rattle.qs_meaning.specs.Fits as fitting
-use Rattle.qs_meaning.specs.Fits.{type_after, conversion_fits, takes_operand, is_null, takes_operands, takes_in_order, amount_type, expr_fits, lvalue_fits, arguments_fit, object_there, largest_size}
+use Rattle.qs_meaning.specs.Fits.{type_after, conversion_fits, is_null, takes_in_order, amount_type, expr_fits, lvalue_fits, arguments_fit, object_there}
 use Rattle.qs_meaning.proofs.Options.{never, left, right, either, nothing, same, went}
 use Rattle.qs_meaning.proofs.TypedExpressions.{kept, unbroken_left, unbroken_right, not_true, unless}
-use Rattle.qs_meaning.proofs.FitConversions.{both, same_self, same_as, Integer, an_int, an_unsigned, a_char, Pointing, a_pointer, integer, pointing, scalar_kind, may_convert, conversion_type, plain, combined_fits, Shifts, shifted_fits, Alike, compared_fits, shared, Elements, added, ResultFits, summed_fits, subtracts, subtracted_fits, UpdateFits, combined_update, shifted_update, summed_update, subtracted_update, summed_amount, subtracted_amount, conversion_taken}
+use Rattle.qs_meaning.proofs.FitConversions.{both, Integer, an_int, an_unsigned, a_char, Pointing, a_pointer, integer, pointing, scalar_kind, may_convert, conversion_type, plain, combined_fits, Shifts, shifted_fits, Alike, compared_fits, shared, Elements, added, ResultFits, summed_fits, subtracts, subtracted_fits, UpdateFits, combined_update, shifted_update, summed_update, subtracted_update, summed_amount, subtracted_amount, conversion_taken}
 use Rattle.qs_meaning.proofs.FitForms.{Has, AssignmentFits, FormFits, integer_solid, pointing_solid, scalar_solid, pointer_object, lvalue_there, address_there, in_use, effect_there, conversion_there, becomes_there, null_value, MaybeNull, Assignable, integers_assignable, pointers_assignable, null_assignable, assignable, alike, alike_first, alike_second, added_solid, subtracted_solid}
 use Rattle.qs_meaning.proofs.FitTypes.{is_small, SmallTable, size_room, room, elements, alignment_positive, is_least, member_offset_small, small_decayed}
 use Rattle.qs_meaning.proofs.FitLeaves.{is_sure, shape_sure, all_sure, is_short, places, EntityFits, scalar_signature}
@@ -183,7 +187,7 @@ module _ (i : Interface) (g : Function) where
   update_has o t u l x h p f = record {
     fits = both _ _ (both _ _ h p.fits)
         (subst (λ z. ((conversion_fits o.left (scalar_of t) false && conversion_fits o.right z (is_null x))
-        && (takes_operands o.operation (type_after o.left (scalar_of t)) (type_after o.right z)
+        && (binary_takes o.operation (type_after o.left (scalar_of t)) (type_after o.right z)
         && (conversion_fits (conversion o.type t) (binary_type o.operation) false && same_scalar (type_after (conversion o.type t) (binary_type o.operation)) (scalar_of t)))) ≡ true)
         (sym p.type)
         (both _ _ (both _ _ (f.plain.left false) (f.plain.right (is_null x))) (both _ _ f.plain.takes (back_there o t f.plain.type f.back))));
@@ -195,7 +199,7 @@ module _ (i : Interface) (g : Function) where
       → Has i g (stepped_after (scalar_of t) l o.operation o.left (conversion o.type t)) (scalar_of t)
   before_has o t l h f e = record {
     fits = both _ _ h (both _ _ (f.plain.left false)
-        (both _ _ (subst (λ z. takes_operands o.operation (type_after o.left (scalar_of t)) z ≡ true) e f.plain.takes) (back_there o t f.plain.type f.back)));
+        (both _ _ (subst (λ z. binary_takes o.operation (type_after o.left (scalar_of t)) z ≡ true) e f.plain.takes) (back_there o t f.plain.type f.back)));
     type = refl;
   }
 
@@ -440,7 +444,7 @@ module _ (i : Interface) (g : Function) where
     promoted_converts n an_unsigned = refl
     promoted_converts n a_char = refl
 
-    arithmetic_there : (operation : Signedness → UnaryOperation) (a : TypedExpr) → ((s : Signedness) → takes_operand (operation s) (integer_type s) ≡ true)
+    arithmetic_there : (operation : Signedness → UnaryOperation) (a : TypedExpr) → ((s : Signedness) → unary_takes (operation s) (integer_type s) ≡ true)
         → ((s : Signedness) → unary_type (operation s) ≡ integer_type s) → FormFits i g a.type a.form → Integer (type_in_use a)
         → Has i g (unary (operation (signedness (promoted (type_in_use a)))) (conversion (type_in_use a) (promoted (type_in_use a))) (value_in_use a)) (scalar_of (promoted (type_in_use a)))
     arithmetic_there operation a takes type h n =
@@ -449,8 +453,8 @@ module _ (i : Interface) (g : Function) where
         let s = signedness (promoted u) in
         record {
           fits = both _ _ x.fits (both _ _ (conversion_there i g (value_in_use a) u (promoted u) x (promoted_converts (is_null (value_in_use a)) n))
-              (subst (λ z. takes_operand (operation s) (type_after (conversion u (promoted u)) z) ≡ true) (sym x.type)
-              (subst (λ z. takes_operand (operation s) z ≡ true) (sym (conversion_type u (promoted u) ∙ promoted_scalar n)) (takes s))));
+              (subst (λ z. unary_takes (operation s) (type_after (conversion u (promoted u)) z) ≡ true) (sym x.type)
+              (subst (λ z. unary_takes (operation s) z ≡ true) (sym (conversion_type u (promoted u) ∙ promoted_scalar n)) (takes s))));
           type = type s ∙ sym (promoted_scalar n);
         }
 

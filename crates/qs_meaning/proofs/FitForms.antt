@@ -2,6 +2,8 @@
 use Rattle.std.proofs.Common.{◌≡◌, ◌⊎◌, inl, inr, Bool, true, false, ◌&&◌, ◌||◌, Option, Some, is_some, refl, sym, ap, ◌∙◌, subst}
 use Rattle.qs_syntax.specs.Trees.{ExprTree, expr}
 use Rattle.qs_syntax.specs.Trees as trees
+use Rattle.qs_memory.specs.Scalars.{same_scalar, is_type}
+use Rattle.qs_memory.proofs.ScalarLaws.{scalar_same, same_self, same_as}
 use Rattle.qs_memory.specs.declared.scalar.Scalar.{Scalar}
 use Rattle.qs_memory.specs.declared.scalar.Scalar.TheVariants as scalars
 use Rattle.qs_memory.proofs.Options.{some_same}
@@ -11,16 +13,15 @@ use Rattle.qs_types.specs.Types.{TypeTree, int, unsigned, char, void, pointer, a
 use Rattle.qs_types.specs.Conversions.{decayed}
 use Rattle.qs_types.specs.Expressions.{is_null_constant, both_integers, same_pointers, is_assignable, alike_pointers}
 use Rattle.qs_meaning.specs.Typed.{Expr, called, Lvalue, variable, object, Arguments, Assignment, copy, Function}
-use Rattle.qs_meaning.specs.Conversions.{scalar_of, same_scalar, conversion}
+use Rattle.qs_meaning.specs.Conversions.{scalar_of, conversion}
 use Rattle.qs_meaning.specs.Forms.{Form, lvalue, result, call, assignment, step, struct_assignment, comma, TypedExpr, lvalue_of, address_in, address_of, value_in, value_of, effect_of, type_in_use, value_in_use}
 use Rattle.qs_meaning.specs.Names.{Scope}
 use Rattle.qs_meaning.specs.Expressions.{typed}
 use Rattle.qs_meaning.specs.Units.{result_scalar}
-use Rattle.qs_meaning.specs.Fits.{type_after, assigned_type, is_type, conversion_fits, is_null, taken, becomes, result_fits, expr_fits, lvalue_fits, arguments_fit, assignment_fits, effect_fits}
+use Rattle.qs_meaning.specs.Fits.{type_after, assigned_type, conversion_fits, is_null, taken, becomes, result_fits, expr_fits, lvalue_fits, arguments_fit, assignment_fits, effect_fits}
 use Rattle.qs_meaning.specs.Fits as fitting
 use Rattle.qs_meaning.proofs.Options.{never, left, right, either, nothing, same}
-use Rattle.qs_meaning.proofs.TypedValues.{scalar_same}
-use Rattle.qs_meaning.proofs.FitConversions.{both, same_self, same_as, scalar_decayed, Integer, an_int, an_unsigned, a_char, Pointing, a_pointer, integer, pointing, scalar_kind, same_pointing, may_convert, conversion_taken, conversion_type, integers_convert, pointers_convert, null_converts, Alike, integers, pointers, right_null, left_null, Added, numbers, front, back, Subtracted, two_numbers, from_pointer, two_pointers}
+use Rattle.qs_meaning.proofs.FitConversions.{both, scalar_decayed, Integer, an_int, an_unsigned, a_char, Pointing, a_pointer, integer, pointing, scalar_kind, same_pointing, may_convert, conversion_taken, conversion_type, integers_convert, pointers_convert, null_converts, Alike, integers, pointers, right_null, left_null, Added, numbers, front, back, Subtracted, two_numbers, from_pointer, two_pointers}
 
 -- ---- what fits
 

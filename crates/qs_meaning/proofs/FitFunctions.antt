@@ -5,6 +5,8 @@ use Rattle.qs_syntax.specs.Sameness.{same_bytes}
 use Rattle.qs_syntax.specs.Trees.{ParameterTree, FunctionTree, Stmts}
 use Rattle.qs_memory.specs.Partial.{◌>>=◌}
 use Rattle.qs_memory.specs.Values.{width}
+use Rattle.qs_memory.specs.Sizes.{largest_size}
+use Rattle.qs_memory.proofs.ScalarLaws.{same_self}
 use Rattle.qs_memory.specs.declared.scalar.Scalar.{Scalar}
 use Rattle.qs_memory.proofs.Options.{followed}
 use Rattle.qs_calls.specs.declared.callee.Callee.TheVariants.{Function, PutChar, GetChar}
@@ -27,10 +29,10 @@ use Rattle.qs_meaning.specs.Names.{Locals, Statics, Scope, place_among, local_lv
 use Rattle.qs_meaning.specs.Statements.{statements_typed}
 use Rattle.qs_meaning.specs.Units.{placed_among, plain_among, variables_among, locals_of, parameters_in, scalars_of, sizes_of, parameter_by, parameter_typed, parameters_typed, result_scalar, in_body, function_with}
 use Rattle.qs_meaning.specs.Interfaces.{types_of, signature}
-use Rattle.qs_meaning.specs.Fits.{is_size, place_fits, are_small, largest_size}
+use Rattle.qs_meaning.specs.Fits.{is_size, place_fits, are_small}
 use Rattle.qs_meaning.proofs.Options.{never, nothing, same, went}
 use Rattle.qs_meaning.proofs.TypedExpressions.{unless}
-use Rattle.qs_meaning.proofs.FitConversions.{both, same_self}
+use Rattle.qs_meaning.proofs.FitConversions.{both}
 use Rattle.qs_meaning.proofs.FitTypes.{is_small, SmallTable, size_room, is_least}
 use Rattle.qs_meaning.proofs.FitLeaves.{Places, scalar_signature, EntityFits, AllFit}
 use Rattle.qs_meaning.proofs.FitSmall.{starred_small}

@@ -5,6 +5,8 @@ use Rattle.std.proofs.lemmas.Bool.Decides.{nat_tests}
 use Rattle.qs_syntax.specs.Trees.{ExprTree, InitialiserTree, Initialisers, no_initialisers, initialiser_and}
 use Rattle.qs_syntax.specs.Trees as trees
 use Rattle.qs_memory.specs.Memory.{blank_cells}
+use Rattle.qs_memory.specs.Sizes.{largest_size}
+use Rattle.qs_memory.proofs.ScalarLaws.{same_as}
 use Rattle.qs_memory.specs.declared.scalar.Scalar.TheVariants as scalars
 use Rattle.qs_memory.proofs.Options.{followed}
 use Rattle.qs_calls.specs.Starts.{Interface}
@@ -27,11 +29,11 @@ use Rattle.qs_meaning.specs.Names.{Scope, text_object}
 use Rattle.qs_meaning.specs.Expressions.{typed, plain_form}
 use Rattle.qs_meaning.specs.Blanks.{blank_of}
 use Rattle.qs_meaning.specs.Initialisers.{part_offset, Piece, pieces, pieces_from, text_room, text_set, assigned_set, piece_set, pieces_set, object_set, local_set}
-use Rattle.qs_meaning.specs.Fits.{lvalue_fits, effect_fits, object_there, is_size, is_whole_local, largest_size}
+use Rattle.qs_meaning.specs.Fits.{lvalue_fits, effect_fits, object_there, is_size, is_whole_local}
 use Rattle.qs_meaning.proofs.Options.{never, left, right, nothing, same, all_left, all_right}
 use Rattle.qs_meaning.proofs.CompleteTypes.{fits_takes}
 use Rattle.qs_meaning.proofs.Faultless.{HasTypes, none_left, none_right, unbroken, type_of_known}
-use Rattle.qs_meaning.proofs.FitConversions.{both, same_as}
+use Rattle.qs_meaning.proofs.FitConversions.{both}
 use Rattle.qs_meaning.proofs.FitForms.{Has, address_there, pointer_object, effect_there, null_value}
 use Rattle.qs_meaning.proofs.FitTypes.{is_small, size_room, is_least, array_length}
 use Rattle.qs_meaning.proofs.FitLayouts.{part_fits, blank_size}

@@ -10,9 +10,9 @@ use Rattle.qs_types.specs.Types.{TypeTree, int, unsigned, char, void, pointer, a
 use Rattle.qs_types.specs.Layout.{and_then, StructLayout, Layouts, array_extent, struct_extent, extent_by, extents_by, rounded_up, offsets_from, end_from, strictest, struct_layout, member_types, struct_of, members_layout, layouts_within, defined_structs, layout_of, extent_of, size_of, offset_of, size_limit, extent_within, sized_by, is_sized}
 use Rattle.qs_types.specs.Conversions.{decayed}
 use Rattle.qs_types.specs.Expressions.{member_in, member_type}
+use Rattle.qs_memory.specs.Sizes.{largest_size}
 use Rattle.qs_memory.proofs.Options.{followed}
 use Rattle.qs_meaning.specs.Expressions.{member_number, member_offset}
-use Rattle.qs_meaning.specs.Fits.{largest_size}
 use Rattle.qs_meaning.proofs.Options.{left, right, nothing, same, went, Known, known}
 use Rattle.qs_meaning.proofs.FitConversions.{both, Elements}
 

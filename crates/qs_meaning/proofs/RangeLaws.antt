@@ -13,6 +13,9 @@ use Rattle.qs_memory.specs.Memory as blocks
 use Rattle.qs_memory.specs.Pointers.{member_of, truth}
 use Rattle.qs_memory.specs.Operations.{apply_unary}
 use Rattle.qs_memory.specs.Soundness.{IsSoundPointer, ComesAfter}
+use Rattle.qs_memory.specs.Scalars.{is_pointer, is_type}
+use Rattle.qs_memory.specs.Operands.{binary_takes}
+use Rattle.qs_memory.proofs.ScalarLaws.{scalar_same, type_is}
 use Rattle.qs_memory.specs.declared.scalar.Scalar.{Scalar}
 use Rattle.qs_memory.specs.declared.scalar.Scalar.TheVariants as scalars
 use Rattle.qs_memory.proofs.Options.{some_same, followed}
@@ -32,14 +35,14 @@ use Rattle.qs_calls.specs.declared.parameter.Parameter.{Parameter}
 use Rattle.qs_calls.specs.declared.parameter.Parameter.TheVariants.{Plain, Placed}
 use Rattle.qs_meaning.specs.Typed.{Conversion, unchanged, Object, local, static, Expr, constant, value, pointer_to, member, called, stepped_after, unary, cast, binary, logical_and, logical_or, conditional, assigned, sequence, Lvalue, variable, object, Arguments, no_arguments, argument_and, Assignment, set, update, Effect, nothing, discard, assign, perform, copy, fill, in_order, Stmt, evaluate, block, branch, while_loop, do_loop, for_loop, break, continue, return, return_nothing, Stmts, no_stmts, stmt_and, Function, StaticBlock}
 use Rattle.qs_meaning.specs.Interfaces.{types_of, signature, data_extent, interface_of}
-use Rattle.qs_meaning.specs.Fits.{type_after, assigned_type, type_of, is_pointer, is_type, conversion_fits, is_null, takes_operands, amount_type, object_there, taken, becomes, result_fits, expr_fits, lvalue_fits, arguments_fit, assignment_fits, effect_fits, returned_fits, option_fits, stmt_fits, stmts_fit, place_fits, parameters_placed, end_fits, function_fits}
+use Rattle.qs_meaning.specs.Fits.{type_after, assigned_type, type_of, conversion_fits, is_null, amount_type, object_there, taken, becomes, result_fits, expr_fits, lvalue_fits, arguments_fit, assignment_fits, effect_fits, returned_fits, option_fits, stmt_fits, stmts_fit, place_fits, parameters_placed, end_fits, function_fits}
 use Rattle.qs_meaning.specs.States.{Next, Here, choose, test, convert_by, pointer_at, Place, in_variable, in_object, read, write}
 use Rattle.qs_meaning.specs.Meaning.{operation_value, updated_value, step_amount, expression, lvalue, arguments, assignment, effect, Targets, in_loop, turns, condition, for_condition, statement, statements}
 use Rattle.qs_meaning.specs.Runs.{result_at_end, calls_within}
 use Rattle.qs_meaning.specs.Ranges.{VariablesAreOf, IsMoment, NextInRange, ValueInRange, ReturnsInRange, TargetsInRange, result_at, CallsInRange, ExpressionsHaveTypes, CallsStayInRange, BodiesStayInRange, RunsLeaveSound, InitialMemoryIsReady}
 use Rattle.qs_meaning.specs.Units.{block_of}
 use Rattle.qs_meaning.proofs.InitialMemory.{initial_memory_is_sound}
-use Rattle.qs_meaning.proofs.TypedValues.{both_hold, scalar_same, type_is, all_at, number_is_of, converted_is_of, unary_is_of, operation_is_of, updated_is_of, variables_later, no_values_are_of, with_value_are_of, moment_later, moment_stepped, moment_assigned, now, onward_from, PlaceIsOf, read_is_of}
+use Rattle.qs_meaning.proofs.TypedValues.{both_hold, all_at, number_is_of, converted_is_of, unary_is_of, operation_is_of, updated_is_of, variables_later, no_values_are_of, with_value_are_of, moment_later, moment_stepped, moment_assigned, now, onward_from, PlaceIsOf, read_is_of}
 
 module _ (R : Relation) (keeps : Keeps R) (shorts : R short short) (i : Interface) where
   given_in_range : {A : Type 0} (o : Option A) (f g : A → RootRun) → ((a : A) → o ≡ Some a → R (f a) (g a)) → R (given o f) (given o g)
@@ -175,7 +178,7 @@ module _ (R : Relation) (keeps : Keeps R) (shorts : R short short) (i : Interfac
       expression_in_range (stepped_after s l op left back) fit start k j h v w is =
           let two = both_hold (lvalue_fits i g s l) _ fit in
           let three = both_hold (conversion_fits left s false) _ two.1 in
-          let four = both_hold (takes_operands op (type_after left s) (amount_type op)) _ three.1 in
+          let four = both_hold (binary_takes op (type_after left s) (amount_type op)) _ three.1 in
           let five = both_hold (conversion_fits back _ false) _ four.1 in
           lvalue_in_range l s two.0 start _ _ (λ p v w is place. given_in_range (read s p v w) _ _ (λ x e.
           let of = read_is_of i g first s p start v w x place is e in
@@ -262,7 +265,7 @@ module _ (R : Relation) (keeps : Keeps R) (shorts : R short short) (i : Interfac
           let two = both_hold (lvalue_fits i g s l && expr_fits i g a) _ fit in
           let one = both_hold (lvalue_fits i g s l) _ two.0 in
           let three = both_hold (conversion_fits left s false && conversion_fits right (type_of a) (is_null a)) _ two.1 in
-          let four = both_hold (takes_operands op (type_after left s) (type_after right (type_of a))) _ three.1 in
+          let four = both_hold (binary_takes op (type_after left s) (type_after right (type_of a))) _ three.1 in
           let five = both_hold (conversion_fits back _ false) _ four.1 in
           lvalue_in_range l s one.0 start _ _ (λ p v w is place. given_in_range (read s p v w) _ _ (λ x e.
           let old = read_is_of i g first s p start v w x place is e in

@@ -22,17 +22,19 @@ use Rattle.qs_memory.specs.Pointers.{moved, directed, in_one_block, elements, eq
 use Rattle.qs_memory.specs.Operations.{of_truth, integer_type, apply_unary, apply_binary}
 use Rattle.qs_memory.specs.Soundness.{IsLive}
 use Rattle.qs_memory.specs.Accesses.{AreInOneBlock}
+use Rattle.qs_memory.specs.Scalars.{same_scalar, is_pointer, is_promoted}
+use Rattle.qs_memory.specs.Operands.{unary_takes, right_takes, binary_takes}
+use Rattle.qs_memory.proofs.ScalarLaws.{scalar_same}
 use Rattle.qs_memory.proofs.Options.{followed, only_if_some, answer_of, some_is, some_then, then_some}
 use Rattle.qs_memory.proofs.BlockLaws.{target_is}
 use Rattle.qs_memory.proofs.DefinedLaws.{steps_are_defined}
 use Rattle.qs_memory.proofs.PointerLaws.{pointers_are_defined}
 use Rattle.qs_calls.specs.Starts.{IsOf}
 use Rattle.qs_meaning.specs.Typed.{Conversion, unchanged, converted}
-use Rattle.qs_meaning.specs.Conversions.{same_scalar}
-use Rattle.qs_meaning.specs.Fits.{is_pointer, conversion_fits, takes_operand, is_promoted, takes_second, takes_operands}
+use Rattle.qs_meaning.specs.Fits.{conversion_fits}
 use Rattle.qs_meaning.specs.States.{convert_by}
 use Rattle.qs_meaning.specs.StepLaws.{calculates, IsTested, AreCompared, AreSubtracted, MovesTo, UnaryNeeds, BinaryNeeds, StepsOnTypesAreDefined}
-use Rattle.qs_meaning.proofs.TypedValues.{both_hold, scalar_same}
+use Rattle.qs_meaning.proofs.TypedValues.{both_hold}
 
 -- ---- values of types
 
@@ -98,7 +100,7 @@ tested m (address p) = (
       some_then (equal m p null) not ((pointers_are_defined.compared m p null).1 h),
 )
 
-unary_defined : (op : UnaryOperation) (s : Scalar) (m : Memory) (x : Value) → takes_operand op s ≡ true → IsOf m s x → IsSome (apply_unary op m x) ↔ UnaryNeeds op m x
+unary_defined : (op : UnaryOperation) (s : Scalar) (m : Memory) (x : Value) → unary_takes op s ≡ true → IsOf m s x → IsSome (apply_unary op m x) ↔ UnaryNeeds op m x
 unary_defined (unaries.Plus t) s m (integer n) fit of = (λ h. tt, λ h. refl)
 unary_defined (unaries.Minus t) s m (integer n) fit of = (λ h. tt, λ h. refl)
 unary_defined (unaries.Complement t) s m (integer n) fit of = (λ h. tt, λ h. refl)
@@ -218,7 +220,7 @@ promoted_no_pointer scalars.Int h = refl
 promoted_no_pointer scalars.Unsigned h = refl
 promoted_no_pointer scalars.Pointer h = cc
 
-second_no_address : (op : Arithmetic) (m : Memory) (s : Signedness) (t : Scalar) (p : Pointer) → takes_second op (integer_type s) t ≡ true → has_type t (address p) ≡ true → false ≡ true
+second_no_address : (op : Arithmetic) (m : Memory) (s : Signedness) (t : Scalar) (p : Pointer) → right_takes op s t ≡ true → has_type t (address p) ≡ true → false ≡ true
 second_no_address arithmetics.Add m s t p fit h = no_address m t (integer_type s) p (word_is_integer s) fit h
 second_no_address arithmetics.Subtract m s t p fit h = no_address m t (integer_type s) p (word_is_integer s) fit h
 second_no_address arithmetics.Multiply m s t p fit h = no_address m t (integer_type s) p (word_is_integer s) fit h
@@ -230,7 +232,7 @@ second_no_address arithmetics.And m s t p fit h = no_address m t (integer_type s
 second_no_address arithmetics.Or m s t p fit h = no_address m t (integer_type s) p (word_is_integer s) fit h
 second_no_address arithmetics.Xor m s t p fit h = no_address m t (integer_type s) p (word_is_integer s) fit h
 
-binary_defined : (op : BinaryOperation) (s t : Scalar) (m : Memory) (x y : Value) → takes_operands op s t ≡ true → IsOf m s x → IsOf m t y
+binary_defined : (op : BinaryOperation) (s t : Scalar) (m : Memory) (x y : Value) → binary_takes op s t ≡ true → IsOf m s x → IsOf m t y
     → IsSome (apply_binary op m x y) ↔ BinaryNeeds op m x y
 binary_defined (binaries.Arithmetic op n) s t m (integer x) (integer y) fit of og = arithmetic_defined op n m x y
 binary_defined (binaries.Arithmetic op n) s t m (integer x) (address q) fit of og =

@@ -1,5 +1,5 @@
 -- Values that are read, converted and computed are of their types, and variables and blocks keep such values.
-use Rattle.std.proofs.Common.{◌≡◌, ℕ, zero, suc, ◌==◌, ◌&&◌, Bool, true, false, if◌then◌else◌, List, [], ◌∷◌, Option, Some, None, refl, sym, ap, ◌∙◌, subst, arith}
+use Rattle.std.proofs.Common.{◌≡◌, ℕ, zero, suc, ◌==◌, ◌&&◌, Bool, true, false, if◌then◌else◌, List, [], ◌∷◌, Some, refl, sym, ap, ◌∙◌, subst, arith}
 use Rattle.std.specs.List.{slice_get, list_all}
 use Rattle.std.proofs.lemmas.Bool.Decides.{nat_tests}
 use Rattle.qs_memory.specs.Partial.{◌>>=◌}
@@ -19,10 +19,9 @@ use Rattle.qs_calls.specs.World.{World, with_memory, Environment, no_values, wit
 use Rattle.qs_calls.specs.Starts.{Interface, IsOf, IsReady}
 use Rattle.qs_calls.proofs.StartLaws.{is_of_later, ready_later}
 use Rattle.qs_meaning.specs.Typed.{Conversion, unchanged, converted, Order, as_written, exchanged, Function}
-use Rattle.qs_meaning.specs.Conversions.{same_scalar}
 use Rattle.qs_meaning.specs.States.{convert_by, Place, in_variable, in_object, read}
 use Rattle.qs_meaning.specs.Meaning.{in_their_order, operation_value, updated_value}
-use Rattle.qs_meaning.specs.Fits.{type_after, is_type}
+use Rattle.qs_meaning.specs.Fits.{type_after}
 use Rattle.qs_meaning.specs.Ranges.{VariablesAreOf, IsMoment}
 
 -- ---- tests
@@ -31,28 +30,6 @@ pub both_hold : (a b : Bool) → (a && b) ≡ true → (a ≡ true) × (b ≡ tr
 both_hold true true h = (refl, refl)
 both_hold true false h = cc
 both_hold false b h = cc
-
-pub scalar_same : (s t : Scalar) → same_scalar s t ≡ true → s ≡ t
-scalar_same scalars.Char scalars.Char h = refl
-scalar_same scalars.Char scalars.Int h = cc
-scalar_same scalars.Char scalars.Unsigned h = cc
-scalar_same scalars.Char scalars.Pointer h = cc
-scalar_same scalars.Int scalars.Char h = cc
-scalar_same scalars.Int scalars.Int h = refl
-scalar_same scalars.Int scalars.Unsigned h = cc
-scalar_same scalars.Int scalars.Pointer h = cc
-scalar_same scalars.Unsigned scalars.Char h = cc
-scalar_same scalars.Unsigned scalars.Int h = cc
-scalar_same scalars.Unsigned scalars.Unsigned h = refl
-scalar_same scalars.Unsigned scalars.Pointer h = cc
-scalar_same scalars.Pointer scalars.Char h = cc
-scalar_same scalars.Pointer scalars.Int h = cc
-scalar_same scalars.Pointer scalars.Unsigned h = cc
-scalar_same scalars.Pointer scalars.Pointer h = refl
-
-pub type_is : (o : Option Scalar) (s : Scalar) → is_type o s ≡ true → o ≡ Some s
-type_is None s h = cc
-type_is (Some t) s h = ap Some (scalar_same t s h)
 
 pub all_at : {A : Type 0} (p : A → Bool) (xs : List A) (k : ℕ) (x : A) → list_all p xs ≡ true → slice_get xs k ≡ Some x → p x ≡ true
 all_at p [] k x all is = cc

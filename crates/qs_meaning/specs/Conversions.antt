@@ -1,6 +1,7 @@
 -- Conversions (C11 6.3) between the types of values.
-use Rattle.std.specs.Prelude.{Bool, true, false, if◌then◌else◌}
+use Rattle.std.specs.Prelude.{if◌then◌else◌}
 use Rattle.qs_types.specs.Types.{TypeTree, int, unsigned, char, void, pointer, array, struct}
+use Rattle.qs_memory.specs.Scalars.{same_scalar}
 use Rattle.qs_memory.specs.declared.scalar.Scalar.{Scalar}
 use Rattle.qs_memory.specs.declared.scalar.Scalar.TheVariants as scalars
 use Rattle.qs_meaning.specs.Typed.{Conversion, unchanged, converted}
@@ -14,13 +15,6 @@ scalar_of void = scalars.Int
 scalar_of (pointer t) = scalars.Pointer
 scalar_of (array t n) = scalars.Pointer
 scalar_of (struct k) = scalars.Pointer
-
-abbrev pub same_scalar : Scalar → Scalar → Bool
-same_scalar scalars.Char scalars.Char = true
-same_scalar scalars.Int scalars.Int = true
-same_scalar scalars.Unsigned scalars.Unsigned = true
-same_scalar scalars.Pointer scalars.Pointer = true
-same_scalar _ _ = false
 
 -- 6.3.1.3, 6.3.2.3: a value of one type as a value of another; between pointers nothing happens
 abbrev pub conversion : (from to : TypeTree) → Conversion

@@ -4,20 +4,18 @@ use Rattle.std.specs.Prelude.{ℕ, ◌+◌, ◌==◌, ◌&&◌, ◌||◌, not, n
 use Rattle.std.specs.List.{slice_get, list_all}
 use Rattle.qs_memory.specs.declared.scalar.Scalar.{Scalar}
 use Rattle.qs_memory.specs.declared.scalar.Scalar.TheVariants as scalars
-use Rattle.qs_memory.specs.declared.operation.Arithmetic.{Arithmetic}
-use Rattle.qs_memory.specs.declared.operation.Arithmetic.TheVariants as arithmetics
-use Rattle.qs_memory.specs.declared.operation.UnaryOperation.{UnaryOperation}
-use Rattle.qs_memory.specs.declared.operation.UnaryOperation.TheVariants as unaries
 use Rattle.qs_memory.specs.declared.operation.BinaryOperation.{BinaryOperation}
 use Rattle.qs_memory.specs.declared.operation.BinaryOperation.TheVariants as operations
+use Rattle.qs_memory.specs.Scalars.{same_scalar, is_type, is_pointer}
 use Rattle.qs_memory.specs.Values.{integer, width, has_type}
 use Rattle.qs_memory.specs.Memory.{blank_cells}
+use Rattle.qs_memory.specs.Sizes.{largest_size}
 use Rattle.qs_memory.specs.Operations.{integer_type, unary_type, binary_type}
+use Rattle.qs_memory.specs.Operands.{unary_takes, binary_takes}
 use Rattle.qs_calls.specs.declared.parameter.Parameter.{Parameter}
 use Rattle.qs_calls.specs.declared.parameter.Parameter.TheVariants.{Plain, Placed}
 use Rattle.qs_calls.specs.Starts.{Signature, Interface, signature_of}
 use Rattle.qs_meaning.specs.Typed.{Conversion, unchanged, converted, Order, as_written, exchanged, Object, local, static, Expr, constant, value, pointer_to, member, called, stepped_after, unary, cast, binary, logical_and, logical_or, conditional, assigned, sequence, Lvalue, variable, object, Arguments, no_arguments, argument_and, Assignment, set, update, Effect, nothing, discard, assign, perform, copy, fill, in_order, Stmt, evaluate, block, branch, while_loop, do_loop, for_loop, break, continue, return, return_nothing, Stmts, no_stmts, stmt_and, Function, TypedProgram}
-use Rattle.qs_meaning.specs.Conversions.{same_scalar}
 use Rattle.qs_meaning.specs.Interfaces.{interface_of}
 
 -- ---- types of values
@@ -47,13 +45,6 @@ type_of (conditional s a second third b c) = s
 type_of (assigned a) = assigned_type a
 type_of (sequence a b) = type_of b
 
-abbrev pub is_pointer : Scalar → Bool
-is_pointer s = same_scalar s scalars.Pointer
-
-abbrev pub is_type : Option Scalar → Scalar → Bool
-is_type None s = false
-is_type (Some t) s = same_scalar t s
-
 -- ---- what is taken
 
 -- 6.3.1.3, 6.3.2.3p3: between integers, and from a null constant to a pointer
@@ -68,38 +59,6 @@ abbrev pub is_null : Expr → Bool
 is_null (constant s n) = n == 0
 is_null _ = false
 
-abbrev pub takes_operand : UnaryOperation → Scalar → Bool
-takes_operand (unaries.Plus s) t = same_scalar t (integer_type s)
-takes_operand (unaries.Minus s) t = same_scalar t (integer_type s)
-takes_operand (unaries.Complement s) t = same_scalar t (integer_type s)
-takes_operand unaries.Not t = true
-takes_operand unaries.Truth t = true
-
--- 6.3.1.1p2: what an integer is promoted to
-abbrev pub is_promoted : Scalar → Bool
-is_promoted s = same_scalar s scalars.Int || same_scalar s scalars.Unsigned
-
--- 6.5.7p3: the count of a shift has a type of its own
-abbrev pub takes_second : Arithmetic → (first second : Scalar) → Bool
-takes_second arithmetics.ShiftLeft s t = is_promoted t
-takes_second arithmetics.ShiftRight s t = is_promoted t
-takes_second _ s t = same_scalar t s
-
--- no type is larger, in bytes
-abbrev pub largest_size : ℕ
-largest_size = 16777216
-
--- 6.5.6p2: the size of the elements among which a pointer moves
-abbrev pub is_element : (size : ℕ) → Bool
-is_element size = nat_le 1 size && nat_le size largest_size
-
-abbrev pub takes_operands : BinaryOperation → (left right : Scalar) → Bool
-takes_operands (operations.Arithmetic op s) t u = same_scalar t (integer_type s) && takes_second op (integer_type s) u
-takes_operands (operations.Compare op s) t u = same_scalar t (integer_type s) && same_scalar u (integer_type s)
-takes_operands (operations.Move direction s element) t u = is_pointer t && same_scalar u (integer_type s) && is_element element
-takes_operands (operations.Difference element) t u = is_pointer t && is_pointer u && is_element element
-takes_operands (operations.ComparePointers op) t u = is_pointer t && is_pointer u
-
 -- 6.5.2.4p2: the amount 1 of a step, which is a value of each integer type
 abbrev pub amount_type : BinaryOperation → Scalar
 amount_type (operations.Arithmetic op s) = integer_type s
@@ -109,8 +68,8 @@ amount_type (operations.Difference element) = scalars.Int
 amount_type (operations.ComparePointers op) = scalars.Int
 
 abbrev pub takes_in_order : Order → BinaryOperation → (left right : Scalar) → Bool
-takes_in_order as_written operation t u = takes_operands operation t u
-takes_in_order exchanged operation t u = takes_operands operation u t
+takes_in_order as_written operation t u = binary_takes operation t u
+takes_in_order exchanged operation t u = binary_takes operation u t
 
 -- ---- in a function of a unit; the interface has the types of the unit's functions and the blocks that are there from the beginning
 
@@ -148,10 +107,10 @@ abbrev mutual
   expr_fits i g (member offset a) = expr_fits i g a && (is_pointer (type_of a) && nat_le offset largest_size)
   expr_fits i g (called s f es) = arguments_fit i g (taken (signature_of i f)) es && result_fits (signature_of i f) s
   expr_fits i g (stepped_after s l operation left back) =
-      lvalue_fits i g s l && (conversion_fits left s false && (takes_operands operation (type_after left s) (amount_type operation)
+      lvalue_fits i g s l && (conversion_fits left s false && (binary_takes operation (type_after left s) (amount_type operation)
       && (conversion_fits back (binary_type operation) false && same_scalar (type_after back (binary_type operation)) s)))
   expr_fits i g (unary operation c a) =
-      expr_fits i g a && (conversion_fits c (type_of a) (is_null a) && takes_operand operation (type_after c (type_of a)))
+      expr_fits i g a && (conversion_fits c (type_of a) (is_null a) && unary_takes operation (type_after c (type_of a)))
   expr_fits i g (cast c a) = expr_fits i g a && conversion_fits c (type_of a) (is_null a)
   expr_fits i g (binary operation order left right a b) =
       (expr_fits i g a && expr_fits i g b) && ((conversion_fits left (type_of a) (is_null a) && conversion_fits right (type_of b) (is_null b))
@@ -177,7 +136,7 @@ abbrev mutual
   assignment_fits i g (set s l c a) = lvalue_fits i g s l && (expr_fits i g a && becomes c a s)
   assignment_fits i g (update s l operation left right back a) =
       (lvalue_fits i g s l && expr_fits i g a) && ((conversion_fits left s false && conversion_fits right (type_of a) (is_null a))
-      && (takes_operands operation (type_after left s) (type_after right (type_of a))
+      && (binary_takes operation (type_after left s) (type_after right (type_of a))
       && (conversion_fits back (binary_type operation) false && same_scalar (type_after back (binary_type operation)) s)))
 
   pub effect_fits : Interface → Function → Effect → Bool

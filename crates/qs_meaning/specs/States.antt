@@ -6,13 +6,11 @@ use Rattle.qs_memory.specs.Values.{Pointer, into, Value, as_pointer, convert}
 use Rattle.qs_memory.specs.Memory.{load, store}
 use Rattle.qs_memory.specs.Pointers.{truth}
 use Rattle.qs_events.specs.Runs.{given}
-use Rattle.qs_calls.specs.World.{World, with_memory, RootRun, Environment, with_value}
+use Rattle.qs_calls.specs.World.{World, with_memory, Environment, with_value}
 use Rattle.qs_calls.specs.Calls.{CallsOf}
-use Rattle.qs_meaning.specs.Typed.{Conversion, unchanged, converted, Object, local, static}
-
 -- what follows in the same call, from its plain variables; one that has no value yet is None (6.2.4p6)
-abbrev pub Next : Type 0
-Next = Environment → World → RootRun
+pub use Rattle.qs_calls.specs.Calls.{Entered as Next}
+use Rattle.qs_meaning.specs.Typed.{Conversion, unchanged, converted, Object, local, static}
 
 -- what stays the same in a call: how many turns a loop makes at most, the number of the first block of the call, and its calls
 pub record Here : Type 0 where

@@ -18,9 +18,10 @@ use Rattle.qs_memory.specs.Memory.{Memory, store}
 use Rattle.qs_memory.specs.Pointers.{directed, member_of, truth}
 use Rattle.qs_memory.specs.Operations.{apply_unary, apply_binary}
 use Rattle.qs_memory.specs.Accesses.{MayWrite, IsMoved, AreInOneBlock, AreComparable}
+use Rattle.qs_memory.specs.Operands.{unary_takes, binary_takes}
 use Rattle.qs_calls.specs.Starts.{IsOf}
 use Rattle.qs_meaning.specs.Typed.{Conversion}
-use Rattle.qs_meaning.specs.Fits.{conversion_fits, takes_operand, takes_operands}
+use Rattle.qs_meaning.specs.Fits.{conversion_fits}
 use Rattle.qs_meaning.specs.States.{convert_by}
 
 -- ---- operations
@@ -96,10 +97,10 @@ pub record StepsOnTypesAreDefined : Type 0 where
   -- 6.3.2.3: a value of a pointer's type is a pointer
   pub pointer : (m : Memory) (x : Value) → IsOf m scalars.Pointer x → IsSome (as_pointer x)
   pub unary :
-      (op : UnaryOperation) (s : Scalar) (m : Memory) (x : Value) → takes_operand op s ≡ true → IsOf m s x
+      (op : UnaryOperation) (s : Scalar) (m : Memory) (x : Value) → unary_takes op s ≡ true → IsOf m s x
       → IsSome (apply_unary op m x) ↔ UnaryNeeds op m x
   pub binary :
-      (op : BinaryOperation) (s t : Scalar) (m : Memory) (x y : Value) → takes_operands op s t ≡ true → IsOf m s x → IsOf m t y
+      (op : BinaryOperation) (s t : Scalar) (m : Memory) (x y : Value) → binary_takes op s t ≡ true → IsOf m s x → IsOf m t y
       → IsSome (apply_binary op m x y) ↔ BinaryNeeds op m x y
   pub tested : (m : Memory) (x : Value) → IsSome (truth m x) ↔ IsTested m x
   pub member : (m : Memory) (p : Pointer) (offset : ℕ) → IsSome (member_of m p offset) ↔ MovesTo m p (pos offset)

@@ -9,6 +9,8 @@ pub mod SoundLaws
 pub mod ValueLaws
 pub mod TypeLaws
 pub mod PointerLaws
+pub mod BlankLaws
+pub mod ScalarLaws
 mod Tables
 mod AccessExamples
 mod OperationExamples

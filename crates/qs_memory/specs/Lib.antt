@@ -1,9 +1,12 @@
 pub mod Partial
+pub mod Scalars
 pub mod Values
 pub mod Integers
 pub mod Memory
+pub mod Sizes
 pub mod Pointers
 pub mod Operations
+pub mod Operands
 pub mod BlankOf
 pub mod Soundness
 pub mod Accesses

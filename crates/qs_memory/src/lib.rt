@@ -15,6 +15,6 @@ pub use laws::{
     values_are_sound, values_have_types, writes_are_exact,
 };
 pub use operation::{
-    Arithmetic, BinaryOperation, Comparison, Direction, Signedness, UnaryOperation,
+    Arithmetic, BinaryOperation, Comparison, Direction, Signedness, UnaryOperation, integer_type,
 };
-pub use scalar::Scalar;
+pub use scalar::{Scalar, is_integer};

@@ -1,4 +1,8 @@
 // Operations on values, after conversions (C11 6.3.1) and with the sizes of elements as numbers.
+ghost use Rattle.std.specs.Prelude.{◌≡◌};
+ghost use Rattle.qs_memory.specs.Operations.{integer_type};
+
+use crate::scalar::Scalar;
 
 /// Whether an integer of 32 bits is an `int` or an `unsigned`.
 #[derive(Clone, Copy, PartialEq, Eq, Debug)]
@@ -89,4 +93,14 @@ pub enum BinaryOperation {
     Difference(u32),
     /// of two pointers
     ComparePointers(Comparison),
+}
+
+/// The type of such an integer.
+pub fn integer_type(s: Signedness) -> Scalar
+    ensures { result ≡ integer_type s }
+{
+    match s {
+        Signedness::Signed => Scalar::Int,
+        Signedness::Unsigned => Scalar::Unsigned,
+    }
 }

@@ -1,4 +1,6 @@
 // Scalar types (C11 6.2.5p21).
+ghost use Rattle.std.specs.Prelude.{◌≡◌};
+ghost use Rattle.qs_memory.specs.Scalars.{is_integer};
 
 /// A scalar type. `char` and `unsigned char` are one type of 8 bits without a sign, and pointers to
 /// all types are one.
@@ -12,4 +14,16 @@ pub enum Scalar {
     Unsigned,
     /// 4 bytes
     Pointer,
+}
+
+/// Whether it is an integer type (C11 6.2.5p17).
+pub fn is_integer(s: Scalar) -> bool
+    ensures { result ≡ is_integer s }
+{
+    match s {
+        Scalar::Char => true,
+        Scalar::Int => true,
+        Scalar::Unsigned => true,
+        Scalar::Pointer => false,
+    }
 }

@@ -16,8 +16,8 @@ use Rattle.qs_assert.specs.Substitution.{same_number_type, same_variable}
 use Rattle.qs_assert.proofs.Same.{variable_equal, variable_self}
 use Rattle.qs_core.specs.TermTexts.{temporary_text, variable_name}
 use Rattle.qs_core.specs.Trees.{CoreFunctionTree, CoreUnitTree, CoreVariableTree}
+use Rattle.qs_core.specs.FunctionNames.{function_name}
 use Rattle.qs_sexpr.specs.Writing.{symbol_form}
-use Rattle.qs_triples.specs.Filled.{function_name}
 use Rattle.qs_triples.specs.Mentions.{has_placed_parameter, plain_variable}
 use Rattle.qs_triples.specs.Valuations.{if_number, number_if}
 use Rattle.qs_prooftext.specs.Settings.{look_up, typed, with_word, variable_words, temporary_words, words_of, old_of, old_variable, in_entry}

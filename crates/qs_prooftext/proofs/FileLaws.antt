@@ -13,12 +13,12 @@ use Rattle.qs_core.proofs.FitLaws.{both, function_at_fits, unit_parts}
 use Rattle.qs_callgraph.specs.Opens.{TellsOpen}
 use Rattle.qs_core.specs.Fits.{differ, unit_fits}
 use Rattle.qs_core.specs.Trees.{CoreFunctionTree, CoreUnitTree}
+use Rattle.qs_core.specs.FunctionNames.{function_name, name_in}
 use Rattle.qs_sexpr.specs.Spelling.{ReadsAs}
 use Rattle.qs_sexpr.specs.Trees.{Sexp, Sexps}
 use Rattle.qs_sexpr.specs.Writing.{Form}
 use Rattle.qs_triples.specs.Derivations.{EntryTree, ProofsTree, is_entry_of}
 use Rattle.qs_triples.specs.Entries.{has_entry}
-use Rattle.qs_triples.specs.Filled.{function_name, name_in}
 use Rattle.qs_prooftext.specs.declared.fault.TextFault.TheVariants.{Duplicate}
 use Rattle.qs_prooftext.specs.Kinds.{a_definition_body, a_precondition, a_postcondition, an_entry_certificate, a_body}
 use Rattle.qs_prooftext.specs.Meanings.{Answer, means, each_means}

@@ -6,6 +6,7 @@ use Rattle.std.specs.List.{slice_get}
 use Rattle.qs_assert.specs.declared.define.Define.{Define}
 use Rattle.qs_assert.specs.declared.variable.Var.{Var}
 use Rattle.qs_core.specs.TreeOf.{function_tree}
+use Rattle.qs_core.specs.FunctionNames.{name_in}
 use Rattle.qs_core.specs.declared.units.CoreFunction.{CoreFunction}
 use Rattle.qs_sexpr.specs.Layout.{before, behind, ending, inside, is_atom, lay, lay_all, lay_parts}
 use Rattle.qs_sexpr.specs.Marks.{all_marks, mark_of, marks}
@@ -14,7 +15,6 @@ use Rattle.qs_sexpr.specs.declared.layout.Layer.{Layer}
 use Rattle.qs_sexpr.specs.declared.layout.Layer.TheVariants.{Top}
 use Rattle.qs_sexpr.specs.declared.token.Token.{Token}
 use Rattle.qs_triples.specs.Derivations.{EntryTree}
-use Rattle.qs_triples.specs.Filled.{name_in}
 use Rattle.qs_prooftext.specs.Writing.{Words, assertion_form, entry_form_by, forms_of, headed}
 
 -- what stands behind a form doesn't change how it is laid out

@@ -13,13 +13,13 @@ use Rattle.qs_core.specs.Fits.{differ, unit_fits}
 use Rattle.qs_base.specs.declared.function.FnId.{FnId}
 use Rattle.qs_core.specs.Trees.{CoreFunctionTree, CoreUnitTree}
 use Rattle.qs_core.specs.UnitTrees.{unit_tree}
+use Rattle.qs_core.specs.FunctionNames.{function_name, name_in}
 use Rattle.qs_core.specs.declared.unit.CoreUnit.{CoreUnit}
 use Rattle.qs_core.specs.declared.units.CoreFunction.{CoreFunction}
 use Rattle.qs_core.proofs.FitLaws.{unit_parts}
 use Rattle.qs_sexpr.specs.Parts.{Splits}
 use Rattle.qs_sexpr.specs.Trees.{Sexp, Sexps, no_parts, part_and}
 use Rattle.qs_sexpr.specs.declared.node.Node.{Node}
-use Rattle.qs_triples.specs.Filled.{function_name, name_in}
 use Rattle.qs_prooftext.specs.Answers.{StandAll, Stands}
 use Rattle.qs_prooftext.specs.Contexts.{function_rows}
 use Rattle.qs_prooftext.specs.Listed.{ListsLeft, Marks}

@@ -10,10 +10,10 @@ use Rattle.qs_assert.specs.Trees.{AssertionTree}
 use Rattle.qs_assert.specs.declared.define.Define.{Define}
 use Rattle.qs_core.specs.Fits.{differ}
 use Rattle.qs_core.specs.Trees.{CoreFunctionTree, CoreUnitTree}
+use Rattle.qs_core.specs.FunctionNames.{function_name}
 use Rattle.qs_sexpr.specs.Trees.{Sexp, number, symbol, list, Sexps, no_parts, part_and, count}
 use Rattle.qs_triples.specs.Derivations.{EntryTree, ProofsTree, is_entry_of}
 use Rattle.qs_triples.specs.Entries.{has_entry}
-use Rattle.qs_triples.specs.Filled.{function_name}
 use Rattle.qs_prooftext.specs.declared.fault.TextFault.TheVariants.{UnknownForm, Duplicate}
 use Rattle.qs_prooftext.specs.Kinds.{Values, a_body, a_definition_body, a_postcondition, a_precondition, an_entry_certificate}
 use Rattle.qs_prooftext.specs.Meanings.{each_means, means}

@@ -12,6 +12,7 @@ use Rattle.qs_callgraph.specs.Opens.{TellsOpen}
 use Rattle.qs_core.specs.Fits.{differ, unit_fits}
 use Rattle.qs_core.specs.Trees.{CoreUnitTree}
 use Rattle.qs_core.specs.UnitTrees.{unit_tree}
+use Rattle.qs_core.specs.FunctionNames.{function_name}
 use Rattle.qs_core.specs.declared.unit.CoreUnit.{CoreUnit}
 use Rattle.qs_sexpr.specs.Trees.{Sexp, number, symbol, list, Sexps, no_parts, part_and}
 use Rattle.qs_sexpr.specs.Writing as lists
@@ -19,7 +20,6 @@ use Rattle.qs_sexpr.specs.Writing.{Form, Forms, list_form, form_and, AreWritable
 use Rattle.qs_sexpr.proofs.ReadWritable as read_lists
 use Rattle.qs_triples.specs.Derivations.{EntryTree, ProofsTree}
 use Rattle.qs_triples.specs.Entries.{has_entry}
-use Rattle.qs_triples.specs.Filled.{function_name}
 use Rattle.qs_prooftext.specs.Proofs.{Sofar, defined_names, entry_names, entry_names_of, has_list, is_among, is_defined, is_open_name, no_proofs, top_means, tops_mean, with_define}
 use Rattle.qs_prooftext.specs.Reading.{Reading}
 use Rattle.qs_prooftext.specs.Writable.{entry_stands, entry_stands_in, IsOfUnit, IsWritable}

@@ -7,11 +7,11 @@ use Rattle.std.proofs.lemmas.Slice.Eq.{bytes_eq-Decides}
 use Rattle.qs_base.specs.Results.{bind}
 use Rattle.qs_assert.specs.declared.define.Define.{Define}
 use Rattle.qs_core.specs.Trees.{CoreFunctionTree}
+use Rattle.qs_core.specs.FunctionNames.{function_name}
 use Rattle.qs_sexpr.specs.Trees.{Sexp, number, symbol, list, Sexps, no_parts, part_and, count}
 use Rattle.qs_sexpr.specs.Writing.{Form, symbol_form}
 use Rattle.qs_triples.specs.Derivations.{EntryTree, ProofsTree}
 use Rattle.qs_triples.specs.Entries.{has_entry}
-use Rattle.qs_triples.specs.Filled.{function_name}
 use Rattle.qs_prooftext.specs.declared.fault.TextFault.TheVariants.{UnknownForm, Duplicate}
 use Rattle.qs_prooftext.specs.Kinds.{Kind, Values, a_body, a_definition_body, a_postcondition, a_precondition, an_entry_certificate}
 use Rattle.qs_prooftext.specs.Meanings.{each_means}

@@ -18,8 +18,8 @@ use Rattle.qs_core.proofs.FitLaws.{both}
 use Rattle.qs_core.specs.Fits.{differ}
 use Rattle.qs_core.specs.TermTexts.{temporary_text, variable_name}
 use Rattle.qs_core.specs.Trees.{CoreFunctionTree, CoreUnitTree, CoreVariableTree}
+use Rattle.qs_core.specs.FunctionNames.{function_name, name_in}
 use Rattle.qs_sexpr.specs.Trees.{Sexp}
-use Rattle.qs_triples.specs.Filled.{function_name, name_in}
 use Rattle.qs_triples.specs.Mentions.{has_placed_parameter, plain_variable}
 use Rattle.qs_triples.specs.Valuations.{if_number, number_if}
 use Rattle.qs_prooftext.specs.declared.fault.TextFault.TheVariants.{UnknownForm}

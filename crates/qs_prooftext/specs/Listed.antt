@@ -5,10 +5,10 @@ use Rattle.qs_callgraph.specs.CallLists.{flag}
 use Rattle.qs_callgraph.specs.Opens.{AreOf}
 use Rattle.qs_core.specs.Trees.{CoreUnitTree}
 use Rattle.qs_core.specs.UnitTrees.{unit_tree}
+use Rattle.qs_core.specs.FunctionNames.{function_name}
 use Rattle.qs_core.specs.declared.unit.CoreUnit.{CoreUnit}
 use Rattle.qs_sexpr.specs.Trees.{Sexp, Sexps}
 use Rattle.qs_sexpr.specs.declared.node.Node.{Node}
-use Rattle.qs_triples.specs.Filled.{function_name}
 use Rattle.qs_prooftext.specs.Answers.{Stands, StandAll}
 use Rattle.qs_prooftext.specs.Proofs.{entry_names_of, has_list, is_among, name_of_parts}
 

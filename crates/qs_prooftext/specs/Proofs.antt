@@ -4,10 +4,10 @@ use Rattle.std.specs.List.{slice_get, list_any}
 use Rattle.qs_base.specs.Results.{bind}
 use Rattle.qs_assert.specs.Trees.{AssertionTree}
 use Rattle.qs_core.specs.Trees.{CoreFunctionTree, CoreUnitTree}
+use Rattle.qs_core.specs.FunctionNames.{function_name}
 use Rattle.qs_sexpr.specs.Trees.{Sexp, number, symbol, list, Sexps, no_parts, part_and, count}
 use Rattle.qs_triples.specs.Derivations.{ProofsTree}
 use Rattle.qs_triples.specs.Entries.{has_entry}
-use Rattle.qs_triples.specs.Filled.{function_name}
 use Rattle.qs_prooftext.specs.declared.fault.TextFault.TheVariants.{UnknownForm, Duplicate, NoSuchFunction}
 use Rattle.qs_prooftext.specs.Kinds.{Values, a_definition_body, a_precondition, a_postcondition, an_entry_certificate, a_body}
 use Rattle.qs_prooftext.specs.Settings.{look_up, functions_of, in_definition, in_entry}

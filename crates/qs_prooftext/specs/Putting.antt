@@ -11,13 +11,13 @@ use Rattle.qs_assert.specs.declared.node.AssertionNode.TheVariants as assertions
 use Rattle.qs_assert.specs.declared.node.Node.{Node}
 use Rattle.qs_assert.specs.declared.node.Node.TheVariants.{Term, Condition, Assertion}
 use Rattle.qs_core.specs.TreeOf.{function_tree}
+use Rattle.qs_core.specs.FunctionNames.{name_in}
 use Rattle.qs_sexpr.specs.declared.token.Token.{Token}
 use Rattle.qs_entail.specs.Certificates as certificates
 use Rattle.qs_entail.specs.Certificates.{FactTree, Item}
 use Rattle.qs_entail.specs.View.{cert_tree}
 use Rattle.qs_sexpr.specs.Marks.{Mark, opens, closes, word, mark_of, marks, all_marks}
 use Rattle.qs_sexpr.specs.Writing.{Form, symbol_form}
-use Rattle.qs_triples.specs.Filled.{name_in}
 use Rattle.qs_triples.specs.TreeOf.{derivation_tree}
 use Rattle.qs_prooftext.specs.declared.file_text.EntryPart.{EntryPart}
 use Rattle.qs_prooftext.specs.declared.file_text.EntryPart.TheVariants as parts

@@ -11,12 +11,12 @@ use Rattle.qs_entail.specs.Certificates as certificates
 use Rattle.qs_entail.specs.Certificates.{Item, once, twice, FactTree, CertTree, CertTrees, no_certs, cert_and}
 use Rattle.qs_core.specs.Fits.{differ}
 use Rattle.qs_core.specs.Trees.{CoreFunctionTree, CoreUnitTree, CoreVariableTree}
+use Rattle.qs_core.specs.FunctionNames.{function_name}
 use Rattle.qs_sexpr.specs.Layout.{lay, lay_all}
 use Rattle.qs_sexpr.specs.Writing.{Form, symbol_form, number_form, list_form, Forms, no_forms, form_and}
 use Rattle.qs_sexpr.specs.declared.layout.Layer.TheVariants.{OnLine}
 use Rattle.qs_triples.specs.Derivations as derivations
 use Rattle.qs_triples.specs.Derivations.{DerivationTree, DerivationTrees, no_derivations, derivation_and, EntryTree, ProofsTree}
-use Rattle.qs_triples.specs.Filled.{function_name}
 use Rattle.qs_triples.specs.Mentions.{plain_variable}
 use Rattle.qs_prooftext.specs.Settings.{words_of}
 

@@ -5,9 +5,10 @@ use Rattle.std.specs.List.{list_all}
 use Rattle.std.proofs.lemmas.Bool.Decides.{nat_tests}
 use Rattle.qs_memory.specs.Memory.{BlankTree}
 use Rattle.qs_memory.specs.BlankOf.{blank_tree, joined_of}
+use Rattle.qs_memory.specs.Sizes.{blank_size}
 use Rattle.qs_memory.specs.declared.blank.Blank.{Blank}
 use Rattle.qs_tac.specs.Trees.{fill, TacFunctionTree, TacUnitTree}
-use Rattle.qs_tac.specs.Fits.{blank_size, address_fits, parameter_fits, is_word, instruction_fits, function_fits, data_fits, unit_fits}
+use Rattle.qs_tac.specs.Fits.{address_fits, parameter_fits, is_word, instruction_fits, function_fits, data_fits, unit_fits}
 use Rattle.qs_tac.specs.declared.operands.Address.{Address}
 use Rattle.qs_select.proofs.LimitLaws.{and_true}
 

@@ -6,6 +6,7 @@ use Rattle.std.proofs.lemmas.Bool.{cases_lt}
 use Rattle.std.proofs.lemmas.Bool.Decides.{nat_tests}
 use Rattle.qs_base.specs.Words.{sign_extend}
 use Rattle.qs_memory.specs.Partial.{◌>>=◌, only_if}
+use Rattle.qs_memory.specs.Sizes.{blank_size, is_element}
 use Rattle.qs_memory.specs.declared.scalar.Scalar.{Scalar}
 use Rattle.qs_memory.specs.declared.scalar.Scalar.TheVariants as scalars
 use Rattle.qs_memory.specs.declared.operation.Signedness.{Signedness}
@@ -35,7 +36,8 @@ use Rattle.qs_tac.specs.declared.operands.Operand.TheVariants.{Temporary, Intege
 use Rattle.qs_frames.specs.Layout.{is_among, used_among, saved_registers, used_registers, register_at}
 use Rattle.qs_tac.specs.Trees.{InstructionTree, move, unary, binary, convert, address_of, load, store}
 use Rattle.qs_tac.specs.Trees.{copy, fill, call, jump, branch, return, TacUnitTree}
-use Rattle.qs_tac.specs.Fits.{blank_size, is_element, operand_fits, index_fits, address_fits, condition_fits, operation_fits, instruction_fits}
+use Rattle.qs_tac.specs.Fits.{operand_fits, index_fits, address_fits, condition_fits, operation_fits, instruction_fits}
+use Rattle.qs_tac.specs.Operands.{is_constant}
 use Rattle.qs_tac.specs.declared.operands.Index.{Index}
 use Rattle.qs_tac.specs.declared.operands.Address.{Address}
 use Rattle.qs_tac.specs.declared.operands.Condition.{Condition}
@@ -44,7 +46,7 @@ use Rattle.qs_frames.specs.Laws.{block}
 use Rattle.qs_frames.proofs.FrameLaws.{frames_are_laid_out}
 use Rattle.qs_select.specs.Pieces as pieces
 use Rattle.qs_select.specs.Pieces.{is_small, low_part, high_part, constant, is_near, load_from, store_to, address_in_frame, move_stack, shift_among, shift_of, product_by, product, loop_end, copy_loop, fill_loop, zero_bytes}
-use Rattle.qs_select.specs.Operands.{Context, frame_of, local_offset, place_into, byte_into, into, register_of, stands_in, unless_there, operand_code, operand_register, put_place, put, result_register, result_code, move_to, Anchor, displacement, behind_frame, behind_pointer, based, is_constant, add_elements, add_index, anchor_of, address_into, is_word_address}
+use Rattle.qs_select.specs.Operands.{Context, frame_of, local_offset, place_into, byte_into, into, register_of, stands_in, unless_there, operand_code, operand_register, put_place, put, result_register, result_code, move_to, Anchor, displacement, behind_frame, behind_pointer, based, add_elements, add_index, anchor_of, address_into, is_word_address}
 use Rattle.qs_select.specs.Operations.{constant_of, negated, if_small, with_constant, or_code, kind_of, both, on_both, arithmetic, less_than, less_than_constant, less, apart, compare, directed, step, move_by, move_by_elements, moved, elements_between, unary_instruction, conversion}
 use Rattle.qs_select.specs.Operations as operations
 use Rattle.qs_select.specs.Emission.{save, restore, take_parameter, take_parameters, enter, leave, copy_code, unless_none, fill_code, pass, take_result, Labels, goes_to, less_branch, not_less_branch, compare_branch, compare_items, branch_items, gives, instruction_items}

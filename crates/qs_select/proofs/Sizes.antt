@@ -3,6 +3,7 @@ use Rattle.std.proofs.Common.{◌≡◌, ℕ, zero, suc, ◌+◌, ◌*◌, ◌%�
 use Rattle.std.specs.Prelude.{◌-◌, nat_lt, ◌&&◌, if◌then◌else◌, sum_by, unwrap_or, slice_get, slice_index_or}
 use Rattle.std.proofs.lemmas.Bool.Decides.{nat_tests}
 use Rattle.std.proofs.lemmas.List.Sums.{sum_by-cons, sum_by-append}
+use Rattle.qs_memory.specs.Sizes.{blank_size}
 use Rattle.qs_memory.specs.declared.operation.Signedness.{Signedness}
 use Rattle.qs_memory.specs.declared.operation.Signedness.TheVariants.{Signed, Unsigned}
 use Rattle.qs_memory.specs.declared.operation.Direction.{Direction}
@@ -27,11 +28,11 @@ use Rattle.qs_asm.specs.Items.{plain, item_words}
 use Rattle.qs_asm.proofs.LaidLaws.{takes_words}
 use Rattle.qs_tac.specs.Trees.{InstructionTree, move, unary, binary, convert, address_of, load, store}
 use Rattle.qs_tac.specs.Trees.{copy, fill, call, jump, branch, return, TacFunctionTree, TacUnitTree}
-use Rattle.qs_tac.specs.Fits.{blank_size}
 use Rattle.qs_tac.specs.Places.{PlacesTree, place_of, no_places, slots_from, all_slots, Accepted}
 use Rattle.qs_tac.specs.Laws.{AreAccepted}
 use Rattle.qs_tac.specs.Sizes as sizes
 use Rattle.qs_tac.specs.Sizes.{reach, slot_words, constant_words, operand_words, base_words, offset_words, address_words, operation_words, callee_words, taken_words, condition_words, parameter_words, enter_words, leave_words, instruction_words, words, unit_words}
+use Rattle.qs_tac.specs.Operands.{is_constant}
 use Rattle.qs_tac.specs.declared.places.Place.{Place}
 use Rattle.qs_tac.specs.declared.places.Place.TheVariants.{Slot}
 use Rattle.qs_tac.specs.declared.operands.Operand.{Operand}
@@ -44,7 +45,7 @@ use Rattle.qs_frames.specs.Layout.{is_among, used_among, saved_registers, used_r
 use Rattle.qs_frames.proofs.FrameLaws.{kept_in_slots}
 use Rattle.qs_select.specs.Pieces as pieces
 use Rattle.qs_select.specs.Pieces.{sltiu, sltu, is_small, low_part, constant, is_near, load_from, store_to, address_in_frame, move_stack, shift_of, product_by, loop_end, copy_loop, fill_loop, zero_bytes}
-use Rattle.qs_select.specs.Operands.{Context, slot_offset, constant_count, place_into, byte_into, into, register_of, stands_in, unless_there, operand_code, operand_register, put_place, put, result_register, result_code, move_to, Anchor, displacement, behind_frame, behind_pointer, based, is_constant, add_elements, add_index, anchor_of, address_into, is_word_address}
+use Rattle.qs_select.specs.Operands.{Context, slot_offset, constant_count, place_into, byte_into, into, register_of, stands_in, unless_there, operand_code, operand_register, put_place, put, result_register, result_code, move_to, Anchor, displacement, behind_frame, behind_pointer, based, add_elements, add_index, anchor_of, address_into, is_word_address}
 use Rattle.qs_select.specs.Operations.{constant_of, or_code, both, on_both, arithmetic, less, apart, compare, move_by, move_by_elements, moved, elements_between}
 use Rattle.qs_select.specs.Operations as operations
 use Rattle.qs_select.specs.Emission.{copy_code, unless_none, fill_code, save, restore, take_parameter, take_parameters, enter, leave, pass, take_result, Labels, goes_to, compare_branch, compare_items, branch_items, gives, instruction_items, body_items, function_items, first_label, labels_of, functions_items, environment, start_items, unit_items}

@@ -9,6 +9,7 @@ use Rattle.qs_tac.specs.Trees.{TacFunctionTree}
 use Rattle.qs_tac.specs.Places.{PlacesTree, place_of}
 use Rattle.qs_tac.specs.declared.places.Place.{Place}
 use Rattle.qs_tac.specs.declared.places.Place.TheVariants.{Slot, Register}
+use Rattle.qs_tac.specs.Operands.{is_constant}
 use Rattle.qs_tac.specs.declared.operands.Operand.{Operand}
 use Rattle.qs_tac.specs.declared.operands.Operand.TheVariants.{Temporary, Integer, Byte, Constant, Null, Local, Data}
 use Rattle.qs_tac.specs.declared.operands.Index.{Index}
@@ -121,15 +122,6 @@ constant_count (Constant n) = n
 constant_count Null = 0
 constant_count (Local i) = 0
 constant_count (Data i) = 0
-
-abbrev pub is_constant : Operand → Bool
-is_constant (Temporary t) = false
-is_constant (Integer t) = false
-is_constant (Byte t) = false
-is_constant (Constant n) = true
-is_constant Null = false
-is_constant (Local i) = false
-is_constant (Data i) = false
 
 abbrev pub index_displacement : Option Index → ℕ
 index_displacement None = 0

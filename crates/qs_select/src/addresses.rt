@@ -13,7 +13,7 @@ use crate::pieces::{put, put_product};
 use qs_asm::Item;
 use qs_base::{NoMemory, add32, mul32};
 use qs_isa::{Immediate, Register};
-use qs_tac::{Address, Index, Operand};
+use qs_tac::{Address, Index, Operand, is_constant};
 
 /// Where an address is: an immediate behind a register.
 #[derive(Clone, Copy, PartialEq, Eq, Debug)]
@@ -35,20 +35,6 @@ fn constant_count(o: Operand) -> u32
         Operand::Null => 0,
         Operand::Local(_) => 0,
         Operand::Data(_) => 0,
-    }
-}
-
-fn is_constant(o: Operand) -> bool
-    ensures { result ≡ spec.is_constant o }
-{
-    match o {
-        Operand::Constant(_) => true,
-        Operand::Temporary(_) => false,
-        Operand::Integer(_) => false,
-        Operand::Byte(_) => false,
-        Operand::Null => false,
-        Operand::Local(_) => false,
-        Operand::Data(_) => false,
     }
 }
 

@@ -1,7 +1,7 @@
 // Whole objects: copies and fills.
 ghost use Rattle.std.specs.Prelude.{◌≡◌, ◌-◌, ◌^◌, ◌<◌, OnOk, map, min};
 ghost use Rattle.qs_memory.specs.BlankOf.{blank_tree, joined_of};
-ghost use Rattle.qs_tac.specs.Fits.{blank_size};
+ghost use Rattle.qs_memory.specs.Sizes.{blank_size};
 ghost use Rattle.qs_select.specs.ContextOf.{copy_items, fill_items};
 ghost use Rattle.qs_select.specs.Emission as spec;
 ghost use Rattle.qs_select.specs.Puts.{Puts, Emits};

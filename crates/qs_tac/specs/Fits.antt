@@ -1,9 +1,9 @@
 -- What holds of every unit of linear code: temporaries, blocks, functions and indices of instructions have
 -- numbers below their counts, each call has as many arguments as its callee has parameters, and constants,
 -- offsets and sizes are in range.
-use Rattle.std.specs.Prelude.{ℕ, ◌+◌, ◌*◌, ◌^◌, ◌==◌, ◌&&◌, nat_lt, nat_le, Bool, true, false, List, length, Option, Some, None}
+use Rattle.std.specs.Prelude.{ℕ, ◌^◌, ◌==◌, ◌&&◌, nat_lt, nat_le, Bool, true, false, List, length, Option, Some, None}
 use Rattle.std.specs.List.{slice_get, list_all}
-use Rattle.qs_memory.specs.Memory.{BlankTree, zeros, nulls, repeated, nothing, joined}
+use Rattle.qs_memory.specs.Sizes.{is_element, blank_size}
 use Rattle.qs_memory.specs.declared.operation.BinaryOperation.{BinaryOperation}
 use Rattle.qs_memory.specs.declared.operation.BinaryOperation.TheVariants as binaries
 use Rattle.qs_calls.specs.declared.callee.Callee.{Callee}
@@ -22,24 +22,8 @@ use Rattle.qs_tac.specs.declared.operands.Condition.TheVariants.{NotZero, Zero, 
 
 -- ---- numbers
 
--- no type is larger, in bytes
-abbrev pub largest_size : ℕ
-largest_size = 16777216
-
 abbrev pub is_word : ℕ → Bool
 is_word n = nat_lt n (2 ^ 32)
-
--- the size of the elements among which a pointer moves
-abbrev pub is_element : (size : ℕ) → Bool
-is_element size = nat_le 1 size && nat_le size largest_size
-
--- the bytes of a blank
-abbrev pub blank_size : BlankTree → ℕ
-blank_size (zeros n) = n
-blank_size (nulls n) = 4 * n
-blank_size (repeated n b) = n * blank_size b
-blank_size nothing = 0
-blank_size (joined b c) = blank_size b + blank_size c
 
 -- ---- operands
 

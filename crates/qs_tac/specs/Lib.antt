@@ -1,3 +1,4 @@
+pub mod Operands
 pub mod Trees
 pub mod TreeOf
 pub mod Uses

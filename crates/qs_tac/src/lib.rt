@@ -13,7 +13,7 @@ mod uses;
 
 pub use instruction::Instruction;
 pub use laws::{linear_code_grows, places_keep_runs};
-pub use operands::{Address, Condition, Index, Operand};
+pub use operands::{Address, Condition, Index, Operand, is_constant};
 pub use places::{Place, Places};
 pub use unit::TacUnit;
 pub use units::{TacData, TacFunction};

@@ -1,4 +1,6 @@
 // What instructions take.
+ghost use Rattle.std.specs.Prelude.{◌≡◌};
+ghost use Rattle.qs_tac.specs.Operands.{is_constant};
 
 use qs_memory::{Comparison, Signedness};
 
@@ -60,4 +62,19 @@ pub enum Condition {
     Compare(Comparison, Signedness, Operand, Operand),
     /// of two pointers
     ComparePointers(Comparison, Operand, Operand),
+}
+
+/// Whether it is a constant.
+pub fn is_constant(o: Operand) -> bool
+    ensures { result ≡ is_constant o }
+{
+    match o {
+        Operand::Constant(_) => true,
+        Operand::Temporary(_) => false,
+        Operand::Integer(_) => false,
+        Operand::Byte(_) => false,
+        Operand::Null => false,
+        Operand::Local(_) => false,
+        Operand::Data(_) => false,
+    }
 }

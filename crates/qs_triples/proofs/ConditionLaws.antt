@@ -12,6 +12,9 @@ use Rattle.qs_memory.specs.Memory.{Memory}
 use Rattle.qs_memory.specs.Pointers.{truth}
 use Rattle.qs_memory.specs.Integers.{reading, compares}
 use Rattle.qs_memory.specs.Operations.{of_truth, apply_binary, integer_type}
+use Rattle.qs_memory.specs.Scalars.{same_scalar, is_integer}
+use Rattle.qs_memory.specs.Operands.{unary_takes, binary_takes}
+use Rattle.qs_memory.proofs.ScalarLaws.{scalar_same}
 use Rattle.qs_memory.specs.declared.scalar.Scalar.{Scalar}
 use Rattle.qs_memory.specs.declared.scalar.Scalar.TheVariants as scalars
 use Rattle.qs_memory.specs.declared.operation.Signedness.{Signedness}
@@ -26,13 +29,10 @@ use Rattle.qs_assert.specs.Trees.{TermTree, CondTree}
 use Rattle.qs_assert.specs.Values.{State, Extended, term_value, holds}
 use Rattle.qs_core.specs.Trees.{CoreExprTree, literal, null_pointer, variable, temporary, address_of, load, member, unary, binary, conversion, logical_and, logical_or, conditional, CoreFunctionTree, CoreUnitTree}
 use Rattle.qs_core.specs.Expressions.{Locals, value, truth_value, type_of}
-use Rattle.qs_core.specs.Scalars.{same_scalar, is_integer}
-use Rattle.qs_core.specs.Operands.{unary_takes, binary_takes}
 use Rattle.qs_core.specs.Fits.{expr_fits}
 use Rattle.qs_core.specs.Ranges.{IsInRange}
 use Rattle.qs_core.specs.TermTrees.{CoreTermTree, CoreConditionTree, and, or}
 use Rattle.qs_core.specs.Terms.{term_of, comparison, nonzero, comparison_of, condition_of}
-use Rattle.qs_core.proofs.FitLaws.{scalar_same}
 use Rattle.qs_core.proofs.FitLaws as fit_laws
 use Rattle.qs_core.proofs.TypeLaws.{value_is_of}
 use Rattle.qs_triples.specs.Valuations.{number_of, number_type}

@@ -7,6 +7,7 @@ use Rattle.qs_memory.specs.Values.{into, Value, integer}
 use Rattle.qs_memory.specs.Memory.{Memory, release}
 use Rattle.qs_memory.specs.Memory as memory
 use Rattle.qs_memory.specs.Soundness.{ComesAfter}
+use Rattle.qs_memory.proofs.ScalarLaws.{type_is}
 use Rattle.qs_memory.specs.declared.scalar.Scalar.{Scalar}
 use Rattle.qs_memory.proofs.BlockLaws.{after_release, after_same, after_next}
 use Rattle.qs_memory.proofs.StepLaws.{memory_goes_on}
@@ -26,7 +27,7 @@ use Rattle.qs_core.specs.Statements.{Continuation, assigned, take_result}
 use Rattle.qs_core.specs.Interfaces.{variable_type, temporary_type, types_of, parameter_types, interface_of}
 use Rattle.qs_core.specs.Fits.{any_mentions, taken_fits, destination_fits, place_fits, parameter_fits, parameters_fit}
 use Rattle.qs_core.specs.Ranges.{VariablesAreOf, IsMoment}
-use Rattle.qs_core.proofs.FitLaws.{both, type_is}
+use Rattle.qs_core.proofs.FitLaws.{both}
 use Rattle.qs_core.proofs.RangeLaws.{variables_later, no_values_are_of, with_value_are_of, of_type, moment_later, moment_assigned}
 use Rattle.qs_triples.specs.Valuations.{passed}
 use Rattle.qs_triples.proofs.Bounds.{IsBelow, given_below}

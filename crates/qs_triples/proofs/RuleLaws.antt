@@ -11,6 +11,8 @@ use Rattle.qs_memory.specs.Memory.{Memory}
 use Rattle.qs_memory.specs.Memory as memory
 use Rattle.qs_memory.specs.Pointers.{truth}
 use Rattle.qs_memory.specs.Soundness.{ComesAfter}
+use Rattle.qs_memory.specs.Scalars.{same_scalar, same_scalars, is_type, is_integer}
+use Rattle.qs_memory.proofs.ScalarLaws.{scalars_same, type_is}
 use Rattle.qs_memory.specs.declared.scalar.Scalar.{Scalar}
 use Rattle.qs_memory.specs.declared.scalar.Scalar.TheVariants as scalars
 use Rattle.qs_memory.specs.declared.operation.Signedness.TheVariants.{Signed}
@@ -44,13 +46,12 @@ use Rattle.qs_core.specs.Trees.{CoreExprTree, CoreStmtTree, CoreStmts, no_stmts,
 use Rattle.qs_core.specs.Expressions.{Locals, values, type_of}
 use Rattle.qs_core.specs.Expressions as expressions
 use Rattle.qs_core.specs.Statements.{Continuation, Continuations, Context, assigned, take_result, given_pointer, repeated, after_step, after_body, runs, runs_all}
-use Rattle.qs_core.specs.Scalars.{same_scalar, same_scalars, is_type, is_integer}
 use Rattle.qs_core.specs.Interfaces.{temporary_type, target_type, parameter_types, signature, interface_of}
 use Rattle.qs_core.specs.Fits.{expr_fits, exprs_fit, pointer_fits, any_mentions, call_fits, taken_fits, destination_fits, stmt_fits, stmts_fit, unit_fits}
 use Rattle.qs_core.specs.Ranges.{IsMoment}
 use Rattle.qs_core.specs.TermTrees.{CoreTermTree}
 use Rattle.qs_core.specs.Terms.{term_of}
-use Rattle.qs_core.proofs.FitLaws.{both, scalars_same, type_is, FunctionFits, function_at_fits}
+use Rattle.qs_core.proofs.FitLaws.{both, FunctionFits, function_at_fits}
 use Rattle.qs_core.proofs.TypeLaws.{integer_is_of, value_is_of}
 use Rattle.qs_core.proofs.RangeLaws.{of_type, moment_stepped, moment_assigned, arguments_are}
 use Rattle.qs_triples.specs.Derivations.{DerivationTree, leaf, sequence, conditional, loop, call, balanced_call, consequence, DerivationTrees, no_derivations, derivation_and, count_derivations, SpecTree}

@@ -12,6 +12,9 @@ use Rattle.qs_memory.specs.Memory.{Memory}
 use Rattle.qs_memory.specs.Integers.{calculate, divides, is_count, minus}
 use Rattle.qs_memory.specs.Integers as integers
 use Rattle.qs_memory.specs.Operations.{on_integer, on_integers, apply_unary, apply_binary, integer_type, unary_type, binary_type}
+use Rattle.qs_memory.specs.Scalars.{same_scalar, is_integer, is_type, is_promoted}
+use Rattle.qs_memory.specs.Operands.{unary_takes, right_takes, binary_takes, conversion_takes}
+use Rattle.qs_memory.proofs.ScalarLaws.{scalar_same, type_is}
 use Rattle.qs_memory.specs.declared.scalar.Scalar.{Scalar}
 use Rattle.qs_memory.specs.declared.scalar.Scalar.TheVariants as scalars
 use Rattle.qs_memory.specs.declared.operation.Signedness.{Signedness}
@@ -30,8 +33,6 @@ use Rattle.qs_assert.specs.Trees.{TermTree, number}
 use Rattle.qs_assert.specs.Values.{State, Extended, term_value, wrapped_unsigned, wrapped_signed, quotient}
 use Rattle.qs_core.specs.Trees.{CoreExprTree, literal, null_pointer, variable, temporary, address_of, load, member, unary, binary, conversion, logical_and, logical_or, conditional, CoreFunctionTree, CoreUnitTree}
 use Rattle.qs_core.specs.Expressions.{Locals, value, type_of}
-use Rattle.qs_core.specs.Scalars.{same_scalar, is_integer, is_type, is_promoted}
-use Rattle.qs_core.specs.Operands.{unary_takes, right_takes, binary_takes, conversion_takes}
 use Rattle.qs_core.specs.Interfaces.{variable_type, temporary_type}
 use Rattle.qs_core.specs.Fits.{expr_fits}
 use Rattle.qs_core.specs.Ranges.{IsInRange}
@@ -40,7 +41,7 @@ use Rattle.qs_core.specs.TermTrees as core_terms
 use Rattle.qs_core.specs.Terms.{literal_value, literal_of, divisor, power, times, remainder_of, wrapped_both, divided, remainder, multiple, arithmetic_term, binary_term, unary_term, converted_term, conversion_term, if_integer, term_of}
 use Rattle.qs_core.specs.declared.term.TermOperation.{TermOperation}
 use Rattle.qs_core.specs.declared.term.TermOperation.TheVariants.{Add, Subtract, Multiply}
-use Rattle.qs_core.proofs.FitLaws.{both, scalar_same, type_is}
+use Rattle.qs_core.proofs.FitLaws.{both}
 use Rattle.qs_core.proofs.TypeLaws.{value_is_of}
 use Rattle.qs_triples.specs.Valuations.{number_of, number_type, if_number, own_type, value_of, number_at, within}
 use Rattle.qs_triples.specs.ExpressionTerms.{var, two_terms, operation_term, wrapped_term, term_tree, expression_term}

@@ -1,11 +1,12 @@
 -- What is added where a file has no entry: open functions and their definitions, and the entries of all others.
-use Rattle.std.specs.Prelude.{◌≡◌, ℕ, ◌<◌, ◌==◌, ◌||◌, Bool, true, false, if◌then◌else◌, List, [], ◌∷◌, ◌++◌, length, map, filter, Option, Some, None}
-use Rattle.std.specs.List.{slice_get, list_any}
+use Rattle.std.specs.Prelude.{◌≡◌, ℕ, ◌<◌, ◌||◌, Bool, true, false, if◌then◌else◌, List, [], ◌∷◌, ◌++◌, length, map, filter, Option, Some, None}
+use Rattle.std.specs.List.{list_any}
 use Rattle.qs_assert.specs.declared.define.Define.{Define}
 use Rattle.qs_assert.specs.Trees.{AssertionTree, natural, infinity, cost, num, total, greatest, product, guard, choose, named, assertions_of}
 use Rattle.qs_assert.specs.Variables.{variables}
-use Rattle.qs_core.specs.Trees.{CoreFunctionTree, CoreUnitTree}
-use Rattle.qs_core.specs.CallGraph.{called_by, IsOpen}
+use Rattle.qs_core.specs.Trees.{CoreUnitTree}
+use Rattle.qs_core.specs.CallGraph.{is_member, called_by, IsOpen}
+use Rattle.qs_core.specs.FunctionNames.{function_name}
 use Rattle.qs_triples.specs.Derivations.{EntryTree, ProofsTree, entry_of, entries_of}
 use Rattle.qs_triples.specs.Entries.{has_entry}
 
@@ -23,23 +24,12 @@ for_calls needs (g ∷ h ∷ gs) = greatest (assertions_of (map (for_call needs)
 
 -- ---- open functions
 
--- a name without a function is never met
-abbrev pub name_in : Option CoreFunctionTree → List ℕ
-name_in None = []
-name_in (Some f) = f.name
-
-abbrev pub function_name : CoreUnitTree → ℕ → List ℕ
-function_name u f = name_in (slice_get u.functions f)
-
 -- the definition of an open function: its own name, for what the functions that it calls need
 abbrev pub open_definition : CoreUnitTree → ℕ → Define
 open_definition u f = record {
   name = function_name u f;
   body = for_calls (λ g. named (function_name u g)) (called_by u f);
 }
-
-abbrev pub is_member : ℕ → List ℕ → Bool
-is_member f fs = list_any (λ g. g == f) fs
 
 -- functions in an order in which each stands once, and behind those that it calls; earlier ones stand before them
 abbrev pub CalleesFirst : CoreUnitTree → (earlier fs : List ℕ) → Type 0

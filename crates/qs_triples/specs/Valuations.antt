@@ -4,6 +4,7 @@ use Rattle.std.specs.Prelude.{◌%◌, ◌^◌, ℤ, pos, Bool, false, if◌then
 use Rattle.qs_base.specs.Words.{signed}
 use Rattle.qs_memory.specs.Partial.{◌>>=◌, only_if}
 use Rattle.qs_memory.specs.Values.{Value, integer, address}
+use Rattle.qs_memory.specs.Scalars.{is_integer}
 use Rattle.qs_memory.specs.declared.scalar.Scalar.{Scalar}
 use Rattle.qs_memory.specs.declared.scalar.Scalar.TheVariants as scalars
 use Rattle.qs_events.specs.Weights.{Costs}
@@ -21,7 +22,6 @@ use Rattle.qs_assert.specs.Trees.{AssertionTree}
 use Rattle.qs_assert.specs.Values.{State, Extended, value}
 use Rattle.qs_entail.specs.Meaning.{defined_by}
 use Rattle.qs_core.specs.Trees.{CoreFunctionTree}
-use Rattle.qs_core.specs.Scalars.{is_integer}
 use Rattle.qs_core.specs.Expressions.{Locals}
 use Rattle.qs_core.specs.Interfaces.{variable_type, temporary_type}
 use Rattle.qs_core.specs.Units.{frame_of}

@@ -2,7 +2,6 @@
 ghost use Rattle.std.specs.Prelude.{◌≡◌, IfOk};
 ghost use Rattle.qs_assert.specs.Variables.{variables};
 ghost use Rattle.qs_core.specs.Interfaces as interfaces;
-ghost use Rattle.qs_core.specs.Scalars as scalars;
 ghost use Rattle.qs_core.specs.TreeOf.{function_tree, parameter_tree};
 ghost use Rattle.qs_triples.specs.Valuations as valuations;
 ghost use Rattle.qs_triples.specs.Mentions as spec;
@@ -13,7 +12,7 @@ use qs_assert::{Assertion, Node, NumberType, TermNode, Var, VarKind};
 use qs_base::NoMemory;
 use qs_calls::Parameter;
 use qs_core::{CoreFunction, CoreParameter};
-use qs_memory::Scalar;
+use qs_memory::{Scalar, is_integer};
 use std::alloc::Global;
 
 /// Where an assertion stands.
@@ -28,17 +27,6 @@ pub enum Standing {
 }
 
 // ---- the variables of a function
-
-fn is_integer(s: Scalar) -> bool
-    ensures { result ≡ scalars.is_integer s }
-{
-    match s {
-        Scalar::Char => true,
-        Scalar::Int => true,
-        Scalar::Unsigned => true,
-        Scalar::Pointer => false,
-    }
-}
 
 fn if_number(s: Scalar) -> Option<NumberType>
     ensures { result ≡ valuations.if_number s }

@@ -1,9 +1,10 @@
 -- Operations and conversions as far as scalar types go.
 use Rattle.std.specs.Prelude.{◌≡◌, Option, Result, option_map, if◌then◌else◌}
+use Rattle.qs_memory.specs.Scalars.{same_scalar}
 use Rattle.qs_memory.specs.declared.scalar.Scalar.{Scalar}
 use Rattle.qs_memory.specs.declared.operation.BinaryOperation.{BinaryOperation}
 use Rattle.qs_meaning.specs.Typed as trees
-use Rattle.qs_meaning.specs.Conversions.{scalar_of, same_scalar}
+use Rattle.qs_meaning.specs.Conversions.{scalar_of}
 use Rattle.qs_memory.specs.declared.scalar.Scalar.TheVariants as scalars
 use Rattle.qs_types.specs.TypeOf.{type_tree}
 use Rattle.qs_types.specs.Types.{TypeTree}

@@ -1,6 +1,7 @@
 // Types of values, and conversions between these (C11 6.3).
 ghost use Rattle.std.specs.Prelude.{◌≡◌, IfOk, Some};
-ghost use Rattle.qs_meaning.specs.Conversions.{conversion, same_scalar, scalar_of};
+ghost use Rattle.qs_memory.specs.Scalars.{same_scalar};
+ghost use Rattle.qs_meaning.specs.Conversions.{conversion, scalar_of};
 ghost use Rattle.qs_meaning.specs.Operations.{signedness};
 ghost use Rattle.qs_types.specs.Conversions.{arithmetic, common, decayed};
 ghost use Rattle.qs_types.specs.EnvOf.{env_tree};

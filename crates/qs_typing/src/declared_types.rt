@@ -4,7 +4,6 @@ ghost use Rattle.std.specs.Prelude.{if◌then◌else◌};
 ghost use Rattle.qs_syntax.specs.TreeOf.{expr_tree, initialiser_tree, lengths_tree, list_tree};
 ghost use Rattle.qs_types.specs.Declarations as declarations;
 ghost use Rattle.qs_types.specs.EnvOf.{env_tree};
-ghost use Rattle.qs_types.specs.Expressions.{type_or_void};
 ghost use Rattle.qs_types.specs.Layout.{is_sized};
 ghost use Rattle.qs_types.specs.Types.{pointer};
 ghost use Rattle.qs_types.specs.TypeOf.{type_tree};
@@ -20,6 +19,7 @@ ghost use Rattle.qs_typing.specs.LengthsOf.{ElementsAreValued, is_length, is_len
 use crate::context::{Context, is_void_base};
 use crate::judged::{Test, keeps, violates};
 use crate::lengths::{ArrayLengths, ParameterLengths, arrays};
+use crate::types::type_or_void;
 use qs_base::NoMemory;
 use qs_syntax::{
     Base, Declarator, Expr, Initialiser, InitialiserList, Lengths, Parameter, Shape, TypeName,
@@ -54,15 +54,6 @@ fn with_tests(alloc: Global, tests: &[Test], of: Option<CType>) -> Result<Declar
         tests: Vec::from_slice(alloc, tests)?,
         of,
     })
-}
-
-fn type_or_void(t: Option<CType>) -> CType
-    ensures { type_tree result ≡ type_or_void (option_map type_tree t) }
-{
-    match t {
-        None => CType::Void,
-        Some(t) => t,
-    }
 }
 
 fn object_type(alloc: Global, element: CType, lengths: &Option<Vec<u32>>) -> Result<CType, NoMemory>

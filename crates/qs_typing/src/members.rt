@@ -1,27 +1,15 @@
 // Members of structs (C11 6.5.2.3).
-ghost use Rattle.std.specs.Prelude.{◌≡◌, IfOk, option_map};
-ghost use Rattle.qs_types.specs.Expressions.{type_or_void};
-ghost use Rattle.qs_types.specs.TypeOf.{type_tree};
+ghost use Rattle.std.specs.Prelude.{◌≡◌, IfOk};
 ghost use Rattle.qs_typing.specs.Judging.{IsFound, IsMember, JudgesMember, member_of, member_type};
 ghost use Rattle.qs_typing.specs.PartsOf.{option_type, type_at};
 
 use crate::judged::{Judged, keeps, with_tests};
 use crate::operands::is_lvalue;
-use crate::types::{decayed, referenced};
+use crate::types::{decayed, referenced, type_or_void};
 use qs_base::{Name, NoMemory};
 use qs_syntax::{Access, Expr};
 use qs_types::{CType, Env, Rule, is_pointer};
 use std::alloc::Global;
-
-/// The type, or `void` where there is none.
-pub fn type_or_void(t: Option<CType>) -> CType
-    ensures { type_tree result ≡ type_or_void (option_map type_tree t) }
-{
-    match t {
-        None => CType::Void,
-        Some(t) => t,
-    }
-}
 
 /// The type of a member of the struct with this number, if it has such a member.
 fn member_of<'a>(types: &'a Env, k: u32, name: &Name) -> Option<&'a CType>

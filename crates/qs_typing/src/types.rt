@@ -1,8 +1,9 @@
 // Types of values and of operands (C11 6.3, 6.5).
-ghost use Rattle.std.specs.Prelude.{◌≡◌, IfOk};
+ghost use Rattle.std.specs.Prelude.{◌≡◌, IfOk, option_map};
 ghost use Rattle.qs_types.specs.Conversions.{common, decayed};
 ghost use Rattle.qs_types.specs.EnvOf.{env_tree};
 ghost use Rattle.qs_types.specs.Expressions.{both_integers, same_pointers, is_object_pointer};
+ghost use Rattle.qs_types.specs.Expressions.{type_or_void};
 ghost use Rattle.qs_types.specs.TypeOf.{type_tree};
 ghost use Rattle.qs_types.specs.Types.{referenced};
 ghost use Rattle.qs_typing.specs.PartsOf.{option_type};
@@ -24,6 +25,16 @@ pub fn referenced(t: CType) -> CType
         CType::Pointer(to) => Box::into_inner(to),
         CType::Array(element, _) => Box::into_inner(element),
         CType::Struct(k) => CType::Struct(k),
+    }
+}
+
+/// The type, or `void` where there is none.
+pub fn type_or_void(t: Option<CType>) -> CType
+    ensures { type_tree result ≡ type_or_void (option_map type_tree t) }
+{
+    match t {
+        None => CType::Void,
+        Some(t) => t,
     }
 }
 

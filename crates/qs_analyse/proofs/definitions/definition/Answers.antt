@@ -2,7 +2,8 @@ use Rattle.std.proofs.Common.{◌≡◌, ◌<◌, ◌∙◌, ℕ, List, true, ap
 use Rattle.std.proofs.lemmas.List.{length-map}
 use Rattle.qs_core.specs.TreeOf.{function_tree}
 use Rattle.qs_core.specs.UnitTrees.{unit_tree}
-use Rattle.qs_callgraph.specs.CallLists.{is_member, numbers}
+use Rattle.qs_core.specs.CallGraph.{is_member}
+use Rattle.qs_callgraph.specs.CallLists.{numbers}
 use Rattle.qs_callgraph.proofs.UnitCalls.{call_within}
 use Rattle.qs_analyse.proofs.definitions.definition.Goals as goal
 

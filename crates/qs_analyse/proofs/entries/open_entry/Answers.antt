@@ -9,6 +9,7 @@ use Rattle.qs_core.specs.CallGraph.{called_by}
 use Rattle.qs_core.specs.TreeOf.{core_stmts, function_tree}
 use Rattle.qs_core.specs.Trees.{stmts_of}
 use Rattle.qs_core.specs.UnitTrees.{unit_tree}
+use Rattle.qs_core.specs.FunctionNames.{function_name, name_in}
 use Rattle.qs_core.specs.declared.statements.CoreStmt.{CoreStmt}
 use Rattle.qs_entail.specs.Certificates.{CertTree, same}
 use Rattle.qs_entail.specs.View.{cert_tree, cert_step}
@@ -18,7 +19,6 @@ use Rattle.qs_triples.specs.TreeOf.{derivation_tree, derivation_trees, derivatio
 use Rattle.qs_triples.specs.declared.derivation.Derivation.{Derivation, Derivation-F, fold-roll-Derivation}
 use Rattle.qs_triples.specs.declared.derivation.Derivation.TheVariants.{Sequence, rolls-Sequence}
 use Rattle.qs_triples.specs.Derivations.{DerivationTree, sequence, EntryTree}
-use Rattle.qs_triples.specs.Filled.{function_name, name_in}
 use Rattle.qs_callgraph.specs.CallLists.{numbers}
 use Rattle.qs_analyse.specs.Fillable.{body_in, body_of}
 use Rattle.qs_analyse.specs.Written.{all_written}

@@ -2,7 +2,8 @@ use Rattle.std.proofs.Common.{◌≡◌, ◌<◌, ◌∙◌, ℕ, List, true, sy
 use Rattle.std.proofs.lemmas.Bool.{and_parts}
 use Rattle.std.proofs.lemmas.List.{length-map}
 use Rattle.qs_core.specs.TreeOf.{function_tree}
-use Rattle.qs_callgraph.specs.CallLists.{flag, is_member, numbers}
+use Rattle.qs_core.specs.CallGraph.{is_member}
+use Rattle.qs_callgraph.specs.CallLists.{flag, numbers}
 use Rattle.qs_callgraph.proofs.MemberLaws.{member-filter}
 use Rattle.qs_analyse.proofs.filling.extended.Goals as goal
 

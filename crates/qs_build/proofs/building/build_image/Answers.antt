@@ -12,7 +12,7 @@ use Rattle.qs_tac.specs.Places.{PlacesTree, places_tree, all_slots}
 use Rattle.qs_tac.specs.declared.places.Places.{Places}
 use Rattle.qs_tac.specs.declared.units.TacFunction.{TacFunction}
 use Rattle.qs_select.specs.Limits.{first_fault}
-use Rattle.qs_emit.specs.Images.{items_of}
+use Rattle.qs_select.specs.Units.{selected}
 use Rattle.qs_build.specs.Units.{linear, own_slots}
 use Rattle.qs_build.specs.Limits.{Passes}
 use Rattle.qs_build.specs.declared.fault.BuildFault.{BuildFault}
@@ -34,11 +34,11 @@ returns-in_err-code-clause-fault c =
     let places = c.in_ok-places.places.items in
     let own : map places_tree places ≡ own_slots t =
     c.in_ok-places.ensures ∙ ap (λ (fs : List TacFunction). map all_slots (map function_tree fs)) c.deref.ensures.value in
-    let items : c.deref-3.result.now ≡ items_of (linear u) (own_slots (linear u)) =
+    let items : c.deref-3.result.now ≡ selected (linear u) (own_slots (linear u)) =
     c.deref-3.ensures.value ∙ c.in_ok-items.ensures.items
-    ∙ ap (λ (ps : List Places). items_of t (map places_tree ps)) c.deref-2.ensures.value
-    ∙ ap (λ (ps : List PlacesTree). items_of t ps) own
-    ∙ ap (λ (q : TacUnitTree). items_of q (own_slots q)) c.in_ok-linear.ensures in
+    ∙ ap (λ (ps : List Places). selected t (map places_tree ps)) c.deref-2.ensures.value
+    ∙ ap (λ (ps : List PlacesTree). selected t ps) own
+    ∙ ap (λ (q : TacUnitTree). selected q (own_slots q)) c.in_ok-linear.ensures in
     let passes : Passes u c.in_err-code.field-0.0 = code_passes u c.deref-3.result.now c.in_err-code.field-0.0 items c.in_err-code.ensures.fault in
     let err = err_from_is_err_and c.from_residual-in_err-code.result c.from_residual-in_err-code.ensures.1 in
     let same : err.0 ≡ c.in_err-code.field-0.0 = err.2 in
@@ -66,8 +66,8 @@ image_of-requires c =
     let cores = map trees.function_tree c.args.unit.now.functions.items in
     let own : map places_tree places ≡ own_slots t =
     c.in_ok-places.ensures ∙ ap (λ (fs : List TacFunction). map all_slots (map function_tree fs)) c.deref.ensures.value in
-    let items : c.in_ok-items.items.items ≡ items_of t (map places_tree places) =
-    c.in_ok-items.ensures.items ∙ ap (λ (ps : List Places). items_of t (map places_tree ps)) c.deref-2.ensures.value in
+    let items : c.in_ok-items.items.items ≡ selected t (map places_tree places) =
+    c.in_ok-items.ensures.items ∙ ap (λ (ps : List Places). selected t (map places_tree ps)) c.deref-2.ensures.value in
     own_parts (core.unit_tree c.args.unit.now) t (map places_tree places) functions c.in_ok-code.code.items c.in_ok-bytes.bytes.items c.in_ok-linear.ensures own
     (record {
       few = c.in_ok-check_names.ensures.functions;

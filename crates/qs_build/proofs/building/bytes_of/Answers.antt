@@ -4,9 +4,8 @@ use Rattle.qs_core.specs.TreeOf.{data_block_tree}
 use Rattle.qs_core.specs.Units.{data_block}
 use Rattle.qs_frames.specs.Starts.{start_of}
 use Rattle.qs_frames.specs.Layout.{offset}
-use Rattle.qs_select.specs.Data.{data_sizes}
+use Rattle.qs_select.specs.Data.{data_sizes, data_address}
 use Rattle.qs_emit.specs.Images.{data_bytes}
-use Rattle.qs_emit.specs.Relation.{data_address}
 use Rattle.qs_build.proofs.ByteLaws.{same_data}
 use Rattle.qs_build.proofs.building.bytes_of.Goals as goal
 

@@ -1,6 +1,7 @@
 use Rattle.std.proofs.Common.{◌≡◌, ℕ, List, length, true, ap, ◌∙◌, subst, arith}
 use Rattle.std.proofs.lemmas.List.{length-map}
-use Rattle.qs_callgraph.specs.CallLists.{is_member, numbers, numbers_in, number_lists}
+use Rattle.qs_core.specs.CallGraph.{is_member}
+use Rattle.qs_callgraph.specs.CallLists.{numbers, numbers_in, number_lists}
 use Rattle.qs_callgraph.specs.Opens.{with_caller}
 use Rattle.qs_callgraph.proofs.CallerLaws.{added_more, list_at}
 use Rattle.qs_callgraph.proofs.MemberLaws.{written_back}

@@ -1,7 +1,8 @@
 use Rattle.std.proofs.Common.{◌≡◌, ◌++◌, ◌∷◌, [], ℕ, Bool, List, length, true, sym, ap, ◌∙◌, subst, arith}
 use Rattle.std.proofs.lemmas.List.{length-map, map_push}
 use Rattle.qs_base.specs.declared.function.FnId.{FnId}
-use Rattle.qs_callgraph.specs.CallLists.{is_member, numbers, numbers_in, number_lists}
+use Rattle.qs_core.specs.CallGraph.{is_member}
+use Rattle.qs_callgraph.specs.CallLists.{numbers, numbers_in, number_lists}
 use Rattle.qs_callgraph.specs.Opens.{Closes, ClosesCallers}
 use Rattle.qs_callgraph.proofs.CallerLaws.{list_at}
 use Rattle.qs_callgraph.proofs.MemberLaws.{member_last, written_back}

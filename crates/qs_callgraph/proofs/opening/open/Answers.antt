@@ -4,7 +4,8 @@ use Rattle.std.proofs.lemmas.List.{length-map}
 use Rattle.std.proofs.lemmas.Result.{IfOk-weaker}
 use Rattle.qs_core.specs.TreeOf.{function_tree}
 use Rattle.qs_core.specs.UnitTrees.{unit_tree}
-use Rattle.qs_callgraph.specs.CallLists.{call_lists, number_lists, numbers_in, callees_in, is_member}
+use Rattle.qs_core.specs.CallGraph.{is_member}
+use Rattle.qs_callgraph.specs.CallLists.{call_lists, number_lists, numbers_in, callees_in}
 use Rattle.qs_callgraph.specs.Opens.{AreCallers}
 use Rattle.qs_callgraph.proofs.OpenLaws.{callers_graph, tells_open}
 use Rattle.qs_callgraph.proofs.UnitCalls.{length-call_lists, unit_graph}

@@ -1,6 +1,6 @@
 use Rattle.std.proofs.Common.{◌≡◌, ◌++◌, drop, map}
 use Rattle.qs_core.specs.UnitTrees.{unit_tree}
-use Rattle.qs_triples.specs.Filled.{function_name}
+use Rattle.qs_core.specs.FunctionNames.{function_name}
 use Rattle.qs_callgraph.specs.CallLists.{numbers}
 use Rattle.qs_driver.proofs.certified.names_of.Given as goal
 

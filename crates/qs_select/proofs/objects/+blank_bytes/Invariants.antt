@@ -1,6 +1,6 @@
 use Rattle.std.proofs.Common.{◌≡◌, ◌+◌, ◌-◌, ◌^◌, ◌≤◌, min, map, drop}
 use Rattle.qs_memory.specs.BlankOf.{blank_tree, joined_of}
-use Rattle.qs_tac.specs.Fits.{blank_size}
+use Rattle.qs_memory.specs.Sizes.{blank_size}
 use Rattle.qs_select.proofs.objects.+blank_bytes.Given as goal
 
 abbrev pub invariant-joined_bytes-loop-part : goal.invariant-joined_bytes-loop-part

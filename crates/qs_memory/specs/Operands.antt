@@ -1,7 +1,8 @@
 -- The types of the operands that an operation takes (C11 6.5.3.3 to 6.5.9).
-use Rattle.std.specs.Prelude.{ℕ, ◌+◌, ◌*◌, ◌&&◌, nat_le, Bool, true, false}
-use Rattle.qs_memory.specs.Memory.{BlankTree, zeros, nulls, repeated, nothing, joined}
+use Rattle.std.specs.Prelude.{◌&&◌, Bool, true, false}
+use Rattle.qs_memory.specs.Sizes.{is_element}
 use Rattle.qs_memory.specs.Operations.{integer_type}
+use Rattle.qs_memory.specs.Scalars.{same_scalar, is_integer, is_pointer, is_promoted}
 use Rattle.qs_memory.specs.declared.scalar.Scalar.{Scalar}
 use Rattle.qs_memory.specs.declared.scalar.Scalar.TheVariants as scalars
 use Rattle.qs_memory.specs.declared.operation.Signedness.{Signedness}
@@ -11,23 +12,6 @@ use Rattle.qs_memory.specs.declared.operation.UnaryOperation.{UnaryOperation}
 use Rattle.qs_memory.specs.declared.operation.UnaryOperation.TheVariants as unaries
 use Rattle.qs_memory.specs.declared.operation.BinaryOperation.{BinaryOperation}
 use Rattle.qs_memory.specs.declared.operation.BinaryOperation.TheVariants as binaries
-use Rattle.qs_core.specs.Scalars.{same_scalar, is_integer, is_pointer, is_promoted}
-
--- no type is larger, in bytes
-abbrev pub largest_size : ℕ
-largest_size = 16777216
-
--- the size of the elements among which a pointer moves (6.5.6p2: their type is complete)
-abbrev pub is_element : (size : ℕ) → Bool
-is_element size = nat_le 1 size && nat_le size largest_size
-
--- the bytes of a blank
-abbrev pub blank_size : BlankTree → ℕ
-blank_size (zeros n) = n
-blank_size (nulls n) = 4 * n
-blank_size (repeated n b) = n * blank_size b
-blank_size nothing = 0
-blank_size (joined b c) = blank_size b + blank_size c
 
 -- 6.5.3.3: any scalar is tested for 0
 abbrev pub unary_takes : UnaryOperation → Scalar → Bool

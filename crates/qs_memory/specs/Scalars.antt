@@ -1,25 +1,12 @@
 -- Tests of types (C11 6.2.5).
 use Rattle.std.specs.Prelude.{◌&&◌, ◌||◌, Bool, true, false, List, [], ◌∷◌, Option, Some, None}
+use denote.Enum.Bare.{sameb}
+use Rattle.qs_memory.specs.contracts.scalar.Scalar.{the_type}
 use Rattle.qs_memory.specs.declared.scalar.Scalar.{Scalar}
 use Rattle.qs_memory.specs.declared.scalar.Scalar.TheVariants as scalars
 
 abbrev pub same_scalar : Scalar → Scalar → Bool
-same_scalar scalars.Char scalars.Char = true
-same_scalar scalars.Char scalars.Int = false
-same_scalar scalars.Char scalars.Unsigned = false
-same_scalar scalars.Char scalars.Pointer = false
-same_scalar scalars.Int scalars.Char = false
-same_scalar scalars.Int scalars.Int = true
-same_scalar scalars.Int scalars.Unsigned = false
-same_scalar scalars.Int scalars.Pointer = false
-same_scalar scalars.Unsigned scalars.Char = false
-same_scalar scalars.Unsigned scalars.Int = false
-same_scalar scalars.Unsigned scalars.Unsigned = true
-same_scalar scalars.Unsigned scalars.Pointer = false
-same_scalar scalars.Pointer scalars.Char = false
-same_scalar scalars.Pointer scalars.Int = false
-same_scalar scalars.Pointer scalars.Unsigned = false
-same_scalar scalars.Pointer scalars.Pointer = true
+same_scalar = sameb the_type
 
 -- the same types in the same order
 abbrev pub same_scalars : List Scalar → List Scalar → Bool

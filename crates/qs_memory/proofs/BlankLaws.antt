@@ -1,8 +1,8 @@
--- How many bytes data have.
+-- How many cells a blank has.
 use Rattle.std.proofs.Common.{◌≡◌, ℕ, zero, suc, ◌+◌, ◌*◌, List, [], ◌∷◌, length, length-append, ap, refl, ◌∙◌, arith}
 use Rattle.qs_memory.specs.Values.{null}
 use Rattle.qs_memory.specs.Memory.{Cell, byte, parts_of, BlankTree, zeros, nulls, repeated, nothing, joined, times, blank_cells}
-use Rattle.qs_core.specs.Operands.{blank_size}
+use Rattle.qs_memory.specs.Sizes.{blank_size}
 
 times_length : (n : ℕ) (cells : List Cell) → length (times n cells) ≡ n * length cells
 times_length zero cells = grind arith

@@ -52,13 +52,11 @@ pub fn are_counted(items: &[Item], count: usize) -> bool
     true
 }
 
+// 0 passes no limit, so no other fault is lost.
 fn zero(alloc: Global) -> Result<Poly, NoMemory>
     ensures { IfOk result (λ p. p ≡ nothing) }
 {
-    match Poly::natural(alloc, 0) {
-        Ok(p) => Ok(p),
-        Err(_) => Err(NoMemory),
-    }
+    Poly::natural(alloc, 0).map_err(|_fault| NoMemory)
 }
 
 /// A polynomial of the list by its number, or 0.

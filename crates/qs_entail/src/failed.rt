@@ -1,9 +1,12 @@
 // Why the walk over a certificate stops.
 ghost use Rattle.std.specs.Prelude.{◌≡◌};
+ghost use Rattle.qs_entail.specs.declared.failed.Failed.TheVariants as failed;
 ghost use Rattle.qs_entail.specs.Walking.{failure_of, settled};
 
 use crate::fault::Rule;
 use crate::stop::{Limit, Stop};
+use qs_base::NoMemory;
+use std::alloc::AllocFailed;
 
 /// Why the walk stops; its path tells where.
 #[derive(Clone, Copy, Debug, PartialEq, Eq)]
@@ -14,6 +17,22 @@ pub enum Failed {
     Step(Rule),
     /// A polynomial passes this limit.
     Limit(Limit),
+}
+
+impl From<NoMemory> for Failed {
+    ghost from_gives = { λ _ answer. answer ≡ failed.NoMemory };
+
+    fn from(_fault: NoMemory) -> Failed {
+        Failed::NoMemory
+    }
+}
+
+impl<T: Drop> From<AllocFailed<T>> for Failed {
+    ghost from_gives = { λ _ answer. answer ≡ failed.NoMemory };
+
+    fn from(_fault: AllocFailed<T>) -> Failed {
+        Failed::NoMemory
+    }
 }
 
 /// A step of this rule gave nothing.

@@ -1,5 +1,6 @@
 // What is wrong with a certificate.
 use crate::Limit;
+use qs_base::NoMemory;
 use thiserror::Error;
 
 /// The rule of a node of a certificate.
@@ -69,4 +70,15 @@ pub enum CertFault {
     /// A polynomial at this path passes this limit.
     #[error("a polynomial of a certificate passes a limit")]
     Limit(Vec<usize>, Limit),
+}
+
+impl From<NoMemory> for CertFault {
+    ghost use Rattle.std.specs.Prelude.{◌≡◌};
+    ghost use Rattle.qs_entail.specs.declared.fault.CertFault.TheVariants.{NoMemory};
+
+    ghost from_gives = { λ _ fault. fault ≡ NoMemory };
+
+    fn from(_fault: NoMemory) -> CertFault {
+        CertFault::NoMemory
+    }
 }

@@ -16,7 +16,7 @@ use crate::rules::{both_unfolded, ends, part_number};
 use crate::standing::rule_of;
 use crate::walk::{Mark, Walk};
 use qs_assert::{AssertionView, AssertionViews, CondView, Define};
-use qs_base::{Name, NoMemory};
+use qs_base::Name;
 
 impl Walk {
     /// Checks a part, which is number i of its node.
@@ -279,10 +279,7 @@ impl Walk {
     ) -> Result<(), Failed>
         ensures { ChecksRefuted condition.now part.now defines.now self.old self.new result }
     {
-        let (zero, infinity) = match ends(self.alloc) {
-            Ok(pair) => pair,
-            Err(NoMemory) => return Err(Failed::NoMemory),
-        };
+        let (zero, infinity) = ends(self.alloc)?;
         match self.push(condition, true) {
             Ok(mark) => { self.check_until(mark, defines, 0, part, &zero.view(), &infinity.view()) }
             Err(stop) => Err(failure(Rule::DropGuard, stop)),
@@ -352,14 +349,8 @@ impl Walk {
     ) -> Result<(), Failed>
         ensures { ChecksSide b.now first part.now defines.now p.now q.now self.old self.new result }
     {
-        let left = match branch(self.alloc, b, first, p) {
-            Ok(left) => left,
-            Err(NoMemory) => return Err(Failed::NoMemory),
-        };
-        let right = match branch(self.alloc, b, first, q) {
-            Ok(right) => right,
-            Err(NoMemory) => return Err(Failed::NoMemory),
-        };
+        let left = branch(self.alloc, b, first, p)?;
+        let right = branch(self.alloc, b, first, q)?;
         match self.push(b, !first) {
             Ok(mark) => {
                 self.check_until(

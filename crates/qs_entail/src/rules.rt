@@ -37,10 +37,8 @@ pub fn both_unfolded(
 {
     let body = definition(defines, name)?;
     let left = unfolded(alloc, name, body, p)?;
-    match unfolded(alloc, name, body, q) {
-        Ok(right) => Ok(Both { left, right }),
-        Err(fault) => Err(Stop::from(fault)),
-    }
+    let right = unfolded(alloc, name, body, q)?;
+    Ok(Both { left, right })
 }
 
 /// The number of the part for the first branches or the second.

@@ -129,10 +129,7 @@ pub fn two(alloc: Global, first: Poly, second: Poly) -> Result<Vec<Poly>, Stop>
     ensures { FollowsAs (λ v. v.items) result (Ok (first ∷ second ∷ [])) }
 {
     let mut list = Vec::new(alloc);
-    match list.push(first) {
-        Ok(()) => {}
-        Err(_) => return Err(Stop::NoMemory),
-    }
+    list.push(first)?;
     list.push(second)?;
     Ok(list)
 }

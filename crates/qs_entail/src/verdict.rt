@@ -13,11 +13,10 @@ use crate::known::Known;
 use crate::outlining::{Outline, outlined};
 use crate::pushing::push_list;
 use crate::standing::{rule_of, stands};
-use crate::stop::Stop;
-use crate::sums::{one, small};
 use crate::walk::Walk;
 use qs_assert::{Assertion, AssertionView, Cond, Define};
 use qs_base::NoMemory;
+use qs_poly::Poly;
 use std::alloc::Global;
 
 /// The fault of a walk that stopped at this path.
@@ -31,12 +30,13 @@ fn told(path: Vec<usize>, failed: Failed) -> CertFault
     }
 }
 
-/// A walk at the root, where 1 is known to be at least 0.
-fn at_root(alloc: Global) -> Result<Walk, Stop>
+/// A walk at the root, where 1 is known to be at least 0. It passes no limit.
+fn at_root(alloc: Global) -> Result<Walk, NoMemory>
     ensures { IfOk result (λ walk. place walk ≡ record { path = []; known = at_first }) }
 {
-    let unit = small(alloc, 1)?;
-    let polynomials = one(alloc, unit)?;
+    let unit = Poly::number(alloc, 1).map_err(|_fault| NoMemory)?;
+    let mut polynomials = Vec::new(alloc);
+    polynomials.push(unit)?;
     Ok(Walk {
         alloc,
         path: Vec::new(alloc),
@@ -93,10 +93,7 @@ fn walked_under(
 ) -> Result<(), CertFault>
     ensures { TellsUnder hypotheses.now defines.now p.now q.now certificate.now result }
 {
-    let mut walk = match at_root(alloc) {
-        Ok(walk) => walk,
-        Err(_) => return Err(CertFault::NoMemory),
-    };
+    let mut walk = at_root(alloc)?;
     match push_list(alloc, hypotheses, &mut walk.known) {
         Ok(()) => walked(walk, defines, p, q, certificate),
         Err(stop) => Err(told(walk.path, failure(rule_of(certificate), stop))),
@@ -114,11 +111,7 @@ fn checked(
 ) -> Result<(), CertFault>
     ensures { TellsVerdict hypotheses.now defines.now p.now q.now certificate.now result }
 {
-    let stands = match root_stands(alloc, hypotheses, defines, p, q, certificate) {
-        Ok(stands) => stands,
-        Err(NoMemory) => return Err(CertFault::NoMemory),
-    };
-    if !stands {
+    if !root_stands(alloc, hypotheses, defines, p, q, certificate)? {
         let at_root = Failed::Step(rule_of(certificate));
         return Err(told(Vec::new(alloc), at_root));
     }

@@ -42,10 +42,8 @@ impl Walk {
         ensures path { EntersPart i self.old.path.items self.new.path.items result }
         ensures known { known_view self.new.known ≡ known_view self.old.known }
     {
-        match self.path.push(i) {
-            Ok(()) => Ok(()),
-            Err(_) => Err(Failed::NoMemory),
-        }
+        self.path.push(i)?;
+        Ok(())
     }
 
     /// And out of it.

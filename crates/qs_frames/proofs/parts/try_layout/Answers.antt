@@ -12,4 +12,4 @@ kept-requires c =
 pub frame_cost-requires : goal.frame_cost-requires
 frame_cost-requires c =
     let few : kept (places_tree c.args.places.now) ≤ 12 + slots_among c.args.places.now.at.items = few_are_kept (places_tree c.args.places.now) in
-    grind (arith, few, c.slots_among.ensures.count, c.if-slots_among-gt-MOST_SLOTS.false, c.deref.ensures.value, c.kept.ensures, c.in-Some.ensures, c.deref-2.ensures.value)
+    grind (arith, few, c.slots_among.ensures.count, c.if-slots_among-gt-MOST_SLOTS.false, c.deref.ensures.value, c.kept.ensures, c.in_ok-blocks.ensures, c.deref-2.ensures.value)

@@ -3,4 +3,4 @@ use Rattle.qs_prooftext.proofs.parts.head_of.Goals as goal
 
 pub returns-in-Symbol : goal.returns-in-Symbol
 returns-in-Symbol c = λ ss h.
-    head_is c.args.text.now c.args.parts.now ss c.in-Some.first.now c.in-Some.others.now c.in-Symbol.field-0 c.in-Symbol.word.now h c.in-Some.ensures c.in-Symbol.ensures
+    head_is c.args.text.now c.args.parts.now ss c.in_ok-first.first.now c.in_ok-first.others.now c.in-Symbol.field-0 c.in-Symbol.word.now h c.in_ok-first.ensures c.in-Symbol.ensures

@@ -9,6 +9,6 @@ use Rattle.qs_select.proofs.pieces.put_zero_bytes.Goals as goal
 
 pub loop-offset-preserved : goal.loop-offset-preserved
 loop-offset-preserved c =
-    let is : c.store.result ≡ pieces.store Sb x0 a5 c.loop-offset.offset = cc (c.store.ensures, c.a5.ensures, c.below.ensures) in
+    let is : c.store.result ≡ pieces.store Sb x0 a5 c.loop-offset.offset = cc (c.store.ensures, c.below.ensures) in
     zero_goes_on c.loop-offset.items.items c.put.new.items.items (c.args.items.now.items ++ plain (zero_bytes c.args.count 0)) c.args.count
     c.loop-offset.offset c.store.result c.loop-offset-test.true is c.in_ok-put.ensures c.loop-offset.invariant

@@ -1,7 +1,7 @@
 -- What an assertion amounts to at given arguments: a number, infinity, or Wide where a part that is evaluated
 -- is finite and too wide.
-use Rattle.std.specs.Prelude.{ℕ, ◌^◌, ◌==◌, ℤ, pos, unsigned_abs, Bool, true, false, if◌then◌else◌, ◌&&◌, ◌||◌, leb, List, [], ◌∷◌, Some, None, slice_index_or}
-use Rattle.std.specs.Cmp.Lexicographic.{pointwise}
+use Rattle.std.specs.Prelude.{ℕ, ◌^◌, ℤ, pos, unsigned_abs, Bool, true, false, if◌then◌else◌, ◌&&◌, ◌||◌, leb, List, [], ◌∷◌, Some, None, slice_index_or}
+pub use Rattle.qs_base.specs.Bytes.{same_bytes as same_name}
 use Rattle.qs_assert.specs.declared.variable.Var.{Var}
 use Rattle.qs_assert.specs.declared.variable.VarKind.{VarKind}
 use Rattle.qs_assert.specs.declared.variable.VarKind.TheVariants.{Plain, Temporary, Old, Returned}
@@ -71,10 +71,6 @@ abbrev mutual
   pub some_wide : AssertionTrees → State → (List ℕ → Bool) → Bool
   some_wide no_assertions s names = false
   some_wide (assertion_and a parts) s names = wide a s names || some_wide parts s names
-
--- the same bytes
-abbrev pub same_name : List ℕ → List ℕ → Bool
-same_name = pointwise ◌==◌
 
 -- a state, and for each name whether a part of its definition that is evaluated is wide
 pub record Setting : Type 0 where

@@ -1,6 +1,7 @@
 // Classes of bytes.
 ghost use Rattle.std.specs.Prelude.{◌≡◌};
-ghost use Rattle.qs_base.specs.Bytes.{is_between, is_digit, is_letter, is_word_byte};
+ghost use Rattle.std.specs.List.{prefix_len};
+ghost use Rattle.qs_base.specs.Bytes.{is_between, is_digit, is_in_line, is_letter, is_word_byte};
 
 /// Whether the byte is one from `low` to `high`.
 pub fn is_between(low: u8, high: u8, byte: u8) -> bool
@@ -28,4 +29,11 @@ pub fn is_word_byte(byte: u8) -> bool
     ensures { result ≡ is_word_byte byte }
 {
     is_letter(byte) || is_digit(byte)
+}
+
+/// How many bytes the line still has.
+pub fn line_length(rest: &[u8]) -> usize
+    ensures { result ≡ prefix_len is_in_line rest.now }
+{
+    rest.iter().take_while(|byte| **byte != b'\n').count()
 }

@@ -12,7 +12,7 @@ mod names;
 mod places;
 mod words;
 
-pub use bytes::{is_between, is_digit, is_letter, is_word_byte};
+pub use bytes::{is_between, is_digit, is_letter, is_word_byte, line_length};
 pub use counts::{count, product, sum};
 pub use function::FnId;
 pub use keyword::Keyword;

@@ -15,7 +15,7 @@ use Rattle.qs_syntax.specs.declared.operators.Access.TheVariants as accesses
 use Rattle.qs_syntax.specs.declared.operators.StepOperator.TheVariants as steps
 use Rattle.qs_syntax.specs.declared.types.TypeName.{TypeName}
 use Rattle.qs_syntax.specs.Trees.{unnumbered, ExprTree, expr, ShapeTree, constant, text, name, unary, step, cast, sizeof_type, sizeof_expr, binary, assign, conditional, comma, subscript, member, call, Exprs, no_exprs, expr_and, exprs_of}
-use Rattle.qs_syntax.specs.Operators.{punctuator_of_unary, punctuator_of_binary, precedence, punctuator_of_assign, punctuator_of_access, binary_of, assign_of, access_of}
+use Rattle.qs_syntax.specs.Operators.{punctuator_of_unary, punctuator_of_binary, precedence, conditional_precedence, assignment_precedence, comma_precedence, punctuator_of_assign, punctuator_of_access, binary_of, assign_of, access_of}
 use Rattle.qs_syntax.specs.ReadsTypes.{ReadsTypeName}
 use Rattle.qs_syntax.specs.Reads.{Form, Postfix, Unary, Level, Conditional, Assignment, Expression, place, at_first, ReadsTexts, no_text, a_further_text, Reads, ReadsArguments, a_name, an_empty_call, a_call, a_constant, a_text, in_parentheses, an_index, a_member, an_increment_after, a_decrement_after, a_postfix, an_increment, a_decrement, an_operator, a_size_of_type, a_size_of_value, a_cast, an_operand, stronger, an_operation, a_plain_level, a_choice, a_plain_conditional, an_assignment, a_plain_assignment, a_comma, a_last_argument, an_argument}
 use Rattle.qs_grammar.specs.Heads.{is_punctuator, starts, begins_type, operator_at}
@@ -70,9 +70,9 @@ Claim Postfix h f t = (m : ℕ) → h ≤ suc m → (rest : List Terminal) → g
 Claim Unary h f t = (m : ℕ) → h ≤ suc m → (rest : List Terminal) → 0 < precedence_at rest → parse.unary_of_all m (part m) (f ++ rest) ≡ found t h rest
 Claim (Level zero) h f t = (m : ℕ) → h ≤ suc m → (rest : List Terminal) → 0 < precedence_at rest → expression m (part m) (Level 0) (f ++ rest) ≡ found t h rest
 Claim (Level (suc j)) h f t = (m : ℕ) → h ≤ suc m → (rest : List Terminal) → suc j ≤ precedence_at rest → Goes rest (λ n. expression m (part m) (Level (suc j)) (f ++ rest) ≡ parse.operations m (part m) n j (place f) (t, h) rest)
-Claim Conditional h f t = (m : ℕ) → h ≤ suc m → (rest : List Terminal) → 11 < precedence_at rest → expression m (part m) Conditional (f ++ rest) ≡ found t h rest
-Claim Assignment h f t = (m : ℕ) → h ≤ suc m → (rest : List Terminal) → 12 < precedence_at rest → expression m (part m) Assignment (f ++ rest) ≡ found t h rest
-Claim Expression h f t = (m : ℕ) → h ≤ suc m → (rest : List Terminal) → 12 < precedence_at rest → Goes rest (λ n. expression m (part m) Expression (f ++ rest) ≡ parse.commas m (part m) n (place f) (t, h) rest)
+Claim Conditional h f t = (m : ℕ) → h ≤ suc m → (rest : List Terminal) → conditional_precedence < precedence_at rest → expression m (part m) Conditional (f ++ rest) ≡ found t h rest
+Claim Assignment h f t = (m : ℕ) → h ≤ suc m → (rest : List Terminal) → assignment_precedence < precedence_at rest → expression m (part m) Assignment (f ++ rest) ≡ found t h rest
+Claim Expression h f t = (m : ℕ) → h ≤ suc m → (rest : List Terminal) → assignment_precedence < precedence_at rest → Goes rest (λ n. expression m (part m) Expression (f ++ rest) ≡ parse.commas m (part m) n (place f) (t, h) rest)
 
 bind_assoc : {A B C : Type 0} (r : Result (A × List Terminal) Stop) (f : A → Parse B) (g : B → Parse C) → bind r (λ x ts. bind (f x ts) g) ≡ bind (bind r f) g
 bind_assoc (Ok x) f g = refl
@@ -117,7 +117,7 @@ unfolding parse.climb
 climb_stops m zero start a rest lt = refl
 climb_stops m (suc j) start a rest lt = rw (climb_stops m j start a rest (omega arith)) (operations_stop m (length rest) j start a rest lt)
 
-commas_stop : (m n start : ℕ) (a : E) (rest : List Terminal) → 13 < precedence_at rest → parse.commas m (part m) n start a rest ≡ Ok (a, rest)
+commas_stop : (m n start : ℕ) (a : E) (rest : List Terminal) → comma_precedence < precedence_at rest → parse.commas m (part m) n start a rest ≡ Ok (a, rest)
 unfolding parse.commas
 commas_stop m zero start a rest lt = refl
 commas_stop m (suc n) start a rest lt = rw (not_starts punctuators.Comma rest lt) refl
@@ -498,14 +498,14 @@ for_choice {h} {k} {l} {xs} {ys} {zs} {a} {b} {c} q s ra rb rc first second thir
 no_rest : (a b : E) (us rest : List Terminal) → ◌≡◌ {A = Out} (Ok (a, us)) (Ok (b, rest)) → us ≡ rest
 no_rest a b us rest e = let pair : ◌≡◌ {A = E × List Terminal} (a, us) (b, rest) = cc in ap (λ (p : E × List Terminal). p.1) pair
 
-plain_same : (m start : ℕ) (r : Out) (t : ExprTree) (h : ℕ) (rest : List Terminal) → bind r (parse.after_operand m (part m) start) ≡ found t h rest → 12 < precedence_at rest → bind r (parse.after_unary m (part m) start) ≡ found t h rest
+plain_same : (m start : ℕ) (r : Out) (t : ExprTree) (h : ℕ) (rest : List Terminal) → bind r (parse.after_operand m (part m) start) ≡ found t h rest → assignment_precedence < precedence_at rest → bind r (parse.after_unary m (part m) start) ≡ found t h rest
 plain_same m start (Err e) t h rest eq stop = eq
 plain_same m start (Ok x) t h rest eq stop = go (operator_at assign_of x.1) refl
   where
     go : (o : Option AssignmentOperator) → operator_at assign_of x.1 ≡ o → parse.assignment_of m (part m) start x.0 o x.1 ≡ found t h rest
     go None e = eq
     go (Some operator) e =
-        let ahead : precedence_at x.1 ≡ 12 = assign_at_precedence x.1 operator e in
+        let ahead : precedence_at x.1 ≡ assignment_precedence = assign_at_precedence x.1 operator e in
         let stays : parse.after_operand m (part m) start x.0 x.1 ≡ Ok (x.0, x.1) = rw (climb_stops m 10 start x.0 x.1 (omega arith), not_starts punctuators.Question x.1 (omega arith)) refl in
         let same : precedence_at x.1 ≡ precedence_at rest = ap precedence_at (no_rest x.0 (t, h) x.1 rest (sym stays ∙ eq)) in
         absurd (omega arith)
@@ -523,7 +523,7 @@ for_assignment : {h k : ℕ} {xs ys : List Terminal} {a b : ExprTree} (operator 
 unfolding expression
 for_assignment {h} {k} {xs} {ys} {a} {b} operator at r s left right m le rest stop =
     let low : h ≤ m = omega arith in
-    let ahead : precedence_at (Punctuator at (punctuator_of_assign operator) ∷ (ys ++ rest)) ≡ 12 = assign_precedence operator in
+    let ahead : precedence_at (Punctuator at (punctuator_of_assign operator) ∷ (ys ++ rest)) ≡ assignment_precedence = assign_precedence operator in
     let target : parse.unary_of_all m (part m) (xs ++ Punctuator at (punctuator_of_assign operator) ∷ (ys ++ rest)) ≡ found a h (Punctuator at (punctuator_of_assign operator) ∷ (ys ++ rest)) = left m (omega arith) (Punctuator at (punctuator_of_assign operator) ∷ (ys ++ rest)) (omega arith) in
     let inner : part m Assignment (ys ++ rest) ≡ found b k rest = part_finds Assignment k ys b right (high s) m (omega arith) rest stop in
     ap (parse.assignment m (part m)) (append_assoc xs (Punctuator at (punctuator_of_assign operator) ∷ ys) rest)

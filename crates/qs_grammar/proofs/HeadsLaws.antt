@@ -7,17 +7,16 @@ use Rattle.qs_base.specs.declared.keyword.Keyword as key
 use Rattle.qs_syntax.specs.declared.punctuator.Punctuator as punctuator
 use Rattle.qs_syntax.specs.declared.operators.UnaryOperator.{UnaryOperator}
 use Rattle.qs_syntax.specs.declared.operators.BinaryOperator.{BinaryOperator}
-use Rattle.qs_syntax.specs.declared.operators.BinaryOperator.TheVariants as binaries
 use Rattle.qs_syntax.specs.declared.operators.AssignmentOperator.{AssignmentOperator}
 use Rattle.qs_syntax.specs.declared.operators.AssignmentOperator.TheVariants as assigns
 use Rattle.qs_syntax.specs.declared.operators.Access.{Access}
 use Rattle.qs_syntax.specs.declared.operators.Access.TheVariants as accesses
-use Rattle.qs_syntax.specs.Operators.{access_of, assign_of, binary_of, number_of, precedence, punctuator_of_access, punctuator_of_assign, punctuator_of_binary, punctuator_of_unary, unary_of}
+use Rattle.qs_syntax.specs.Operators.{access_of, assign_of, assignment_precedence, binary_of, number_of, precedence, punctuator_of_access, punctuator_of_assign, punctuator_of_binary, punctuator_of_unary, unary_of}
 use Rattle.qs_base.proofs.KeywordLaws.{same_keyword_exact}
 use Rattle.qs_syntax.proofs.OperatorLaws.{assign_of-punctuator, binary_of-punctuator, punctuator-access_of, punctuator-assign_of, punctuator-binary_of, punctuator-unary_of, unary_of-punctuator}
 use Rattle.qs_syntax.proofs.PunctuatorLaws.{same_punctuator_exact}
 use Rattle.qs_grammar.specs.Heads.{is_punctuator, is_keyword, starts, starts_with, operator_at}
-use Rattle.qs_grammar.specs.Stops.{punctuator_precedence, terminal_precedence, precedence_at}
+use Rattle.qs_grammar.specs.Stops.{precedence_at, precedence_by, punctuator_precedence, terminal_precedence}
 
 -- ---- tests of a token
 
@@ -70,24 +69,7 @@ pub binary_is : (m : punctuator.Punctuator) (s : BinaryOperator) → binary_of m
 binary_is m s e = sym (punctuator-binary_of m s e)
 
 pub binary_precedence : (s : BinaryOperator) → punctuator_precedence (punctuator_of_binary s) ≡ precedence s
-binary_precedence binaries.Multiply = refl
-binary_precedence binaries.Divide = refl
-binary_precedence binaries.Remainder = refl
-binary_precedence binaries.Add = refl
-binary_precedence binaries.Subtract = refl
-binary_precedence binaries.ShiftLeft = refl
-binary_precedence binaries.ShiftRight = refl
-binary_precedence binaries.Less = refl
-binary_precedence binaries.LessEqual = refl
-binary_precedence binaries.Greater = refl
-binary_precedence binaries.GreaterEqual = refl
-binary_precedence binaries.Equal = refl
-binary_precedence binaries.NotEqual = refl
-binary_precedence binaries.BitAnd = refl
-binary_precedence binaries.BitXor = refl
-binary_precedence binaries.BitOr = refl
-binary_precedence binaries.And = refl
-binary_precedence binaries.Or = refl
+binary_precedence s = ap (λ o. precedence_by (punctuator_of_binary s) o (assign_of (punctuator_of_binary s))) (binary_punctuator s)
 
 -- ---- assign operators
 
@@ -97,7 +79,7 @@ assign_punctuator = assign_of-punctuator
 pub assign_is : (m : punctuator.Punctuator) (s : AssignmentOperator) → assign_of m ≡ Some s → m ≡ punctuator_of_assign s
 assign_is m s e = sym (punctuator-assign_of m s e)
 
-pub assign_precedence : (s : AssignmentOperator) → punctuator_precedence (punctuator_of_assign s) ≡ 12
+pub assign_precedence : (s : AssignmentOperator) → punctuator_precedence (punctuator_of_assign s) ≡ assignment_precedence
 assign_precedence assigns.Plain = refl
 assign_precedence assigns.Multiply = refl
 assign_precedence assigns.Divide = refl
@@ -133,7 +115,7 @@ operator_is of punctuator_of back (Punctuator at m ∷ ts) s e = (at, ts, ap (λ
 pub binary_at_precedence : (ts : List Terminal) (s : BinaryOperator) → operator_at binary_of ts ≡ Some s → precedence_at ts ≡ precedence s
 binary_at_precedence ts s e = let is = operator_is binary_of punctuator_of_binary binary_is ts s e in ap precedence_at is.2 ∙ binary_precedence s
 
-pub assign_at_precedence : (ts : List Terminal) (s : AssignmentOperator) → operator_at assign_of ts ≡ Some s → precedence_at ts ≡ 12
+pub assign_at_precedence : (ts : List Terminal) (s : AssignmentOperator) → operator_at assign_of ts ≡ Some s → precedence_at ts ≡ assignment_precedence
 assign_at_precedence ts s e = let is = operator_is assign_of punctuator_of_assign assign_is ts s e in ap precedence_at is.2 ∙ assign_precedence s
 
 pub access_at_precedence : (ts : List Terminal) (s : Access) → operator_at access_of ts ≡ Some s → precedence_at ts ≡ 0

@@ -8,6 +8,7 @@ use Rattle.qs_base.specs.declared.keyword.Keyword.TheVariants as keywords
 use Rattle.qs_syntax.specs.declared.punctuator.Punctuator as punctuator
 use Rattle.qs_syntax.specs.declared.punctuator.Punctuator.TheVariants as punctuators
 use Rattle.qs_syntax.specs.Trees.{unnumbered, ExprTree, DeclarationTree, StartTree, StmtTree, expression, declaration, block, while_loop, do_loop, for_loop, return, else_by, Stmts, no_stmts, stmt_and, stmts_of, branch, no_else}
+use Rattle.qs_syntax.specs.Operators.{comma_precedence}
 use Rattle.qs_syntax.specs.Reads.{Reads, Expression, place}
 use Rattle.qs_syntax.specs.ReadsDeclarations.{ReadsDeclaration}
 use Rattle.qs_syntax.specs.ReadsStatements.{is_open, ReadsOptional, nothing_there, something_there, ReadsStart, a_start_declaration, a_start_expression, no_start_at_all, ReadsStatement, a_block, an_empty, an_expression, an_if, an_if_with_else, a_while, a_do, a_for, a_break, a_continue, a_return, ReadsItem, a_statement, a_declared, ReadsItems, no_item, an_item}
@@ -22,7 +23,7 @@ use Rattle.qs_grammar.proofs.DeclarationsComplete.{Items, nothing_more, one_more
 use Rattle.qs_grammar.proofs.StatementsSound.{NoElse}
 
 -- an expression before a punctuator
-found : {h : ℕ} {ts : List Terminal} {e : ExprTree} → Reads Expression h ts e → (m : ℕ) → h ≤ m → (at : ℕ) (k : punctuator.Punctuator) (rest : List Terminal) → 13 < precedence_at (Punctuator at k ∷ rest) → part m Expression (ts ++ Punctuator at k ∷ rest) ≡ Ok ((e, h), Punctuator at k ∷ rest)
+found : {h : ℕ} {ts : List Terminal} {e : ExprTree} → Reads Expression h ts e → (m : ℕ) → h ≤ m → (at : ℕ) (k : punctuator.Punctuator) (rest : List Terminal) → comma_precedence < precedence_at (Punctuator at k ∷ rest) → part m Expression (ts ++ Punctuator at k ∷ rest) ≡ Ok ((e, h), Punctuator at k ∷ rest)
 found {h} {ts} {e} r m le at k rest stop = finds m Expression h ts e r le (Punctuator at k ∷ rest) stop
 
 -- a keyword that begins no expression does not stand where one begins

@@ -16,8 +16,8 @@ behind_them = refl
 goes_on_with_an_operand : map punctuator_precedence (punctuators.OpenBracket ∷ punctuators.OpenParenthesis ∷ punctuators.Dot ∷ punctuators.Increment ∷ []) ≡ 0 ∷ 0 ∷ 0 ∷ 0 ∷ []
 goes_on_with_an_operand = refl
 
-ends : map punctuator_precedence (punctuators.Semicolon ∷ punctuators.CloseParenthesis ∷ punctuators.Tilde ∷ []) ≡ 20 ∷ 20 ∷ 20 ∷ []
+ends : map punctuator_precedence (punctuators.Semicolon ∷ punctuators.CloseParenthesis ∷ punctuators.Tilde ∷ []) ≡ 14 ∷ 14 ∷ 14 ∷ []
 ends = refl
 
-at_the_end : precedence_at [] ≡ 20
+at_the_end : precedence_at [] ≡ 14
 at_the_end = refl

@@ -1,77 +1,55 @@
--- The precedence of the token behind an expression: 0 for what goes on with an operand, 1 to 10 for the operators between operands, 11 for
--- `?`, 12 for the assignments, 13 for the comma, and more where it goes on with no expression.
-use Rattle.std.specs.Prelude.{ℕ, List, [], ◌∷◌, ◌<◌}
+-- The precedence of the token behind an expression: 0 where it goes on with an operand, that of the operator that it is or begins, and more than
+-- any where it goes on with no expression.
+use Rattle.std.specs.Prelude.{ℕ, List, [], ◌∷◌, ◌<◌, if◌then◌else◌, Option, Some, None}
+use Rattle.std.specs.List.{list_any}
 use Rattle.qs_syntax.specs.declared.terminal.Terminal.{Terminal}
 use Rattle.qs_syntax.specs.declared.terminal.Terminal.TheVariants.{Name, Keyword, Constant, Text, Punctuator}
 use Rattle.qs_syntax.specs.declared.punctuator.Punctuator as punctuator
 use Rattle.qs_syntax.specs.declared.punctuator.Punctuator.TheVariants as punctuators
+use Rattle.qs_syntax.specs.declared.operators.AssignmentOperator.{AssignmentOperator}
+use Rattle.qs_syntax.specs.declared.operators.BinaryOperator.{BinaryOperator}
+use Rattle.qs_syntax.specs.Operators.{assign_of, assignment_precedence, binary_of, comma_precedence, conditional_precedence, no_precedence, precedence}
+use Rattle.qs_syntax.specs.Punctuators.{same_punctuator}
 use Rattle.qs_syntax.specs.Reads.{Form, Postfix, Unary, Level, Conditional, Assignment, Expression}
 
+-- what goes on with an operand
+abbrev pub suffix_punctuators : List punctuator.Punctuator
+suffix_punctuators = punctuators.OpenBracket ∷ punctuators.OpenParenthesis ∷ punctuators.Dot ∷ punctuators.Arrow ∷ punctuators.Increment ∷ punctuators.Decrement ∷ []
+
+-- of what is neither an operator between two operands nor an assignment
+abbrev pub other_precedence : punctuator.Punctuator → ℕ
+other_precedence m =
+    if list_any (same_punctuator m) suffix_punctuators then 0
+    else if same_punctuator m punctuators.Question then conditional_precedence
+    else if same_punctuator m punctuators.Comma then comma_precedence
+    else no_precedence
+
+abbrev pub precedence_by : punctuator.Punctuator → Option BinaryOperator → Option AssignmentOperator → ℕ
+precedence_by m (Some operator) assignment = precedence operator
+precedence_by m None (Some assignment) = assignment_precedence
+precedence_by m None None = other_precedence m
+
 abbrev pub punctuator_precedence : punctuator.Punctuator → ℕ
-punctuator_precedence punctuators.OpenBracket = 0
-punctuator_precedence punctuators.CloseBracket = 20
-punctuator_precedence punctuators.OpenParenthesis = 0
-punctuator_precedence punctuators.CloseParenthesis = 20
-punctuator_precedence punctuators.OpenBrace = 20
-punctuator_precedence punctuators.CloseBrace = 20
-punctuator_precedence punctuators.Dot = 0
-punctuator_precedence punctuators.Arrow = 0
-punctuator_precedence punctuators.Increment = 0
-punctuator_precedence punctuators.Decrement = 0
-punctuator_precedence punctuators.Ampersand = 6
-punctuator_precedence punctuators.Star = 1
-punctuator_precedence punctuators.Plus = 2
-punctuator_precedence punctuators.Minus = 2
-punctuator_precedence punctuators.Tilde = 20
-punctuator_precedence punctuators.Exclamation = 20
-punctuator_precedence punctuators.Slash = 1
-punctuator_precedence punctuators.Percent = 1
-punctuator_precedence punctuators.ShiftLeft = 3
-punctuator_precedence punctuators.ShiftRight = 3
-punctuator_precedence punctuators.Less = 4
-punctuator_precedence punctuators.Greater = 4
-punctuator_precedence punctuators.LessEqual = 4
-punctuator_precedence punctuators.GreaterEqual = 4
-punctuator_precedence punctuators.Equal = 5
-punctuator_precedence punctuators.NotEqual = 5
-punctuator_precedence punctuators.Caret = 7
-punctuator_precedence punctuators.Bar = 8
-punctuator_precedence punctuators.AndAnd = 9
-punctuator_precedence punctuators.OrOr = 10
-punctuator_precedence punctuators.Question = 11
-punctuator_precedence punctuators.Colon = 20
-punctuator_precedence punctuators.Semicolon = 20
-punctuator_precedence punctuators.Assign = 12
-punctuator_precedence punctuators.MultiplyAssign = 12
-punctuator_precedence punctuators.DivideAssign = 12
-punctuator_precedence punctuators.RemainderAssign = 12
-punctuator_precedence punctuators.AddAssign = 12
-punctuator_precedence punctuators.SubtractAssign = 12
-punctuator_precedence punctuators.ShiftLeftAssign = 12
-punctuator_precedence punctuators.ShiftRightAssign = 12
-punctuator_precedence punctuators.AndAssign = 12
-punctuator_precedence punctuators.XorAssign = 12
-punctuator_precedence punctuators.OrAssign = 12
-punctuator_precedence punctuators.Comma = 13
+punctuator_precedence m = precedence_by m (binary_of m) (assign_of m)
 
 abbrev pub terminal_precedence : Terminal → ℕ
-terminal_precedence (Name at x) = 20
-terminal_precedence (Keyword at k) = 20
-terminal_precedence (Constant at n unsigned) = 20
+terminal_precedence (Name at x) = no_precedence
+terminal_precedence (Keyword at k) = no_precedence
+terminal_precedence (Constant at n unsigned) = no_precedence
 terminal_precedence (Text at bytes) = 0
 terminal_precedence (Punctuator at m) = punctuator_precedence m
 
 abbrev pub precedence_at : List Terminal → ℕ
-precedence_at [] = 20
+precedence_at [] = no_precedence
 precedence_at (t ∷ ts) = terminal_precedence t
 
 abbrev pub precedence_of : Form → ℕ
 precedence_of Postfix = 0
 precedence_of Unary = 0
 precedence_of (Level j) = j
-precedence_of Conditional = 11
-precedence_of Assignment = 12
-precedence_of Expression = 13
+precedence_of Conditional = conditional_precedence
+precedence_of Assignment = assignment_precedence
+precedence_of Expression = comma_precedence
 
 -- the tokens do not go on with what is read as this form
 abbrev pub Stops : Form → List Terminal → Type 0

@@ -4,8 +4,8 @@ use Rattle.std.proofs.lemmas.List.{length-take-le}
 use Rattle.std.proofs.lemmas.Bool.Decides.{nat_tests}
 use Rattle.std.specs.List.{list_all, prefix_len}
 use Rattle.std.proofs.lemmas.List.Sums.{prefix_len-le-length}
-use Rattle.qs_base.specs.Bytes.{is_digit}
-use Rattle.qs_lexer.specs.Bytes.{blanks_then_digit, digit_after_blanks, is_blank, is_empty, is_in_line, is_space, starts, starts_with}
+use Rattle.qs_base.specs.Bytes.{is_digit, is_in_line}
+use Rattle.qs_lexer.specs.Bytes.{blanks_then_digit, digit_after_blanks, is_blank, is_empty, is_space, starts, starts_with}
 use Rattle.qs_lexer.specs.Ends.{closes, comment_turn, end_of}
 use Rattle.qs_lexer.specs.Scan.{Opens}
 use Rattle.qs_lexer.specs.Pieces.{NoFront, Stands, has_form, piece_without, still_fresh}

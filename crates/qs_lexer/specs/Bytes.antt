@@ -1,5 +1,5 @@
 -- Classes of bytes (C11 5.2.1), and lists of bytes that begin or are built in a certain way.
-use Rattle.std.specs.Prelude.{ℕ, Bool, true, false, ◌&&◌, ◌||◌, not, List, [], ◌∷◌, ◌==◌, if◌then◌else◌}
+use Rattle.std.specs.Prelude.{ℕ, Bool, true, false, ◌&&◌, ◌||◌, List, [], ◌∷◌, ◌==◌, if◌then◌else◌}
 use Rattle.std.specs.List.{list_all}
 use Rattle.qs_base.specs.Bytes.{is_between, is_digit, is_word_byte}
 
@@ -14,10 +14,6 @@ is_blank byte = byte == 32 || byte == 9
 -- blank, tab, 0x0A, 0x0B, 0x0C, 0x0D
 abbrev pub is_space : ℕ → Bool
 is_space byte = byte == 32 || is_between 9 13 byte
-
--- not the end of a line
-abbrev pub is_in_line : ℕ → Bool
-is_in_line byte = not (byte == 10)
 
 abbrev pub is_empty : List ℕ → Bool
 is_empty [] = true

@@ -1,9 +1,9 @@
 -- What stands first in the rest of a text (C11 6.4): white space, a token or a fault.
 use Rattle.std.specs.Prelude.{◌≡◌, ℕ, ◌<◌, ◌≤◌, ◌⊎◌, Bool, true, false, ◌&&◌, ◌||◌, List, [], ◌∷◌, length, take, drop, ◌==◌, if◌then◌else◌, is_some, Result, Ok, Err}
 use Rattle.std.specs.List.{list_all}
-use Rattle.qs_base.specs.Bytes.{is_digit, is_letter}
+use Rattle.qs_base.specs.Bytes.{is_digit, is_in_line, is_letter}
 use Rattle.qs_base.specs.Names.{is_word}
-use Rattle.qs_lexer.specs.Bytes.{blanks_then_digit, first_then, is_blank, is_empty, is_in_line, is_number_byte, is_space, starts, starts_with}
+use Rattle.qs_lexer.specs.Bytes.{blanks_then_digit, first_then, is_blank, is_empty, is_number_byte, is_space, starts, starts_with}
 use Rattle.qs_lexer.specs.Ends.{closes, comment_turn, quote_turn}
 use Rattle.qs_lexer.specs.Literals.{character_of, text_of}
 use Rattle.qs_lexer.specs.Numbers.{number_of}

@@ -2,7 +2,7 @@
 ghost use Rattle.std.specs.Prelude.{◌≡◌};
 ghost use Rattle.std.specs.List.{prefix_len};
 ghost use Rattle.qs_base.specs.Bytes.{is_word_byte};
-ghost use Rattle.qs_lexer.specs.Bytes.{blanks_then_digit, digit_after_blanks, is_blank, is_in_line};
+ghost use Rattle.qs_lexer.specs.Bytes.{blanks_then_digit, digit_after_blanks, is_blank};
 ghost use Rattle.qs_lexer.specs.Bytes.{is_number_byte, is_space, starts, starts_with};
 
 use qs_base::{is_between, is_digit, is_word_byte};
@@ -55,12 +55,6 @@ pub fn number_length(rest: &[u8]) -> usize
     rest.iter()
         .take_while(|byte| is_number_byte(**byte))
         .count()
-}
-
-pub fn line_length(rest: &[u8]) -> usize
-    ensures { result ≡ prefix_len is_in_line rest.now }
-{
-    rest.iter().take_while(|byte| **byte != b'\n').count()
 }
 
 fn digit_after_blanks(bytes: &[u8]) -> bool

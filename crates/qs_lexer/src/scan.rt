@@ -6,13 +6,14 @@ ghost use Rattle.qs_lexer.specs.Scan.{Opens, punctuator_front};
 ghost use Rattle.qs_lexer.specs.Pieces.{Next, Stands, still_fresh, token_or_fault};
 ghost use Rattle.qs_lexer.specs.declared.pieces.Class.TheVariants as class;
 
-use crate::bytes::{blanks_then_digit, is_blank, line_length, number_length, word_length};
+use crate::bytes::{blanks_then_digit, is_blank, number_length, word_length};
 use crate::ends::{comment_end, quote_end};
 use crate::fault::FaultKind;
 use crate::literals::{character_of, text_of};
 use crate::numbers::number_of;
 use crate::pieces::{Class, Piece, class_of};
 use crate::words::word_of;
+use qs_base::line_length;
 use qs_syntax::{Punctuator, TokenKind};
 
 fn token_or_fault(n: usize, kind: Result<TokenKind, FaultKind>) -> Piece

@@ -2,7 +2,7 @@
 -- conditional expression, as an assignment and as a comma (C11 6.5.2 to 6.5.17).
 use Rattle.std.specs.Prelude.{ℕ, ◌+◌, if◌then◌else◌}
 use Rattle.qs_syntax.specs.declared.operators.StepOperator.{StepOperator}
-use Rattle.qs_syntax.specs.Operators.{precedence, stands_before}
+use Rattle.qs_syntax.specs.Operators.{assignment_precedence, comma_precedence, conditional_precedence, precedence, stands_before, weakest}
 use Rattle.qs_syntax.specs.Trees.{ExprTree, expr, ShapeTree, constant, text, name, unary, step, cast, sizeof_type, sizeof_expr, binary, assign, conditional, comma, subscript, member, call}
 
 abbrev pub postfix_level : ℕ
@@ -15,16 +15,16 @@ abbrev pub cast_level : ℕ
 cast_level = 2
 
 abbrev pub or_level : ℕ
-or_level = 12
+or_level = weakest + cast_level
 
 abbrev pub conditional_level : ℕ
-conditional_level = 13
+conditional_level = conditional_precedence + cast_level
 
 abbrev pub assignment_level : ℕ
-assignment_level = 14
+assignment_level = assignment_precedence + cast_level
 
 abbrev pub comma_level : ℕ
-comma_level = 15
+comma_level = comma_precedence + cast_level
 
 abbrev pub step_level : StepOperator → ℕ
 step_level operator = if stands_before operator then unary_level else postfix_level

@@ -3,7 +3,10 @@ ghost use Rattle.std.specs.Prelude.{◌≡◌};
 ghost use Rattle.qs_print.specs.Levels.{level, shape_level, step_level};
 ghost use Rattle.qs_syntax.specs.TreeOf.{expr_tree, shape_tree};
 
-use qs_syntax::{Expr, Shape, StepOperator};
+use qs_syntax::{
+    ASSIGNMENT_PRECEDENCE, COMMA_PRECEDENCE, CONDITIONAL_PRECEDENCE, Expr, Shape, StepOperator,
+    WEAKEST,
+};
 
 /// The level of a postfix expression.
 pub const POSTFIX: u32 = 0;
@@ -15,16 +18,16 @@ pub const UNARY: u32 = 1;
 pub const CAST: u32 = 2;
 
 /// The level of `||`.
-pub const OR: u32 = 12;
+pub const OR: u32 = WEAKEST + CAST;
 
 /// The level of a conditional expression.
-pub const CONDITIONAL: u32 = 13;
+pub const CONDITIONAL: u32 = CONDITIONAL_PRECEDENCE + CAST;
 
 /// The level of an assignment.
-pub const ASSIGNMENT: u32 = 14;
+pub const ASSIGNMENT: u32 = ASSIGNMENT_PRECEDENCE + CAST;
 
 /// The level of a comma.
-pub const COMMA: u32 = 15;
+pub const COMMA: u32 = COMMA_PRECEDENCE + CAST;
 
 /// The level of a step: behind its operand that of a postfix expression, and before it that of a
 /// unary one.

@@ -1,5 +1,5 @@
 -- Classes of bytes.
-use Rattle.std.specs.Prelude.{ℕ, Bool, ◌||◌, not, ◌==◌}
+use Rattle.std.specs.Prelude.{ℕ, Bool, ◌||◌, ◌==◌}
 use Rattle.qs_base.specs.Bytes.{is_digit, is_letter}
 
 -- blank, tab, 0x0D and 0x0A
@@ -21,7 +21,3 @@ is_symbol_byte byte = starts_symbol byte || is_digit byte || byte == 35
 -- a byte of symbols, or `-`
 abbrev pub is_atom_byte : ℕ → Bool
 is_atom_byte byte = is_symbol_byte byte || byte == 45
-
--- any byte but 0x0A, which ends a line
-abbrev pub is_in_line : ℕ → Bool
-is_in_line byte = not (byte == 10)

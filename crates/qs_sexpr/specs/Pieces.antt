@@ -1,7 +1,8 @@
 -- What a text begins with: white space, a parenthesis or an atom. An atom is the longest run of letters, digits, `_`, `$`, `#` and `-`; where it begins with a digit or `-` it is a number, else a symbol: a letter, `_` or `$`, and then letters, digits, `_`, `$` and `#`.
 use Rattle.std.specs.Prelude.{ℕ, ◌+◌, ℤ, not, List, ◌∷◌, length, take, ◌==◌, if◌then◌else◌, Option, Some, None}
 use Rattle.std.specs.List.{prefix_len}
-use Rattle.qs_sexpr.specs.Bytes.{is_atom_byte, is_in_line, is_space, is_symbol_byte, starts_number, starts_symbol}
+use Rattle.qs_base.specs.Bytes.{is_in_line}
+use Rattle.qs_sexpr.specs.Bytes.{is_atom_byte, is_space, is_symbol_byte, starts_number, starts_symbol}
 use Rattle.qs_sexpr.specs.Numbers.{number_of}
 use Rattle.qs_sexpr.specs.declared.pieces.Piece.{Piece}
 use Rattle.qs_sexpr.specs.declared.pieces.Piece.TheVariants.{White, Open, Close, Number, Symbol, BadByte, BadNumber}

@@ -1,7 +1,7 @@
 // Classes of bytes, and how far they go.
 ghost use Rattle.std.specs.Prelude.{◌≡◌, ◌≤◌, length};
 ghost use Rattle.std.specs.List.{prefix_len};
-ghost use Rattle.qs_sexpr.specs.Bytes.{is_atom_byte, is_in_line, is_space, is_symbol_byte};
+ghost use Rattle.qs_sexpr.specs.Bytes.{is_atom_byte, is_space, is_symbol_byte};
 ghost use Rattle.qs_sexpr.specs.Bytes.{starts_number, starts_symbol};
 
 use qs_base::{is_digit, is_letter};
@@ -34,13 +34,6 @@ pub fn is_atom_byte(byte: u8) -> bool
     ensures { result ≡ is_atom_byte byte }
 {
     is_symbol_byte(byte) || byte == b'-'
-}
-
-/// How many bytes the line still has.
-pub fn line_length(rest: &[u8]) -> usize
-    ensures { result ≡ prefix_len is_in_line rest.now }
-{
-    rest.iter().take_while(|byte| **byte != b'\n').count()
 }
 
 /// How many bytes of atoms stand first.

@@ -3,9 +3,10 @@ ghost use Rattle.std.specs.Prelude.{◌≡◌, ◌∷◌, ◌+◌, ◌<◌, ◌^
 ghost use Rattle.qs_sexpr.specs.Pieces.{atom, first_piece};
 
 use crate::bytes::{
-    atom_length, is_atom_byte, is_space, line_length, starts_number, starts_symbol, symbol_length,
+    atom_length, is_atom_byte, is_space, starts_number, starts_symbol, symbol_length,
 };
 use crate::numbers::number_of;
+use qs_base::line_length;
 
 /// What a text begins with. The first number is that of its bytes after the first.
 #[derive(Clone, Copy)]

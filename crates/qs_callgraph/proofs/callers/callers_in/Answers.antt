@@ -26,5 +26,5 @@ loop-i-preserved c =
     added_more graph (number_lists c.loop-i.callers.items) _ c.loop-i.i gs c.loop-i.invariant here
     (λ g m. let b = c.requires c.loop-i.i g (subst (λ (xs : List ℕ). is_member g xs ≡ true) here m) in omega (arith, b, all))
     (ap number_lists (written_back c.loop-i.callers c.add_caller.new.callers c.deref_mut.result.now c.add_caller.auto.callers c.deref_mut.ensures.value)
-    ∙ c.in_ok-add_caller.ensures ∙ ap (λ (f : ℕ). with_caller f gs (number_lists c.deref_mut.result.now)) c.in_ok-function.ensures
+    ∙ c.in_ok-add_caller.ensures ∙ ap (λ (f : ℕ). with_caller f gs (number_lists c.deref_mut.result.now)) c.in_ok-at.ensures
     ∙ ap (λ cs. with_caller c.loop-i.i gs (number_lists cs)) c.deref_mut.ensures.value)

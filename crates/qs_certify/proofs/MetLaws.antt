@@ -7,7 +7,8 @@ use Rattle.qs_core.specs.Trees.{CoreUnitTree}
 use Rattle.qs_triples.specs.Derivations.{EntryTree, ProofsTree, entry_of}
 use Rattle.qs_triples.specs.Entries.{has_entry, function_fault}
 use Rattle.qs_triples.specs.Filled.{Filled}
-use Rattle.qs_triples.specs.Rules.{DerivationFault, no_spec, bad_order}
+use Rattle.qs_triples.specs.Rules as rules
+use Rattle.qs_triples.specs.Rules.{no_spec, bad_order}
 use Rattle.qs_triples.specs.Told.{IsDue}
 use Rattle.qs_triples.specs.declared.fault.DerivFault.{DerivFault}
 use Rattle.qs_triples.specs.declared.fault.DerivFault.TheVariants as faults
@@ -27,7 +28,7 @@ use Rattle.qs_certify.proofs.CompletedLaws.{has_member}
 -- ---- the first entry that isn't derived
 
 -- a fault of this function, which is one of these
-pub record IsOne (u : CoreUnitTree) (proofs : ProofsTree) (fs : List ℕ) (f : ℕ) (fault : DerivationFault) : Type 0 where
+pub record IsOne (u : CoreUnitTree) (proofs : ProofsTree) (fs : List ℕ) (f : ℕ) (fault : rules.DerivFault) : Type 0 where
   pub is : function_fault u proofs f ≡ Some fault
   pub there : is_member f fs ≡ true
 
@@ -36,7 +37,7 @@ first_is_one u proofs [] e h = cc
 first_is_one u proofs (g ∷ fs) e h = by (function_fault u proofs g) refl h (first_is_one u proofs fs e)
   where
     by :
-        (o : Option DerivationFault) → function_fault u proofs g ≡ o → fault_or_next g o (first_fault u proofs fs) ≡ Some e
+        (o : Option rules.DerivFault) → function_fault u proofs g ≡ o → fault_or_next g o (first_fault u proofs fs) ≡ Some e
         → (first_fault u proofs fs ≡ Some e → IsOne u proofs fs e.function e.fault) → IsOne u proofs (g ∷ fs) e.function e.fault
     by None is h others = let one = others h in record { is = one.is; there = or_right (g == e.function) (is_member e.function fs) one.there }
     by (Some d) is h others =
@@ -54,7 +55,7 @@ given_known u given proofs filled f has =
 
 -- ---- faults that are met
 
-told_met : (told : DerivFault) (fault : DerivationFault) → IsDue told (Some fault) → is_met fault ≡ true → IsMet told
+told_met : (told : DerivFault) (fault : rules.DerivFault) → IsDue told (Some fault) → is_met fault ≡ true → IsMet told
 told_met faults.NoMemory fault h m = tt
 told_met (faults.Shape path) fault h m = tt
 told_met (faults.Mentions place g x) fault h m = tt

@@ -13,7 +13,7 @@ use Rattle.qs_poly.proofs.Ring.{mul_assoc, mul_not_negative}
 use Rattle.qs_poly.proofs.ValueLaws.{number_value, single_value}
 use Rattle.qs_entail.specs.Certificates.{Item, once, twice}
 use Rattle.qs_base.specs.Results.{bind}
-use Rattle.qs_entail.specs.Building.{Failure, limited, term_polynomial, is_plain, all_plain, assertion_polynomial, total_onto, factors_onto, at, item_polynomial, item_polynomials, sum_all, combination, two_combinations, Two}
+use Rattle.qs_entail.specs.Building.{Stop, limited, term_polynomial, is_plain, all_plain, assertion_polynomial, total_onto, factors_onto, at, item_polynomial, item_polynomials, sum_all, combination, two_combinations, Two}
 use Rattle.qs_entail.proofs.Built.{both, bind_ok, limited_value, limited_sum_value, limited_product_value, limited_multiple_value, term_polynomial_value}
 
 -- an assertion whose value is the number that a polynomial has
@@ -129,7 +129,7 @@ items_not_negative (item ∷ items) l ps s h e =
     let y = items_not_negative items l b.0 s h b.1.0 in
     joined a.0 b.0 ps b.1.1 x y
   where
-    joined : (p : Polynomial) (qs rs : List Polynomial) → (let made : Result (List Polynomial) Failure = Ok (p ∷ qs) in made) ≡ Ok rs → pos 0 ≤ℤ polynomial_value p s → AllNotNegative s qs → AllNotNegative s rs
+    joined : (p : Polynomial) (qs rs : List Polynomial) → (let made : Result (List Polynomial) Stop = Ok (p ∷ qs) in made) ≡ Ok rs → pos 0 ≤ℤ polynomial_value p s → AllNotNegative s qs → AllNotNegative s rs
     joined p qs [] h x y = tt
     joined p qs (r ∷ rs) h x y =
         let e : p ≡ r = cc in
@@ -162,10 +162,10 @@ two_not_negative v w l z s h e =
     let g : d.0 ≡ z.second = ap second_of_two made in
     (let k = ap (λ p. polynomial_value p s) f in omega (arith, ints, k, x), let k = ap (λ p. polynomial_value p s) g in omega (arith, ints, k, y))
   where
-    first_of_two : Result Two Failure → Polynomial
+    first_of_two : Result Two Stop → Polynomial
     first_of_two (Ok t) = t.first
     first_of_two (Err failure) = nothing
 
-    second_of_two : Result Two Failure → Polynomial
+    second_of_two : Result Two Stop → Polynomial
     second_of_two (Ok t) = t.second
     second_of_two (Err failure) = nothing

@@ -17,7 +17,7 @@ use Rattle.qs_poly.proofs.Equality.{polynomial_equal}
 use Rattle.qs_poly.proofs.ValueLaws.{lessened_value, number_value, single_value}
 use Rattle.qs_entail.specs.Certificates.{Item, FactTree, range, cost_range, apart, num_is, num_bounds, wrapu_is, wraps_is, wrapu_bounds, wraps_bounds, quotient_bounds, bits_bound, bits_half, bits_rise}
 use Rattle.qs_base.specs.Results.{bind}
-use Rattle.qs_entail.specs.Building.{Failure, limited, difference, term_polynomial, combination, two_combinations}
+use Rattle.qs_entail.specs.Building.{Stop, limited, difference, term_polynomial, combination, two_combinations}
 use Rattle.qs_entail.specs.Pushing.{Known}
 use Rattle.qs_entail.specs.Facts.{least, greatest_of_type, Sides, equal_sides, different_sides, condition_at, condition, added}
 use Rattle.qs_entail.specs.Verdicts.{fact_stands, outlined}
@@ -82,14 +82,14 @@ one_less m z l e f h = omega (arith, ints, e, f, h)
 
 -- ---- the facts
 
-one : (a : Polynomial) (ps : List Polynomial) (s : State) → (let r : Result (List Polynomial) Failure = Ok (a ∷ []) in r) ≡ Ok ps → pos 0 ≤ℤ polynomial_value a s → AllNotNegative s ps
+one : (a : Polynomial) (ps : List Polynomial) (s : State) → (let r : Result (List Polynomial) Stop = Ok (a ∷ []) in r) ≡ Ok ps → pos 0 ≤ℤ polynomial_value a s → AllNotNegative s ps
 one a ps s e h = subst (λ ps. AllNotNegative s ps) (made (a ∷ []) ps e) (h, tt)
 
-two : (a b : Polynomial) (ps : List Polynomial) (s : State) → (let r : Result (List Polynomial) Failure = Ok (a ∷ b ∷ []) in r) ≡ Ok ps → pos 0 ≤ℤ polynomial_value a s → pos 0 ≤ℤ polynomial_value b s → AllNotNegative s ps
+two : (a b : Polynomial) (ps : List Polynomial) (s : State) → (let r : Result (List Polynomial) Stop = Ok (a ∷ b ∷ []) in r) ≡ Ok ps → pos 0 ≤ℤ polynomial_value a s → pos 0 ≤ℤ polynomial_value b s → AllNotNegative s ps
 two a b ps s e h k = subst (λ ps. AllNotNegative s ps) (made (a ∷ b ∷ []) ps e) (h, (k, tt))
 
 -- the differences of polynomials of equal value
-same_both : (p q a b : Polynomial) (ps : List Polynomial) (s : State) → (let r : Result (List Polynomial) Failure = Ok (a ∷ b ∷ []) in r) ≡ Ok ps → difference p q ≡ Ok a → difference q p ≡ Ok b → polynomial_value p s ≡ polynomial_value q s → AllNotNegative s ps
+same_both : (p q a b : Polynomial) (ps : List Polynomial) (s : State) → (let r : Result (List Polynomial) Stop = Ok (a ∷ b ∷ []) in r) ≡ Ok ps → difference p q ≡ Ok a → difference q p ≡ Ok b → polynomial_value p s ≡ polynomial_value q s → AllNotNegative s ps
 same_both p q a b ps s e h k same =
     let x = difference_value p q a s h in
     let y = difference_value q p b s k in

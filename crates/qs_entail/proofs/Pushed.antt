@@ -11,7 +11,7 @@ use Rattle.qs_assert.specs.Values.{State, term_value, holds, all_hold, some_hold
 use Rattle.qs_poly.specs.Polynomials.{Polynomial}
 use Rattle.qs_poly.specs.Operations.{lessened}
 use Rattle.qs_base.specs.Results.{bind}
-use Rattle.qs_entail.specs.Building.{Failure, limited, difference, term_polynomial}
+use Rattle.qs_entail.specs.Building.{Stop, limited, difference, term_polynomial}
 use Rattle.qs_entail.specs.Pushing.{Known, with_condition, with_polynomials, push_le, push_lt, push_eq, push, push_not, push_all, push_nots, push_list}
 use Rattle.qs_entail.proofs.Built.{both, bind_ok, difference_value, limited_lessened_value, term_polynomial_value}
 use Rattle.qs_entail.proofs.Assertions.{IsNotNegative, AllNotNegative}
@@ -67,7 +67,7 @@ neither false b h = (refl, h)
 
 -- ---- pushes
 
-pub made : {A : Type 0} (a b : A) → (let r : Result A Failure = Ok a in r) ≡ Ok b → a ≡ b
+pub made : {A : Type 0} (a b : A) → (let r : Result A Stop = Ok a in r) ≡ Ok b → a ≡ b
 made a b h = cc
 
 push_le_holds : (t u : TermTree) (k k' : Known) (s : State) → push_le t u k ≡ Ok k' → holds (le t u) s ≡ true → Holds k s → Holds k' s
@@ -109,7 +109,7 @@ push_eq_holds t u k k' s e h o =
     subst (λ k. Holds k s) z
     (more_polynomials (c.0 ∷ f.0 ∷ []) (with_condition (eq t u) k) s (more_condition (eq t u) k s o h) (omega (arith, ints, x, y, v, i), (omega (arith, ints, x, y, w, i), tt)))
 
-kept : (c : CondTree) (k k' : Known) (s : State) → (let r : Result Known Failure = Ok (with_condition c k) in r) ≡ Ok k' → holds c s ≡ true → Holds k s → Holds k' s
+kept : (c : CondTree) (k k' : Known) (s : State) → (let r : Result Known Stop = Ok (with_condition c k) in r) ≡ Ok k' → holds c s ≡ true → Holds k s → Holds k' s
 kept c k k' s e h o = subst (λ k. Holds k s) (made (with_condition c k) k' e) (more_condition c k s o h)
 
 negated : (c : CondTree) (s : State) → holds c s ≡ false → holds (not c) s ≡ true

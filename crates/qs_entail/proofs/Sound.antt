@@ -17,10 +17,10 @@ use Rattle.qs_poly.specs.Values.{polynomial_value}
 use Rattle.qs_poly.proofs.ValueLaws.{number_value}
 use Rattle.qs_entail.specs.Certificates.{Item, CertTree, same, via, pick, all, parts, assume, drop, split, contradict, arithmetic, by_definition, fact, CertTrees, no_certs, cert_and}
 use Rattle.qs_base.specs.Results.{bind}
-use Rattle.qs_entail.specs.Building.{Failure, difference, combination, is_plain, assertion_polynomial}
+use Rattle.qs_entail.specs.Building.{Stop, difference, combination, is_plain, assertion_polynomial}
 use Rattle.qs_entail.specs.Pushing.{Known, at_first, with_polynomials, push, push_list}
 use Rattle.qs_entail.specs.Facts.{added}
-use Rattle.qs_entail.specs.Faults.{Fault, step, node, part, done, member, member_at, members_of, summands_of, Guarded, guarded_of, count, count_certs, branch, unfolded, definition, contradiction, arithmetic_holds}
+use Rattle.qs_entail.specs.Faults.{CertFault, step, node, part, done, member, member_at, members_of, summands_of, Guarded, guarded_of, count, count_certs, branch, unfolded, definition, contradiction, arithmetic_holds}
 use Rattle.qs_entail.specs.Verdicts.{are_counted, has_count, stands, outline_list, rule_of, outlined, outlined_first, rest, faults_all, faults_parts, fault}
 use Rattle.qs_entail.specs.Meaning.{AtLeast, InRange, defined_by, IsSound}
 use Rattle.qs_entail.proofs.Built.{bind_ok, require_ok, difference_value}
@@ -35,20 +35,20 @@ use Rattle.qs_entail.proofs.Definitions.{names_given, still_in_range}
 
 -- ---- verdicts without a fault
 
-node_none : {A : Type 0} (rule : Rule) (r : Result A Failure) (f : A → Option Fault) → node rule r f ≡ None → (a : A) × ((r ≡ Ok a) × (f a ≡ None))
+node_none : {A : Type 0} (rule : Rule) (r : Result A Stop) (f : A → Option CertFault) → node rule r f ≡ None → (a : A) × ((r ≡ Ok a) × (f a ≡ None))
 node_none rule (Ok a) f h = (a, (refl, h))
 node_none rule (Err failure) f h = cc
 
-first_none : (v u : Option Fault) → option_or v u ≡ None → (v ≡ None) × (u ≡ None)
+first_none : (v u : Option CertFault) → option_or v u ≡ None → (v ≡ None) × (u ≡ None)
 first_none None u h = (refl, h)
 first_none (Some f) u h = cc
 
-begun_none : (b : Bool) (v : Option Fault) (f : Fault) → (if b then v else Some f) ≡ None → (b ≡ true) × (v ≡ None)
+begun_none : (b : Bool) (v : Option CertFault) (f : CertFault) → (if b then v else Some f) ≡ None → (b ≡ true) × (v ≡ None)
 begun_none true v f h = (refl, h)
 begun_none false v f h = cc
 
 -- a part without a fault
-part_none : (i : ℕ) (b : Bool) (v : Option Fault) (f : Fault) → part i (if b then v else Some f) ≡ None → (b ≡ true) × (v ≡ None)
+part_none : (i : ℕ) (b : Bool) (v : Option CertFault) (f : CertFault) → part i (if b then v else Some f) ≡ None → (b ≡ true) × (v ≡ None)
 part_none i true None f h = (refl, refl)
 part_none i true (Some g) f h = cc
 part_none i false v f h = cc
@@ -131,8 +131,8 @@ abbrev Fits : List Define → State → Type 0
 Fits ds s = (n : List ℕ) (body : AssertionTree) → definition ds n ≡ Ok body → or_infinite (s.names n) ≡ value body s
 
 -- as many as are wanted
-counted : (n : ℕ) (r : Result AssertionTrees Failure) (ms : AssertionTrees) → r ≡ Ok ms → has_count n (bind r (λ parts. Ok (count parts))) ≡ true → n ≡ count ms
-counted n r ms e h = same_count n (count ms) (sym (ap (λ (x : Result AssertionTrees Failure). has_count n (bind x (λ parts. Ok (count parts)))) e) ∙ h)
+counted : (n : ℕ) (r : Result AssertionTrees Stop) (ms : AssertionTrees) → r ≡ Ok ms → has_count n (bind r (λ parts. Ok (count parts))) ≡ true → n ≡ count ms
+counted n r ms e h = same_count n (count ms) (sym (ap (λ (x : Result AssertionTrees Stop). has_count n (bind x (λ parts. Ok (count parts)))) e) ∙ h)
 
 mutual
   sound : (c : CertTree) (ds : List Define) (k : Known) (p q : AssertionTree) → stands c ds (outlined k) p q ≡ true → rest c ds k p q ≡ None → (s : State) → InRange s → Fits ds s → Holds k s → AtLeast (value p s) (value q s)

@@ -76,7 +76,7 @@ mention_none : (place : Place) (o : Option Var) → mentions_fault place o ≡ N
 mention_none place None h = refl
 mention_none place (Some x) h = cc
 
-entry_none : (o : Option certificates.Fault) → entry_told o ≡ None → o ≡ None
+entry_none : (o : Option certificates.CertFault) → entry_told o ≡ None → o ≡ None
 entry_none None h = refl
 entry_none (Some fault) h = cc
 

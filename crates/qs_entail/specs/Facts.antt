@@ -12,14 +12,18 @@ use Rattle.qs_base.specs.Results.{bind, require}
 use Rattle.qs_entail.specs.Building.{Stop, breaks, limited, difference, term_polynomial, combination, two_combinations}
 use Rattle.qs_entail.specs.Pushing.{Known}
 
+-- how many numbers of type int are below 0
+abbrev pub ints_below_zero : ℕ
+ints_below_zero = 2 ^ 31
+
 -- the least and the greatest number of a type (C11 6.2.5 and 6.2.6.2)
 abbrev pub least : NumberType → ℤ
-least Int = negsuc (2 ^ 31 - 1)
+least Int = negsuc (ints_below_zero - 1)
 least Unsigned = pos 0
 least Char = pos 0
 
 abbrev pub greatest_of_type : NumberType → ℤ
-greatest_of_type Int = pos (2 ^ 31 - 1)
+greatest_of_type Int = pos (ints_below_zero - 1)
 greatest_of_type Unsigned = pos (2 ^ 32 - 1)
 greatest_of_type Char = pos 255
 
@@ -92,27 +96,27 @@ added (num_bounds t) k =
     Ok (single (poly.num p) ∷ a ∷ [])))
 added (wrapu_is t v w) k =
     bind (term_polynomial t) (λ p.
-    bind (difference (number (pos 4294967295)) p) (λ room.
+    bind (difference (number (greatest_of_type Unsigned)) p) (λ room.
     bind (two_combinations v w k.polynomials) (λ z.
     bind (difference (single (poly.wrapu p)) p) (λ a.
     bind (difference p (single (poly.wrapu p))) (λ b.
     require (polynomial_eq z.first p && polynomial_eq z.second room) breaks (Ok (a ∷ b ∷ [])))))))
 added (wraps_is t v w) k =
     bind (term_polynomial t) (λ p.
-    bind (limited (sum p (number (pos 2147483648)))) (λ above.
-    bind (difference (number (pos 2147483647)) p) (λ room.
+    bind (limited (sum p (number (pos ints_below_zero)))) (λ above.
+    bind (difference (number (greatest_of_type Int)) p) (λ room.
     bind (two_combinations v w k.polynomials) (λ z.
     bind (difference (single (poly.wraps p)) p) (λ a.
     bind (difference p (single (poly.wraps p))) (λ b.
     require (polynomial_eq z.first above && polynomial_eq z.second room) breaks (Ok (a ∷ b ∷ []))))))))
 added (wrapu_bounds t) k =
     bind (term_polynomial t) (λ p.
-    bind (difference (number (pos 4294967295)) (single (poly.wrapu p))) (λ a.
+    bind (difference (number (greatest_of_type Unsigned)) (single (poly.wrapu p))) (λ a.
     Ok (single (poly.wrapu p) ∷ a ∷ [])))
 added (wraps_bounds t) k =
     bind (term_polynomial t) (λ p.
-    bind (limited (sum (single (poly.wraps p)) (number (pos 2147483648)))) (λ a.
-    bind (difference (number (pos 2147483647)) (single (poly.wraps p))) (λ b.
+    bind (limited (sum (single (poly.wraps p)) (number (pos ints_below_zero)))) (λ a.
+    bind (difference (number (greatest_of_type Int)) (single (poly.wraps p))) (λ b.
     Ok (a ∷ b ∷ []))))
 added (quotient_bounds t n) k =
     bind (term_polynomial t) (λ p.

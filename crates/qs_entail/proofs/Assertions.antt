@@ -2,6 +2,7 @@
 use Rattle.std.proofs.Common.{◌≡◌, ℕ, zero, suc, ◌+◌, ◌*◌, refl, sym, ap, ◌∙◌, arith, true}
 use Rattle.std.specs.Prelude.{ℤ, pos, negsuc, ◌-ℤ◌, ◌*ℤ◌, ◌≤ℤ◌, List, [], ◌∷◌, All, slice_index_or, Result, Ok, Err}
 use Rattle.std.proofs.lemmas.Int.{ints}
+use Rattle.std.proofs.lemmas.Bool.{and_parts}
 use Rattle.qs_assert.specs.Trees.{AssertionTree, natural, cost, num, total, product, AssertionTrees, no_assertions, assertion_and}
 use Rattle.qs_assert.specs.Values.{State, natural_part, term_value, Extended, finite, value, sum_of, product_of, plus as with, times}
 use Rattle.qs_poly.specs.Polynomials as poly
@@ -14,7 +15,7 @@ use Rattle.qs_poly.proofs.ValueLaws.{number_value, single_value}
 use Rattle.qs_entail.specs.Certificates.{Item, once, twice}
 use Rattle.qs_base.specs.Results.{bind}
 use Rattle.qs_entail.specs.Building.{Stop, limited, term_polynomial, is_plain, all_plain, assertion_polynomial, total_onto, factors_onto, at, item_polynomial, item_polynomials, sum_all, combination, two_combinations, Two}
-use Rattle.qs_entail.proofs.Built.{both, bind_ok, limited_value, limited_sum_value, limited_product_value, limited_multiple_value, term_polynomial_value}
+use Rattle.qs_entail.proofs.Built.{bind_ok, limited_value, limited_sum_value, limited_product_value, limited_multiple_value, term_polynomial_value}
 
 -- an assertion whose value is the number that a polynomial has
 pub record Counts (a : Extended) (z : ℤ) : Type 0 where
@@ -54,7 +55,7 @@ mutual
       let e : p ≡ r = cc in
       record { n = 0; is = refl; value_is = let k = ap (λ x. polynomial_value x s) e in omega (arith, ints, k) }
   total_onto_value (assertion_and c parts) p r s a h =
-      let ab = both (is_plain c) (all_plain parts) a in
+      let ab = and_parts (is_plain c) (all_plain parts) a in
       let b = bind_ok (assertion_polynomial c) (λ q. bind (limited (sum p q)) (λ r. total_onto parts r)) r h in
       let d = bind_ok (limited (sum p b.0)) (λ r. total_onto parts r) r b.1.1 in
       let x = assertion_polynomial_value c b.0 s ab.0 b.1.0 in
@@ -72,7 +73,7 @@ mutual
       let e : p ≡ r = cc in
       record { n = 1; is = refl; value_is = let k = ap (λ x. polynomial_value x s) e in omega (arith, ints, k) }
   factors_onto_value (assertion_and c parts) p r s a h =
-      let ab = both (is_plain c) (all_plain parts) a in
+      let ab = and_parts (is_plain c) (all_plain parts) a in
       let b = bind_ok (assertion_polynomial c) (λ q. bind (limited (operation.product p q)) (λ r. factors_onto parts r)) r h in
       let d = bind_ok (limited (operation.product p b.0)) (λ r. factors_onto parts r) r b.1.1 in
       let x = assertion_polynomial_value c b.0 s ab.0 b.1.0 in

@@ -6,6 +6,7 @@ use Rattle.std.proofs.lemmas.Bool.{both_ways, eq-eqb, ne_eqb, or_left, or_right,
 use Rattle.std.proofs.lemmas.List.{append_assoc, append-nil}
 use Rattle.std.proofs.lemmas.List.Elements.{filter-append}
 use Rattle.std.proofs.lemmas.List.Folds.{list_any-append}
+use Rattle.std.proofs.lemmas.Option.{same_Some}
 use Rattle.qs_assert.specs.Trees.{AssertionTree, infinity, greatest, named, assertions_of}
 use Rattle.qs_core.specs.CallGraph.{called_by, no_call, is_member}
 use Rattle.qs_core.specs.Fits.{unit_fits}
@@ -161,9 +162,6 @@ there_is : {A : Type 0} (o : Option A) → is_some o ≡ true → (x : A) × (o 
 there_is None h = absurd (both_ways false refl h)
 there_is (Some x) h = (x, refl)
 
-pub some_same : {A : Type 0} (a b : A) → Some a ≡ Some b → a ≡ b
-some_same a b h = cc
-
 pub all_kept : (given : ProofsTree) (before es : List EntryTree) → given.functions ≡ before ++ es → filter (λ (e : EntryTree). has_entry given e.function) es ≡ es
 all_kept given before [] is = refl
 all_kept given before (e ∷ es) is =
@@ -246,7 +244,7 @@ module _ (u : CoreUnitTree) (fits : unit_fits u ≡ true) (given : ProofsTree) (
     -- the entry of f is the one that was added
     pub entry_is : (f : ℕ) (e : EntryTree) → (a : Added u is_open (with_entries u is_open given.functions fs) f) → entry_of proofs f ≡ Some e → entry_for u is_open a.before f ≡ e
     entry_is f e a is =
-        some_same (entry_for u is_open a.before f) e
+        same_Some (entry_for u is_open a.before f) e
         (sym (first_found (is_entry_of f) (with_entries u is_open given.functions fs) (entry_for u is_open a.before f) a.only) ∙ sym (ap (find (is_entry_of f)) functions) ∙ is)
 
     pub known_one : (e : EntryTree) (f : ℕ) → entry_of proofs f ≡ Some e → f < length u.functions

@@ -24,7 +24,7 @@ use Rattle.qs_triples.specs.Entries.{order_told, mentions_fault, entry_told, sco
 use Rattle.qs_triples.specs.ExpressionTerms.{expression_condition}
 use Rattle.qs_triples.specs.Filled.{Filled}
 use Rattle.qs_triples.specs.Mentions.{in_body, in_pre, in_post, first_other, first_of_destination, first_without_argument, plain_variable, pre_images, post_images, as_plain}
-use Rattle.qs_triples.specs.Rules.{Place, DerivationFault, shape, mentions, certificate, no_spec, entry, bad_order, Answer, fault_below, part, unless, unless_of, by_verdict, certified, Posts, Scope, with_next, replaced, returned_rule, leaf_rule, step_posts, body_posts, either, with_frame, around, at_call, is_balanced, is_consequence, count_stmts, in_precondition, in_postcondition, CallSite, Known, of_sequence, of_branch, of_loop, of_call, of_spec, known_callee, call_rule, balanced_rule, pre, sequence_pre}
+use Rattle.qs_triples.specs.Rules.{Place, DerivFault, shape, mentions, certificate, no_spec, entry, bad_order, Answer, fault_below, part, unless, unless_of, by_verdict, certified, Posts, Scope, with_next, replaced, returned_rule, leaf_rule, step_posts, body_posts, either, with_frame, around, at_call, is_balanced, is_consequence, count_stmts, in_precondition, in_postcondition, CallSite, Known, of_sequence, of_branch, of_loop, of_call, of_spec, known_callee, call_rule, balanced_rule, pre, sequence_pre}
 use Rattle.qs_callgraph.proofs.MemberLaws.{member_first, member_kept, member_behind}
 use Rattle.qs_callgraph.proofs.UnitCalls.{calls_within}
 use Rattle.qs_analyse.specs.Laws.{CallsMeetSpecs}
@@ -33,7 +33,7 @@ use Rattle.qs_analyse.proofs.SettingLaws.{there_at}
 
 -- ---- faults of an entry whose calls meet specifications, where the definitions are in order
 
-abbrev pub is_met : DerivationFault → Bool
+abbrev pub is_met : DerivFault → Bool
 is_met (shape path) = true
 is_met (mentions place g x) = true
 is_met (certificate path fault) = true
@@ -43,12 +43,12 @@ is_met (bad_order d) = false
 
 -- a fault that is answered is such a one
 record Meets (answer : Answer) : Type 0 where
-  all : (fault : DerivationFault) → answer ≡ Err fault → is_met fault ≡ true
+  all : (fault : DerivFault) → answer ≡ Err fault → is_met fault ≡ true
 
 meets_ok : (a : AssertionTree) → Meets (Ok a)
 meets_ok a = record { all = λ fault e. cc }
 
-meets_err : (d : DerivationFault) → is_met d ≡ true → Meets (Err d)
+meets_err : (d : DerivFault) → is_met d ≡ true → Meets (Err d)
 meets_err d h = record { all = λ fault e. let same : d ≡ fault = cc in ap is_met (sym same) ∙ h }
 
 meets_shape : Meets (Err (shape []))
@@ -61,14 +61,14 @@ meets_unless_of g (Some x) next h = meets_err _ refl
 meets_unless : (found : Option Var) (next : Answer) → Meets next → Meets (unless found next)
 meets_unless found next h = meets_unless_of None found next h
 
-meets_verdict : (found : Option certificates.Fault) (r : AssertionTree) → Meets (by_verdict found r)
+meets_verdict : (found : Option certificates.CertFault) (r : AssertionTree) → Meets (by_verdict found r)
 meets_verdict None r = meets_ok r
 meets_verdict (Some fault) r = meets_err (certificate [] fault) refl
 
 meets_certified : (ds : List Define) (w : CertTree) (p q r : AssertionTree) → Meets (certified ds w p q r)
 meets_certified ds w p q r = meets_verdict (verdict [] ds p q w) r
 
-met_below : (i : ℕ) (d : DerivationFault) → is_met d ≡ true → is_met (fault_below i d) ≡ true
+met_below : (i : ℕ) (d : DerivFault) → is_met d ≡ true → is_met (fault_below i d) ≡ true
 met_below i (shape path) h = refl
 met_below i (mentions place g x) h = refl
 met_below i (certificate path fault) h = refl
@@ -277,21 +277,21 @@ mutual
 
 -- ---- entries
 
-record MeetsFault (found : Option DerivationFault) : Type 0 where
-  all : (fault : DerivationFault) → found ≡ Some fault → is_met fault ≡ true
+record MeetsFault (found : Option DerivFault) : Type 0 where
+  all : (fault : DerivFault) → found ≡ Some fault → is_met fault ≡ true
 
 met_none : MeetsFault None
 met_none = record { all = λ fault e. cc }
 
-met_some : (d : DerivationFault) → is_met d ≡ true → MeetsFault (Some d)
+met_some : (d : DerivFault) → is_met d ≡ true → MeetsFault (Some d)
 met_some d h = record { all = λ fault e. let same : d ≡ fault = cc in ap is_met (sym same) ∙ h }
 
-met_or : (a b : Option DerivationFault) → MeetsFault a → MeetsFault b → MeetsFault (option_or a b)
+met_or : (a b : Option DerivFault) → MeetsFault a → MeetsFault b → MeetsFault (option_or a b)
 met_or (Some d) b h k = h
 met_or None b h k = k
 
 met_five :
-    (a b c d e : Option DerivationFault) → MeetsFault a → MeetsFault b → MeetsFault c → MeetsFault d → MeetsFault e
+    (a b c d e : Option DerivFault) → MeetsFault a → MeetsFault b → MeetsFault c → MeetsFault d → MeetsFault e
     → MeetsFault (option_or a (option_or b (option_or c (option_or d e))))
 met_five a b c d e h i j k l =
     met_or a (option_or b (option_or c (option_or d e))) h (met_or b (option_or c (option_or d e)) i (met_or c (option_or d e) j (met_or d e k l)))
@@ -300,11 +300,11 @@ met_mention : (place : Place) (x : Option Var) → MeetsFault (mentions_fault pl
 met_mention place None = met_none
 met_mention place (Some x) = met_some (mentions place None x) refl
 
-met_entry : (found : Option certificates.Fault) → MeetsFault (entry_told found)
+met_entry : (found : Option certificates.CertFault) → MeetsFault (entry_told found)
 met_entry None = met_none
 met_entry (Some fault) = met_some (entry fault) refl
 
-met_body : (answer : Answer) (others : AssertionTree → Option DerivationFault) → Meets answer → ((p : AssertionTree) → MeetsFault (others p)) → MeetsFault (fault_or (λ fault. fault) answer others)
+met_body : (answer : Answer) (others : AssertionTree → Option DerivFault) → Meets answer → ((p : AssertionTree) → MeetsFault (others p)) → MeetsFault (fault_or (λ fault. fault) answer others)
 met_body (Ok a) others h k = k a
 met_body (Err d) others h k = met_some d (h.all d refl)
 
@@ -361,7 +361,7 @@ module _ (u : CoreUnitTree) (fits : unit_fits u ≡ true) (given proofs : Proofs
 
   met_in : IsInOrder proofs.defines → (function : CoreFunctionTree) (e : EntryTree) → slice_get u.functions e.function ≡ Some function → MeetsFault (fault_in u proofs function e)
   met_in order function e is =
-      let others : AssertionTree → Option DerivationFault = λ p. entry_told (verdict [] proofs.defines e.spec.pre (assertion_image as_plain p) e.entry) in
+      let others : AssertionTree → Option DerivFault = λ p. entry_told (verdict [] proofs.defines e.spec.pre (assertion_image as_plain p) e.entry) in
       met_five (order_told (order_fault proofs.defines)) (mentions_fault in_precondition (first_other function (in_pre function) e.spec.pre))
       (mentions_fault in_postcondition (first_other function (in_post function) e.spec.post)) (mentions_fault in_postcondition (result_at_end function e.spec.post))
       (fault_or (λ fault. fault) (pre e.body (scope_of u proofs function) (core.seq function.body) (function_posts e.spec.post)) others)
@@ -382,7 +382,7 @@ module _ (u : CoreUnitTree) (fits : unit_fits u ≡ true) (given proofs : Proofs
   met_found order None = met_some (shape []) refl
 
   -- the faults of entries, where the definitions are in order
-  pub met_fault : IsInOrder proofs.defines → (f : ℕ) (fault : DerivationFault) → function_fault u proofs f ≡ Some fault → is_met fault ≡ true
+  pub met_fault : IsInOrder proofs.defines → (f : ℕ) (fault : DerivFault) → function_fault u proofs f ≡ Some fault → is_met fault ≡ true
   met_fault order f fault h = (met_found order (entry_of proofs f)).all fault h
 
 -- ---- where the definitions aren't in order, that is the fault
@@ -391,7 +391,7 @@ module _ (u : CoreUnitTree) (proofs : ProofsTree) (d : ℕ) (first : order_fault
   out_of_order : (function : CoreFunctionTree) (e : EntryTree) → fault_in u proofs function e ≡ Some (bad_order d)
   out_of_order function e = first_found (order_fault proofs.defines) first _
     where
-      first_found : (o : Option ℕ) → o ≡ Some d → (others : Option DerivationFault) → option_or (order_told o) others ≡ Some (bad_order d)
+      first_found : (o : Option ℕ) → o ≡ Some d → (others : Option DerivFault) → option_or (order_told o) others ≡ Some (bad_order d)
       first_found (Some c) h others = let same : c ≡ d = cc in ap (λ (n : ℕ). Some (bad_order n)) same
       first_found None h others = cc
 

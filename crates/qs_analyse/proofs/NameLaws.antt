@@ -1,7 +1,7 @@
 -- The names of the functions of a unit differ.
-use Rattle.std.proofs.Common.{◌≡◌, ℕ, zero, suc, ◌<◌, ◌==◌, Bool, true, List, [], ◌∷◌, length, get_or, map, refl, sym, ap, ◌∙◌, arith}
+use Rattle.std.proofs.Common.{◌≡◌, ℕ, zero, suc, ◌<◌, ◌==◌, true, List, [], ◌∷◌, length, get_or, map, refl, sym, ap, ◌∙◌, arith}
 use Rattle.std.specs.Prelude.{bytes_eq, not}
-use Rattle.std.specs.List.{slice_get, list_all}
+use Rattle.std.specs.List.{list_all}
 use Rattle.std.proofs.lemmas.Bool.{both_ways, and_parts, and_from, eq-eqb, not-true}
 use Rattle.qs_assert.specs.Bounds.{same_name}
 use Rattle.qs_assert.proofs.Same.{name_equal}
@@ -9,16 +9,7 @@ use Rattle.qs_core.specs.Fits.{differ, unit_fits}
 use Rattle.qs_core.specs.Trees.{CoreFunctionTree, CoreUnitTree}
 use Rattle.qs_core.specs.FunctionNames.{function_name, name_in}
 use Rattle.qs_core.proofs.FitLaws.{unit_parts}
-
-name_at : (fs : List CoreFunctionTree) (f : ℕ) → f < length fs → name_in (slice_get fs f) ≡ get_or (map (λ (f : CoreFunctionTree). f.name) fs) f []
-name_at [] f b = absurd (omega (arith, b))
-name_at (x ∷ fs) zero b = refl
-name_at (x ∷ fs) (suc f) b = name_at fs f (omega (arith, b))
-
-all_at : (test : List ℕ → Bool) (names : List (List ℕ)) (i : ℕ) → list_all test names ≡ true → i < length names → test (get_or names i []) ≡ true
-all_at test [] i all b = absurd (omega (arith, b))
-all_at test (n ∷ names) zero all b = (and_parts (test n) (list_all test names) all).0
-all_at test (n ∷ names) (suc i) all b = all_at test names i (and_parts (test n) (list_all test names) all).1 (omega (arith, b))
+use Rattle.qs_triples.proofs.FunctionNames.{name_at, all_at, count_names}
 
 pub same_self : (n : List ℕ) → same_name n n ≡ true
 same_self [] = refl
@@ -35,12 +26,8 @@ differ_at (n ∷ names) zero (suc j) d b c e = absurd (first_only n names j (and
 differ_at (n ∷ names) (suc i) zero d b c e = absurd (first_only n names i (and_parts (list_all (λ y. not (bytes_eq n y)) names) (differ bytes_eq names) d).0 (omega (arith, b)) (sym e))
 differ_at (n ∷ names) (suc i) (suc j) d b c e = ap suc (differ_at names i j (and_parts (list_all (λ y. not (bytes_eq n y)) names) (differ bytes_eq names) d).1 (omega (arith, b)) (omega (arith, c)) e)
 
-length-names : (fs : List CoreFunctionTree) → length (map (λ (f : CoreFunctionTree). f.name) fs) ≡ length fs
-length-names [] = refl
-length-names (f ∷ fs) = ap suc (length-names fs)
-
 pub one_name : (u : CoreUnitTree) (f g : ℕ) → unit_fits u ≡ true → f < length u.functions → g < length u.functions → same_name (function_name u f) (function_name u g) ≡ true → f ≡ g
 one_name u f g fits b c same =
-    let l = length-names u.functions in
+    let l = count_names u.functions in
     differ_at (map (λ (f : CoreFunctionTree). f.name) u.functions) f g (unit_parts u fits).different (omega (arith, b, l)) (omega (arith, c, l))
     (sym (name_at u.functions f b) ∙ name_equal (function_name u f) (function_name u g) same ∙ name_at u.functions g c)

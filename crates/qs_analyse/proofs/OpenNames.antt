@@ -1,13 +1,14 @@
 -- The names of open functions have the values of what their functions' calls need.
 use Rattle.std.proofs.Common.{◌≡◌, ℕ, ◌<◌, ◌==◌, Bool, true, false, List, [], ◌∷◌, ◌++◌, length, map, ⊎_elim, inl, inr, refl, sym, ap, ◌∙◌, subst}
-use Rattle.std.specs.Prelude.{◌⊎◌, ℤ, if◌then◌else◌, Option, Some, None}
+use Rattle.std.specs.Prelude.{◌⊎◌, ℤ, if◌then◌else◌, Some, None}
 use Rattle.std.proofs.lemmas.Bool.{both_ways, false_from_ne_true, or_right}
+use Rattle.qs_entail.proofs.Definitions.{defined_stays, kept, undefined_takes}
 use Rattle.qs_events.specs.Weights.{Costs}
 use Rattle.qs_assert.specs.declared.define.Define.{Define}
 use Rattle.qs_assert.specs.declared.variable.Var.{Var}
 use Rattle.qs_assert.specs.Bounds.{Setting, same_name, with_definition, with_definitions}
 use Rattle.qs_assert.specs.Trees.{AssertionTree, named}
-use Rattle.qs_assert.specs.Values.{State, Extended, or_infinite, value}
+use Rattle.qs_assert.specs.Values.{State, or_infinite, value}
 use Rattle.qs_core.specs.CallGraph.{called_by, is_member}
 use Rattle.qs_core.specs.Fits.{unit_fits}
 use Rattle.qs_core.specs.Trees.{CoreUnitTree}
@@ -20,21 +21,8 @@ use Rattle.qs_analyse.proofs.NeedLaws.{same_calls}
 
 -- ---- a definition more
 
-abbrev has_value : Option Extended → Bool
-has_value o = elim o [ Some v ↦ true | None ↦ false ]
-
-stays : (d : Define) (g : Setting) (n : List ℕ) (v : Extended) → g.state.names n ≡ Some v → (with_definition d g).state.names n ≡ Some v
-stays d g n v h =
-    ap (λ b. if b then g.state.names n else (if same_name n d.name then Some (value d.body g.state) else None)) (ap has_value h) ∙ h
-
 takes : (d : Define) (g : Setting) (n : List ℕ) (b : Bool) → g.state.names n ≡ None → same_name n d.name ≡ b → (with_definition d g).state.names n ≡ (if b then Some (value d.body g.state) else None)
-takes d g n b h e =
-    ap (λ b. if b then g.state.names n else (if same_name n d.name then Some (value d.body g.state) else None)) (ap has_value h)
-    ∙ ap (λ b. if b then Some (value d.body g.state) else None) e
-
-all_stay : (ds : List Define) (g : Setting) (n : List ℕ) (v : Extended) → g.state.names n ≡ Some v → (with_definitions ds g).state.names n ≡ Some v
-all_stay [] g n v h = h
-all_stay (d ∷ ds) g n v h = all_stay ds (with_definition d g) n v (stays d g n v h)
+takes d g n b h e = undefined_takes d g n h ∙ ap (λ b. if b then Some (value d.body g.state) else None) e
 
 costs_stay : (ds : List Define) (g : Setting) → (with_definitions ds g).state.costs ≡ g.state.costs
 costs_stay [] g = refl
@@ -78,7 +66,7 @@ module _ (u : CoreUnitTree) where
     one_more g fs f v b n below =
         let t : State = (with_definition (open_definition u f) g).state in
         let same : (h : ℕ) → is_member h fs ≡ true → t.names (function_name u h) ≡ g.state.names (function_name u h) =
-        λ h m. stays (open_definition u f) g (function_name u h) (value (open_body h) g.state) (v.are.valued h m) ∙ sym (v.are.valued h m) in
+        λ h m. defined_stays (open_definition u f) g (function_name u h) (value (open_body h) g.state) (v.are.valued h m) ∙ sym (v.are.valued h m) in
         let earlier = kept_values g.state t fs refl v.are same in
         let here : t.names (function_name u f) ≡ Some (value (open_body f) t) =
         takes (open_definition u f) g (function_name u f) true (v.others f b n) (same_self (function_name u f))
@@ -138,7 +126,7 @@ module _ (u : CoreUnitTree) where
         let open_ones = all_more start [] fs first empty within in
         let final = with_definitions given middle in
         let all = kept_values middle.state final.state (behind [] fs) (sym (costs_stay given middle)) open_ones
-        (λ h k. all_stay given middle (function_name u h) (value (open_body h) middle.state) (open_ones.valued h k) ∙ sym (open_ones.valued h k)) in
+        (λ h k. kept given middle (function_name u h) (value (open_body h) middle.state) (open_ones.valued h k) ∙ sym (open_ones.valued h k)) in
         subst (λ (g : Setting). g.state.names (function_name u f) ≡ Some (value (open_body f) g.state)) (sym (joined (map (open_definition u) fs) given start))
         (all.valued f (there [] fs f (inl m)))
 

@@ -19,7 +19,7 @@ use Rattle.qs_core.specs.CallGraph.{callee, callees, all_callees, called_by, is_
 use Rattle.qs_core.specs.Trees as core
 use Rattle.qs_core.specs.Trees.{CoreExprTree, CoreStmtTree, CoreStmts, no_stmts, stmt_and, stmts_of, CoreFunctionTree, CoreUnitTree}
 use Rattle.qs_entail.specs.declared.fault.Rule.TheVariants as rules
-use Rattle.qs_entail.specs.Building.{Failure}
+use Rattle.qs_entail.specs.Building.{Stop}
 use Rattle.qs_entail.specs.Certificates.{CertTree, same, pick, all, by_definition, cert_and, no_certs}
 use Rattle.qs_entail.specs.Faults as certificates
 use Rattle.qs_entail.specs.Faults.{definition, member, unfolded, node, step}
@@ -34,7 +34,7 @@ use Rattle.qs_core.specs.Expressions.{type_of}
 use Rattle.qs_core.specs.FunctionNames.{function_name}
 use Rattle.qs_triples.specs.Filled.{for_call, for_calls}
 use Rattle.qs_triples.specs.TreeOf.{derivations_of}
-use Rattle.qs_triples.specs.Rules.{Answer, Scope, Posts, CallSite, DerivationFault, body_posts, with_next, target_kind, replaced, by_condition, either, part, certified, by_verdict, known_callee, of_spec, balanced_rule, count_stmts, pre, sequence_pre, shape, in_postcondition}
+use Rattle.qs_triples.specs.Rules.{Answer, Scope, Posts, CallSite, DerivFault, body_posts, with_next, target_kind, replaced, by_condition, either, part, certified, by_verdict, known_callee, of_spec, balanced_rule, count_stmts, pre, sequence_pre, shape, in_postcondition}
 use Rattle.qs_callgraph.proofs.MemberLaws.{first_cases, member_first}
 use Rattle.qs_analyse.specs.Fillable.{body_in, open_entry}
 use Rattle.qs_analyse.specs.Written.{each_written, place_of, pick_certificate, call_certificate, written_call, written, all_written}
@@ -50,14 +50,14 @@ fault_pick :
     (ds : List Define) (k : Known) (members : AssertionTrees) (i : ℕ) (a q : AssertionTree) → member members i ≡ Ok a
     → fault same ds k a q ≡ None → fault (pick (pos i) same) ds k (greatest members) q ≡ None
 fault_pick ds k members i a q is h =
-    ap (λ (r : Result AssertionTree Failure). if is_given r then node rules.Pick r (λ a. certificates.part 0 (fault same ds k a q)) else Some (step [] rules.Pick)) is
+    ap (λ (r : Result AssertionTree Stop). if is_given r then node rules.Pick r (λ a. certificates.part 0 (fault same ds k a q)) else Some (step [] rules.Pick)) is
     ∙ ap (certificates.part 0) h
 
 fault_unfold :
     (ds : List Define) (k : Known) (n : List ℕ) (body p q : AssertionTree) (c : CertTree) → definition ds n ≡ Ok body
     → fault c ds k (unfolded n body p) (unfolded n body q) ≡ None → fault (by_definition n c) ds k p q ≡ None
 fault_unfold ds k n body p q c is h =
-    ap (λ (r : Result AssertionTree Failure). if is_given r then node rules.ByDefinition r (λ body. certificates.part 0 (fault c ds k (unfolded n body p) (unfolded n body q))) else Some (step [] rules.ByDefinition)) is
+    ap (λ (r : Result AssertionTree Stop). if is_given r then node rules.ByDefinition r (λ body. certificates.part 0 (fault c ds k (unfolded n body p) (unfolded n body q))) else Some (step [] rules.ByDefinition)) is
     ∙ ap (certificates.part 0) h
 
 verdict_same : (ds : List Define) (a : AssertionTree) → verdict [] ds a a same ≡ None
@@ -224,7 +224,7 @@ module _ (u : CoreUnitTree) (proofs : ProofsTree) (f : ℕ) (function : CoreFunc
   end_none true = refl
   end_none false = refl
 
-  abbrev walk : Answer → Option DerivationFault
+  abbrev walk : Answer → Option DerivFault
   walk r = fault_or (λ fault. fault) r (λ p. entry_told (verdict [] proofs.defines need (assertion_image as_plain p) same))
 
   pub derived :

@@ -35,13 +35,11 @@ fn place_of(callees: &[FnId], g: FnId) -> usize
     callees.len()
 }
 
+// No memory holds so many callees that their number isn't an i64.
 fn member_number(i: usize) -> Result<i64, NoMemory>
     ensures { IfOk result (λ n. n ≡ pos i) }
 {
-    match i64::try_from(i) {
-        Err(_) => Err(NoMemory),
-        Ok(n) => Ok(n),
-    }
+    i64::try_from(i).map_err(|_wide| NoMemory)
 }
 
 fn picked(alloc: Global, i: i64) -> Result<Certificate, NoMemory>

@@ -10,7 +10,7 @@ use Rattle.qs_core.specs.Trees.{CoreUnitTree}
 use Rattle.qs_core.specs.CallGraph.{is_member}
 use Rattle.qs_triples.specs.Derivations.{EntryTree, ProofsTree, is_entry_of}
 use Rattle.qs_triples.specs.Entries.{has_entry, fault_of_entry, function_fault, Covers}
-use Rattle.qs_triples.specs.Rules.{DerivationFault}
+use Rattle.qs_triples.specs.Rules.{DerivFault}
 use Rattle.qs_triples.specs.TreeOf.{entry_tree, proofs_tree}
 use Rattle.qs_triples.specs.declared.derivation.Proofs.{Proofs}
 use Rattle.qs_callgraph.specs.CallLists.{numbers}
@@ -34,7 +34,7 @@ any_entry (e ∷ es) f = ap (λ (b : Bool). (e.function == f) || b) (any_entry e
 pub has_member : (given : ProofsTree) (f : ℕ) → has_entry given f ≡ is_member f (entry_functions given.functions)
 has_member given f = found (is_entry_of f) given.functions ∙ any_entry given.functions f
 
-none_first : (f : ℕ) (o : Option DerivationFault) (next : Option EntryFault) → fault_or_next f o next ≡ None → (o ≡ None) × (next ≡ None)
+none_first : (f : ℕ) (o : Option DerivFault) (next : Option EntryFault) → fault_or_next f o next ≡ None → (o ≡ None) × (next ≡ None)
 none_first f None next h = (refl, h)
 none_first f (Some d) next h = cc
 

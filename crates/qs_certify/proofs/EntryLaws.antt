@@ -8,7 +8,8 @@ use Rattle.qs_entail.specs.declared.fault.CertFault.TheVariants as certs
 use Rattle.qs_entail.specs.Faults as certificates
 use Rattle.qs_triples.specs.Derivations.{ProofsTree}
 use Rattle.qs_triples.specs.Entries.{function_fault}
-use Rattle.qs_triples.specs.Rules.{DerivationFault, certificate, entry}
+use Rattle.qs_triples.specs.Rules as rules
+use Rattle.qs_triples.specs.Rules.{certificate, entry}
 use Rattle.qs_triples.specs.Told.{IsDue, IsOfCertificate}
 use Rattle.qs_triples.specs.declared.fault.DerivFault.{DerivFault}
 use Rattle.qs_triples.specs.declared.fault.DerivFault.TheVariants as faults
@@ -19,19 +20,19 @@ use Rattle.qs_certify.specs.declared.fault.CertifyFault.TheVariants.{NoMemory, T
 
 -- ---- what is due
 
-record Due (told : DerivFault) (due : Option DerivationFault) : Type 0 where
-  fault : DerivationFault
+record Due (told : DerivFault) (due : Option rules.DerivFault) : Type 0 where
+  fault : rules.DerivFault
   is : due ≡ Some fault
   is_told : IsDue told (Some fault)
 
 of_certificate :
-    (there : certificates.Fault → DerivationFault) (fault : CertFault) (due : Option DerivationFault) → IsOfCertificate there fault due
-    → (d : DerivationFault) × ((due ≡ Some d) × IsOfCertificate there fault (Some d))
+    (there : certificates.CertFault → rules.DerivFault) (fault : CertFault) (due : Option rules.DerivFault) → IsOfCertificate there fault due
+    → (d : rules.DerivFault) × ((due ≡ Some d) × IsOfCertificate there fault (Some d))
 of_certificate there certs.NoMemory due h = absurd h
 of_certificate there (certs.Step path rule) due h = (there (certificates.step path.items rule), (h, refl))
 of_certificate there (certs.Limit path l) due h = (_, (h, refl))
 
-due_there : (told : DerivFault) (due : Option DerivationFault) → IsFault told → IsDue told due → Due told due
+due_there : (told : DerivFault) (due : Option rules.DerivFault) → IsFault told → IsDue told due → Due told due
 due_there faults.NoMemory due f h = absurd f
 due_there (faults.Shape path) due f h = record { fault = _; is = h; is_told = refl }
 due_there (faults.Mentions place g x) due f h = record { fault = _; is = h; is_told = refl }
@@ -43,12 +44,12 @@ due_there (faults.BadOrder d) due f h = record { fault = _; is = h; is_told = re
 -- ---- one function
 
 pub one_derived : (u : CoreUnitTree) (proofs : ProofsTree) (f : ℕ) → function_fault u proofs f ≡ None → first_fault u proofs (f ∷ []) ≡ None
-one_derived u proofs f h = ap (λ (o : Option DerivationFault). fault_or_next f o None) h
+one_derived u proofs f h = ap (λ (o : Option rules.DerivFault). fault_or_next f o None) h
 
 first_of_one : (u : CoreUnitTree) (proofs : ProofsTree) (f : ℕ) (told : DerivFault) → IsFault told → IsDue told (function_fault u proofs f) → IsFirstFault u proofs (f ∷ []) f told
 first_of_one u proofs f told is h =
     let d = due_there told (function_fault u proofs f) is h in
-    record { fault = d.fault; first = ap (λ (o : Option DerivationFault). fault_or_next f o None) d.is; is_fault = is; is_told = d.is_told }
+    record { fault = d.fault; first = ap (λ (o : Option rules.DerivFault). fault_or_next f o None) d.is; is_fault = is; is_told = d.is_told }
 
 pub one_told : (u : CoreUnitTree) (proofs : ProofsTree) (f : FnId) (told : DerivFault) → IsDue told (function_fault u proofs f.0) → IsEntryFault u proofs (f.0 ∷ []) (entry_told f told)
 one_told u proofs f faults.NoMemory h = tt
@@ -61,11 +62,11 @@ one_told u proofs f (faults.BadOrder d) h = first_of_one u proofs f.0 (faults.Ba
 
 -- ---- one after another
 
-next_when : (f : ℕ) (o : Option DerivationFault) (next : Option EntryFault) → fault_or_next f o None ≡ None → fault_or_next f o next ≡ next
+next_when : (f : ℕ) (o : Option rules.DerivFault) (next : Option EntryFault) → fault_or_next f o None ≡ None → fault_or_next f o next ≡ next
 next_when f None next h = refl
 next_when f (Some d) next h = cc
 
-first_when : (f : ℕ) (o : Option DerivationFault) (next : Option EntryFault) (e : EntryFault) → fault_or_next f o None ≡ Some e → fault_or_next f o next ≡ Some e
+first_when : (f : ℕ) (o : Option rules.DerivFault) (next : Option EntryFault) (e : EntryFault) → fault_or_next f o None ≡ Some e → fault_or_next f o next ≡ Some e
 first_when f None next e h = cc
 first_when f (Some d) next e h = h
 

@@ -2,13 +2,15 @@
 use Rattle.std.proofs.Common.{◌≡◌, ℕ, ◌<◌, ◌==◌, true, false, List, [], ◌∷◌, length, Option, Some, None, refl, sym, ap, ◌∙◌, subst}
 use Rattle.std.specs.Prelude.{is_some}
 use Rattle.std.proofs.lemmas.Bool.{both_ways, or_right}
+use Rattle.std.proofs.lemmas.Option.{same_Some}
 use Rattle.qs_core.specs.Fits.{unit_fits}
 use Rattle.qs_core.specs.Trees.{CoreUnitTree}
 use Rattle.qs_core.specs.CallGraph.{is_member}
 use Rattle.qs_triples.specs.Derivations.{EntryTree, ProofsTree, entry_of}
 use Rattle.qs_triples.specs.Entries.{has_entry, function_fault}
 use Rattle.qs_triples.specs.Filled.{Filled}
-use Rattle.qs_triples.specs.Rules.{DerivationFault, no_spec, bad_order}
+use Rattle.qs_triples.specs.Rules as rules
+use Rattle.qs_triples.specs.Rules.{no_spec, bad_order}
 use Rattle.qs_triples.specs.Told.{IsDue}
 use Rattle.qs_triples.specs.declared.fault.DerivFault.{DerivFault}
 use Rattle.qs_triples.specs.declared.fault.DerivFault.TheVariants as faults
@@ -16,7 +18,6 @@ use Rattle.qs_callgraph.specs.CallLists.{numbers}
 use Rattle.qs_callgraph.proofs.MemberLaws.{member_first}
 use Rattle.qs_callgraph.proofs.OrderLaws.{circle_known}
 use Rattle.qs_analyse.specs.Fillable.{entry_functions}
-use Rattle.qs_analyse.proofs.AddedLaws.{some_same}
 use Rattle.qs_analyse.proofs.MeetLaws.{is_met, given_stays, met_fault}
 use Rattle.qs_certify.specs.Entries.{EntryFault, fault_or_next, first_fault, IsMet}
 use Rattle.qs_certify.specs.Certification.{IsNotDerived, CannotComplete, IsTextFault, ToldOfFunctions}
@@ -28,7 +29,7 @@ use Rattle.qs_certify.proofs.CompletedLaws.{has_member}
 -- ---- the first entry that isn't derived
 
 -- a fault of this function, which is one of these
-pub record IsOne (u : CoreUnitTree) (proofs : ProofsTree) (fs : List ℕ) (f : ℕ) (fault : DerivationFault) : Type 0 where
+pub record IsOne (u : CoreUnitTree) (proofs : ProofsTree) (fs : List ℕ) (f : ℕ) (fault : rules.DerivFault) : Type 0 where
   pub is : function_fault u proofs f ≡ Some fault
   pub there : is_member f fs ≡ true
 
@@ -37,11 +38,11 @@ first_is_one u proofs [] e h = cc
 first_is_one u proofs (g ∷ fs) e h = by (function_fault u proofs g) refl h (first_is_one u proofs fs e)
   where
     by :
-        (o : Option DerivationFault) → function_fault u proofs g ≡ o → fault_or_next g o (first_fault u proofs fs) ≡ Some e
+        (o : Option rules.DerivFault) → function_fault u proofs g ≡ o → fault_or_next g o (first_fault u proofs fs) ≡ Some e
         → (first_fault u proofs fs ≡ Some e → IsOne u proofs fs e.function e.fault) → IsOne u proofs (g ∷ fs) e.function e.fault
     by None is h others = let one = others h in record { is = one.is; there = or_right (g == e.function) (is_member e.function fs) one.there }
     by (Some d) is h others =
-        let same = some_same (record { function = g; fault = d }) e h in
+        let same = same_Some (record { function = g; fault = d }) e h in
         subst (λ (x : EntryFault). IsOne u proofs (g ∷ fs) x.function x.fault) same (record { is = is; there = member_first g fs })
 
 pub some_entry : (o : Option EntryTree) → is_some o ≡ true → (e : EntryTree) × (o ≡ Some e)
@@ -55,16 +56,16 @@ given_known u given proofs filled f has =
 
 -- ---- faults that are met
 
-told_met : (told : DerivFault) (fault : DerivationFault) → IsDue told (Some fault) → is_met fault ≡ true → IsMet told
+told_met : (told : DerivFault) (fault : rules.DerivFault) → IsDue told (Some fault) → is_met fault ≡ true → IsMet told
 told_met faults.NoMemory fault h m = tt
 told_met (faults.Shape path) fault h m = tt
 told_met (faults.Mentions place g x) fault h m = tt
 told_met (faults.Cert path cert) fault h m = tt
 told_met (faults.NoSpec path g) fault h m =
-    let same : fault ≡ no_spec path.items g.0 = some_same fault (no_spec path.items g.0) h in both_ways false refl (sym (ap is_met same) ∙ m)
+    let same : fault ≡ no_spec path.items g.0 = same_Some fault (no_spec path.items g.0) h in both_ways false refl (sym (ap is_met same) ∙ m)
 told_met (faults.Entry cert) fault h m = tt
 told_met (faults.BadOrder d) fault h m =
-    let same : fault ≡ bad_order d = some_same fault (bad_order d) h in both_ways false refl (sym (ap is_met same) ∙ m)
+    let same : fault ≡ bad_order d = same_Some fault (bad_order d) h in both_ways false refl (sym (ap is_met same) ∙ m)
 
 -- ---- what is told
 

@@ -2,6 +2,7 @@
 use Rattle.std.proofs.Common.{◌≡◌, ℕ, true, List, Option, Some, None, inl, inr, refl, sym, ap, ◌∙◌, subst}
 use Rattle.std.specs.Prelude.{◌⊎◌, ◌≢◌}
 use Rattle.std.specs.List.{slice_get}
+use Rattle.std.proofs.lemmas.Option.{same_Some}
 use Rattle.qs_assert.specs.Order.{order_fault, IsInOrder}
 use Rattle.qs_assert.specs.declared.define.Define.{Define}
 use Rattle.qs_core.specs.CallGraph.{IsCycle}
@@ -12,7 +13,6 @@ use Rattle.qs_triples.specs.declared.fault.DerivFault.{DerivFault}
 use Rattle.qs_callgraph.specs.CallLists.{numbers}
 use Rattle.qs_analyse.specs.Fillable.{entry_functions}
 use Rattle.qs_analyse.specs.Laws.{GivenAreDerived}
-use Rattle.qs_analyse.proofs.AddedLaws.{some_same}
 use Rattle.qs_analyse.proofs.FillingLaws.{one_filling}
 use Rattle.qs_analyse.proofs.MeetLaws.{given_stays}
 use Rattle.qs_analyse.proofs.SettingLaws.{one_there}
@@ -52,8 +52,8 @@ certified_is_right u file given proofs c = record {
 
 misplaced_same : (ds : List Define) (name other : List ℕ) → IsMisplaced ds name → IsMisplaced ds other → name ≡ other
 misplaced_same ds name other a b =
-    let at : a.at ≡ b.at = some_same a.at b.at (sym a.first ∙ b.first) in
-    let define : a.define ≡ b.define = some_same a.define b.define (sym a.stands ∙ ap (slice_get ds) at ∙ b.stands) in
+    let at : a.at ≡ b.at = same_Some a.at b.at (sym a.first ∙ b.first) in
+    let define : a.define ≡ b.define = same_Some a.define b.define (sym a.stands ∙ ap (slice_get ds) at ∙ b.stands) in
     a.is ∙ ap (λ (d : Define). d.name) define ∙ sym b.is
 
 module _ (u : CoreUnitTree) (file : Option (List ℕ)) (given : ProofsTree) (name : List ℕ) (is : GivenIs u file given) (h : HasNoOrder u given name) where
@@ -110,7 +110,7 @@ module _ (u : CoreUnitTree) (file : Option (List ℕ)) (given : ProofsTree) (f :
       subst (λ (p : ProofsTree). first_fault u p (entry_functions given.functions) ≡ Some (record { function = g.0; fault = k.so.first.fault })) same.1
       (subst (λ (p : ProofsTree). first_fault u k.so.proofs (entry_functions p.functions) ≡ Some (record { function = g.0; fault = k.so.first.fault })) same.0 k.so.first.first) in
       inr (ap (λ (e : EntryFault). e.function)
-      (some_same (record { function = g.0; fault = k.so.first.fault }) (record { function = f; fault = h.first.fault }) (sym first ∙ h.first.first)))
+      (same_Some (record { function = g.0; fault = k.so.first.fault }) (record { function = f; fault = h.first.fault }) (sym first ∙ h.first.first)))
 
 pub entries_are_told : EntriesAreTold
 entries_are_told u file given f fault is h =

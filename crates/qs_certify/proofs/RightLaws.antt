@@ -2,6 +2,7 @@
 use Rattle.std.proofs.Common.{◌≡◌, ℕ, ◌<◌, ◌==◌, ◌||◌, Bool, true, false, cond, List, [], ◌∷◌, filter, length, None, is_some, refl, sym, ap, ◌∙◌, subst}
 use Rattle.std.specs.List.{list_any}
 use Rattle.std.proofs.lemmas.Bool.{both_ways, or_right}
+use Rattle.std.proofs.lemmas.Option.{same_Some}
 use Rattle.qs_core.specs.CallGraph.{HasCall, no_call, is_member}
 use Rattle.qs_core.specs.Trees.{CoreUnitTree}
 use Rattle.qs_triples.specs.Derivations.{EntryTree, ProofsTree}
@@ -11,7 +12,6 @@ use Rattle.qs_callgraph.proofs.MemberLaws.{member_first}
 use Rattle.qs_callgraph.proofs.UnitCalls.{has_caller}
 use Rattle.qs_analyse.specs.Fillable.{entry_functions}
 use Rattle.qs_analyse.specs.Laws.{GivenAreDerived, HasNoCycle}
-use Rattle.qs_analyse.proofs.AddedLaws.{some_same}
 use Rattle.qs_certify.specs.Certification.{IsCertified}
 use Rattle.qs_certify.specs.Laws.{AddedIsRight}
 use Rattle.qs_certify.proofs.CompletedLaws.{has_member}
@@ -67,7 +67,7 @@ module _ (u : CoreUnitTree) (given proofs : ProofsTree) (c : IsCertified u None 
   each_derived : GivenAreDerived u proofs proofs
   each_derived f e within there is =
       let own = all_are_derived u given proofs f c within in
-      subst (λ (d : EntryTree). IsDerived u proofs d) (some_same own.entry_tree e (sym own.stands ∙ is)) own.derived
+      subst (λ (d : EntryTree). IsDerived u proofs d) (same_Some own.entry_tree e (sym own.stands ∙ is)) own.derived
 
 pub added_is_right : AddedIsRight
 added_is_right u given proofs fits c =

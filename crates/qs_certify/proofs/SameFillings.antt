@@ -24,7 +24,7 @@ use Rattle.qs_triples.specs.Derivations.{EntryTree, ProofsTree, SpecTree, is_ent
 use Rattle.qs_triples.specs.Entries.{mentions_fault, order_told, entry_told, result_at_end, function_posts, scope_of, fault_in, fault_of_known, has_entry}
 use Rattle.qs_triples.specs.Filled.{open_definition, pre_in, pre_of, path_pre, HasBoth, Filled}
 use Rattle.qs_triples.specs.Mentions.{in_pre, in_post, first_other, as_plain}
-use Rattle.qs_triples.specs.Rules.{DerivationFault, in_precondition, in_postcondition, pre}
+use Rattle.qs_triples.specs.Rules.{DerivFault, in_precondition, in_postcondition, pre}
 use Rattle.qs_callgraph.specs.CallLists.{numbers}
 use Rattle.qs_callgraph.specs.Orders.{CalleesFirst}
 use Rattle.qs_callgraph.proofs.MemberLaws.{member_first, first_cases, none_passes}
@@ -267,7 +267,7 @@ module _ (u : CoreUnitTree) (fits : unit_fits u ≡ true) (given p q : ProofsTre
         (option_or (mentions_fault in_precondition (first_other f (in_pre f) e.spec.pre))
         (option_or (mentions_fault in_postcondition (first_other f (in_post f) e.spec.post))
         (option_or (mentions_fault in_postcondition (result_at_end f e.spec.post))
-        (fault_or (λ (fault : DerivationFault). fault) (body_same f e i)
+        (fault_or (λ (fault : DerivFault). fault) (body_same f e i)
         (λ x. entry_told (verdict_same p.defines q.defines alike [] e.spec.pre (assertion_image as_plain x) e.entry i))))))
 
     known_same : (o : Option CoreFunctionTree) (e : EntryTree) → fault_of_known u p o e ≡ fault_of_known u q o e

@@ -11,11 +11,11 @@ use Rattle.qs_assert.specs.Trees.{CondTree, AssertionTree, natural, infinity, As
 use Rattle.qs_assert.specs.Trees as trees
 use Rattle.qs_entail.specs.declared.fault.Rule.{Rule}
 use Rattle.qs_entail.specs.declared.fault.Rule.TheVariants as rules
-use Rattle.qs_entail.specs.Building.{Failure}
+use Rattle.qs_entail.specs.Building.{Stop}
 use Rattle.qs_entail.specs.Certificates.{CertTree, same, via, pick, all, parts, assume, drop, split, contradict, arithmetic, by_definition, fact, CertTrees, no_certs, cert_and}
 use Rattle.qs_entail.specs.Facts.{added}
 use Rattle.qs_entail.specs.Faults as certificates
-use Rattle.qs_entail.specs.Faults.{Fault, step, node, members_of, member_at, summands_of, guarded_of, definition, branch, unfolded}
+use Rattle.qs_entail.specs.Faults.{CertFault, step, node, members_of, member_at, summands_of, guarded_of, definition, branch, unfolded}
 use Rattle.qs_entail.specs.Pushing.{Known, with_polynomials, at_first, push, push_list}
 use Rattle.qs_entail.specs.Verdicts.{Outline, outlined, outlined_first, outline_list, is_given, stands, rule_of, begun, rest, faults_all, faults_parts, verdict}
 use Rattle.qs_core.specs.Trees.{CoreStmtTree, CoreStmts, no_stmts, stmt_and, CoreFunctionTree}
@@ -42,10 +42,10 @@ module _ (ds es : List Define) (alike : (n : List ℕ) → definition ds n ≡ d
   stands_same (by_definition n c) o p q = ap is_given (alike n)
   stands_same (fact f c) o p q = refl
 
-  begun_same : (c : CertTree) (o : Outline) (p q : AssertionTree) (r t : Option Fault) → r ≡ t → begun c ds o p q r ≡ begun c es o p q t
+  begun_same : (c : CertTree) (o : Outline) (p q : AssertionTree) (r t : Option CertFault) → r ≡ t → begun c ds o p q r ≡ begun c es o p q t
   begun_same c o p q r t e = λ i. if stands_same c o p q i then e i else Some (step [] (rule_of c))
 
-  node_same : {A : Type 0} (rule : Rule) (x : Result A Failure) (f g : A → Option Fault) → ((a : A) → f a ≡ g a) → node rule x f ≡ node rule x g
+  node_same : {A : Type 0} (rule : Rule) (x : Result A Stop) (f g : A → Option CertFault) → ((a : A) → f a ≡ g a) → node rule x f ≡ node rule x g
   node_same rule x f g h = ap (node rule x) (fun_ext h)
 
   mutual
@@ -70,7 +70,7 @@ module _ (ds es : List Define) (alike : (n : List ℕ) → definition ds n ≡ d
     rest_same (arithmetic w) k p q = refl
     rest_same (by_definition n c) k p q =
         node_same rules.ByDefinition (definition ds n) _ _ (λ body. ap (certificates.part 0) (begun_same c (outlined k) (unfolded n body p) (unfolded n body q) _ _ (rest_same c k (unfolded n body p) (unfolded n body q))))
-        ∙ ap (λ (x : Result AssertionTree Failure). node rules.ByDefinition x (λ body. certificates.part 0 (begun c es (outlined k) (unfolded n body p) (unfolded n body q) (rest c es k (unfolded n body p) (unfolded n body q))))) (alike n)
+        ∙ ap (λ (x : Result AssertionTree Stop). node rules.ByDefinition x (λ body. certificates.part 0 (begun c es (outlined k) (unfolded n body p) (unfolded n body q) (rest c es k (unfolded n body p) (unfolded n body q))))) (alike n)
     rest_same (fact f c) k p q =
         node_same rules.Fact (added f k) _ _ (λ ps. ap (certificates.part 0) (begun_same c (outlined (with_polynomials ps k)) p q _ _ (rest_same c (with_polynomials ps k) p q)))
 
@@ -92,7 +92,7 @@ module _ (ds es : List Define) (alike : (n : List ℕ) → definition ds n ≡ d
       begun_same c (outline_list hypotheses outlined_first) p q _ _ (node_same (rule_of c) (push_list hypotheses at_first) _ _ (λ k. rest_same c k p q))
 
   certified_same : (w : CertTree) (p q r : AssertionTree) → certified ds w p q r ≡ certified es w p q r
-  certified_same w p q r = ap (λ (v : Option Fault). by_verdict v r) (verdict_same [] p q w)
+  certified_same w p q r = ap (λ (v : Option CertFault). by_verdict v r) (verdict_same [] p q w)
 
   -- ---- derivations
 

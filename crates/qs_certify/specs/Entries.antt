@@ -6,7 +6,7 @@ use Rattle.qs_core.specs.UnitTrees.{unit_tree}
 use Rattle.qs_core.specs.declared.unit.CoreUnit.{CoreUnit}
 use Rattle.qs_triples.specs.Derivations.{ProofsTree}
 use Rattle.qs_triples.specs.Entries.{function_fault}
-use Rattle.qs_triples.specs.Rules.{DerivationFault}
+use Rattle.qs_triples.specs.Rules as rules
 use Rattle.qs_triples.specs.Told.{IsDue}
 use Rattle.qs_triples.specs.TreeOf.{proofs_tree}
 use Rattle.qs_triples.specs.declared.derivation.Proofs.{Proofs}
@@ -19,9 +19,9 @@ use Rattle.qs_certify.specs.declared.fault.CertifyFault.TheVariants.{NoMemory, T
 -- a function, and the first fault of its entry
 pub record EntryFault : Type 0 where
   pub function : ℕ
-  pub fault : DerivationFault
+  pub fault : rules.DerivFault
 
-abbrev pub fault_or_next : (function : ℕ) → Option DerivationFault → (next : Option EntryFault) → Option EntryFault
+abbrev pub fault_or_next : (function : ℕ) → Option rules.DerivFault → (next : Option EntryFault) → Option EntryFault
 fault_or_next f None next = next
 fault_or_next f (Some fault) next = Some (record { function = f; fault = fault })
 
@@ -54,7 +54,7 @@ IsMet (faults.BadOrder d) = ⊥
 
 -- the first of these functions whose entry isn't derived is f, and this fault of it is told
 pub record IsFirstFault (u : CoreUnitTree) (proofs : ProofsTree) (fs : List ℕ) (f : ℕ) (told : DerivFault) : Type 0 where
-  pub fault : DerivationFault
+  pub fault : rules.DerivFault
   pub first : first_fault u proofs fs ≡ Some (record { function = f; fault = fault })
   pub is_fault : IsFault told
   pub is_told : IsDue told (Some fault)

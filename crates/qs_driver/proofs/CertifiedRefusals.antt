@@ -8,7 +8,7 @@ use Rattle.qs_core.specs.Trees.{CoreUnitTree}
 use Rattle.qs_core.specs.FunctionNames.{function_name}
 use Rattle.qs_elaborate.specs.Units.{core_of}
 use Rattle.qs_triples.specs.Derivations.{ProofsTree}
-use Rattle.qs_triples.specs.Rules.{DerivationFault}
+use Rattle.qs_triples.specs.Rules.{DerivFault}
 use Rattle.qs_analyse.specs.Fillable.{entry_functions}
 use Rattle.qs_callgraph.specs.CallLists.{numbers}
 use Rattle.qs_prooftext.specs.declared.fault.TextFault.{TextFault}
@@ -417,7 +417,7 @@ entry_told u file function place text l (faults.Entry g found) told is (spot, fo
       ap Proof (e ∙ ap (λ (n : List ℕ). Entry n spot found_text) (sym name) ∙ ap (Entry function spot) text_is),
     )
 
-some_fault : {u : CoreUnitTree} {given : ProofsTree} {function : ℕ} {fault : DerivationFault} (h : HasFirstFault u given function fault) → first_fault u h.proofs (entry_functions given.functions) ≢ None
+some_fault : {u : CoreUnitTree} {given : ProofsTree} {function : ℕ} {fault : DerivFault} (h : HasFirstFault u given function fault) → first_fault u h.proofs (entry_functions given.functions) ≢ None
 some_fault h none = let is = h.first in (let never : ⊥ = cc in never)
 
 -- an entry of a function is told where it is the first that isn't derived, and its first fault is

@@ -3,12 +3,14 @@ use Rattle.std.proofs.Common.{◌≡◌, ◌∙◌, ℕ, List, Some, refl, sym, 
 use Rattle.std.proofs.lemmas.Option.{same_Some}
 use Rattle.qs_core.specs.Trees.{CoreUnitTree}
 use Rattle.qs_entail.specs.Answers.{fault_of}
-use Rattle.qs_entail.specs.Faults.{Fault, step, limit}
+use Rattle.qs_entail.specs.Faults as faults
+use Rattle.qs_entail.specs.Faults.{step, limit}
 use Rattle.qs_entail.specs.declared.fault.CertFault.{CertFault}
 use Rattle.qs_entail.specs.declared.fault.CertFault.TheVariants as certificates
 use Rattle.qs_entail.specs.declared.stop.Limit.{Limit}
 use Rattle.qs_entail.specs.declared.stop.Limit.TheVariants.{Coefficient, Terms, Degree}
-use Rattle.qs_triples.specs.Rules.{DerivationFault, shape, mentions, certificate, entry}
+use Rattle.qs_triples.specs.Rules as rules
+use Rattle.qs_triples.specs.Rules.{shape, mentions, certificate, entry}
 use Rattle.qs_triples.specs.Told.{IsDue, IsOfCertificate, callee_view, place_view}
 use Rattle.qs_triples.specs.declared.fault.DerivFault.{DerivFault}
 use Rattle.qs_triples.specs.declared.fault.DerivFault.TheVariants as entries
@@ -21,7 +23,7 @@ use Rattle.qs_driver.specs.Told.{at_entry, at_body, at_certificate, place_of, me
 use Rattle.qs_driver.specs.Certified.{path_in, IsWrongThere, IsMentionPlace, IsToldAs}
 
 -- the line tells this fault of the entry of this function
-pub record IsToldBy (u : CoreUnitTree) (f : ℕ) (fault : DerivationFault) (spot : Spot) (text : ProofText) : Type 0 where
+pub record IsToldBy (u : CoreUnitTree) (f : ℕ) (fault : rules.DerivFault) (spot : Spot) (text : ProofText) : Type 0 where
   pub place : place_of spot ≡ fault_place fault
   pub wrong : text ≡ fault_text u f fault
 
@@ -38,13 +40,13 @@ mentioned_at places.Postcondition spot e = ap place_of e
 mentioned_at (places.Node path) spot (node, e, steps) = ap place_of e ∙ ap at_body steps
 
 -- a fault of a certificate, as it is told and as it is due
-record IsCertificateDue (there : Fault → DerivationFault) (fault : CertFault) (due : DerivationFault) (text : ProofText) : Type 0 where
-  inner : Fault
+record IsCertificateDue (there : faults.CertFault → rules.DerivFault) (fault : CertFault) (due : rules.DerivFault) (text : ProofText) : Type 0 where
+  inner : faults.CertFault
   due_is : due ≡ there inner
   path : path_in fault ≡ inner_path inner
   wrong : text ≡ certificate_text inner
 
-certificate_due : (there : Fault → DerivationFault) (fault : CertFault) (due : DerivationFault) (text : ProofText) → IsOfCertificate there fault (Some due) → IsWrongThere fault text → IsCertificateDue there fault due text
+certificate_due : (there : faults.CertFault → rules.DerivFault) (fault : CertFault) (due : rules.DerivFault) (text : ProofText) → IsOfCertificate there fault (Some due) → IsWrongThere fault text → IsCertificateDue there fault due text
 certificate_due there certificates.NoMemory due text is wrong = absurd wrong
 certificate_due there (certificates.Step path rule) due text is wrong = record {
   inner = step path.items rule;
@@ -62,7 +64,7 @@ certificate_due there (certificates.Limit path l) due text is wrong = record {
 -- ---- the whole
 
 -- what is told of a fault that is due
-pub told_by : (u : CoreUnitTree) (f : ℕ) (told : DerivFault) (fault : DerivationFault) (spot : Spot) (text : ProofText) → IsDue told (Some fault) → IsToldAs u f told spot text → IsToldBy u f fault spot text
+pub told_by : (u : CoreUnitTree) (f : ℕ) (told : DerivFault) (fault : rules.DerivFault) (spot : Spot) (text : ProofText) → IsDue told (Some fault) → IsToldAs u f told spot text → IsToldBy u f fault spot text
 told_by u f entries.NoMemory fault spot text due is = absurd is
 told_by u f (entries.Shape path) fault spot text due (node, e, steps, wrong) =
     let same : fault ≡ shape path.items = same_Some fault (shape path.items) due in
@@ -71,7 +73,7 @@ told_by u f (entries.Shape path) fault spot text due (node, e, steps, wrong) =
       wrong = wrong ∙ ap (fault_text u f) (sym same);
     }
 told_by u f (entries.Mentions place callee x) fault spot text due (at, wrong) =
-    let is : DerivationFault = mentions (place_view place) (callee_view callee) x in
+    let is : rules.DerivFault = mentions (place_view place) (callee_view callee) x in
     let same : fault ≡ is = same_Some fault is due in
     record {
       place = mentioned_at place spot at ∙ ap fault_place (sym same);

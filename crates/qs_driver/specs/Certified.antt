@@ -22,7 +22,7 @@ use Rattle.qs_entail.specs.declared.fault.CertFault.{CertFault}
 use Rattle.qs_entail.specs.declared.fault.CertFault.TheVariants as certificates
 use Rattle.qs_triples.specs.Derivations.{ProofsTree}
 use Rattle.qs_triples.specs.Entries.{has_entry}
-use Rattle.qs_triples.specs.Rules.{DerivationFault}
+use Rattle.qs_triples.specs.Rules as rules
 use Rattle.qs_triples.specs.Told.{callee_view}
 use Rattle.qs_triples.specs.TreeOf.{proofs_tree}
 use Rattle.qs_triples.specs.declared.fault.DerivFault.{DerivFault}
@@ -316,7 +316,7 @@ pub record IsCycleOf (names : List (List ℕ)) (u : CoreUnitTree) (file : Option
 
 -- of all proofs the definitions are in order, and the entry of this function is the first of the file that isn't derived
 pub record HasFirstFault (u : CoreUnitTree) (given : ProofsTree) (function : ℕ)
-    (fault : DerivationFault) : Type 0 where
+    (fault : rules.DerivFault) : Type 0 where
   pub proofs : ProofsTree
   pub all : AreAll u given proofs
   pub in_order : IsInOrder proofs.defines
@@ -328,7 +328,7 @@ pub record HasFirstFault (u : CoreUnitTree) (given : ProofsTree) (function : ℕ
 pub record LacksDerivation (name : List ℕ) (place : EntryPlace) (wrong : ProofText)
     (u : CoreUnitTree) (file : Option (List ℕ)) : Type 0 where
   pub function : ℕ
-  pub fault : DerivationFault
+  pub fault : rules.DerivFault
   pub named : name ≡ function_name u function
   pub first : OfGiven u file (λ given. HasFirstFault u given function fault)
   pub place_is : place ≡ fault_place fault

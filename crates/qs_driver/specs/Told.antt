@@ -4,9 +4,9 @@ use Rattle.qs_poly.specs.declared.fault.PolyFault.{PolyFault}
 use Rattle.qs_poly.specs.declared.fault.PolyFault.TheVariants.{NoMemory, Wide, ManyTerms, HighDegree}
 use Rattle.qs_core.specs.Trees.{CoreUnitTree}
 use Rattle.qs_prooftext.specs.Writing.{variable_text}
-use Rattle.qs_entail.specs.Faults.{Fault, step, limit}
+use Rattle.qs_entail.specs.Faults.{CertFault, step, limit}
 use Rattle.qs_entail.specs.declared.stop.Limit.TheVariants.{Coefficient, Terms, Degree}
-use Rattle.qs_triples.specs.Rules.{DerivationFault, Place, in_precondition, in_postcondition, at_node, shape, mentions, certificate, no_spec, entry, bad_order}
+use Rattle.qs_triples.specs.Rules.{DerivFault, Place, in_precondition, in_postcondition, at_node, shape, mentions, certificate, no_spec, entry, bad_order}
 use Rattle.qs_report.specs.declared.fault_texts.ProofText.{ProofText}
 use Rattle.qs_report.specs.declared.fault_texts.ProofText.TheVariants as wrongs
 use Rattle.qs_report.specs.declared.fault_texts.Spot.{Spot}
@@ -39,12 +39,12 @@ mention_place in_postcondition = at_postcondition
 mention_place (at_node path) = at_body path
 
 -- where a certificate has a fault
-abbrev pub inner_path : Fault → List ℕ
+abbrev pub inner_path : CertFault → List ℕ
 inner_path (step path rule) = path
 inner_path (limit path passed) = path
 
 -- The place of a fault. (That a function has no specification, and that definitions are out of order, is never met here.)
-abbrev pub fault_place : DerivationFault → EntryPlace
+abbrev pub fault_place : DerivFault → EntryPlace
 fault_place (shape path) = at_body path
 fault_place (mentions place g x) = mention_place place
 fault_place (certificate path fault) = at_certificate path (inner_path fault)
@@ -61,7 +61,7 @@ passed_text Wide = wrongs.Limit Coefficient
 passed_text ManyTerms = wrongs.Limit Terms
 passed_text HighDegree = wrongs.Limit Degree
 
-abbrev pub certificate_text : Fault → ProofText
+abbrev pub certificate_text : CertFault → ProofText
 certificate_text (step path rule) = wrongs.Step rule
 certificate_text (limit path passed) = passed_text passed
 
@@ -71,7 +71,7 @@ owner_of f None = f
 owner_of f (Some g) = g
 
 -- what is wrong in the entry of this function
-abbrev pub fault_text : CoreUnitTree → (function : ℕ) → DerivationFault → ProofText
+abbrev pub fault_text : CoreUnitTree → (function : ℕ) → DerivFault → ProofText
 fault_text u f (shape path) = wrongs.Shape
 fault_text u f (mentions place g x) = wrongs.Mentions (variable_text u (owner_of f g) x)
 fault_text u f (certificate path fault) = certificate_text fault

@@ -2,6 +2,7 @@
 use Rattle.std.proofs.Common.{◌≡◌, ℕ, zero, suc, ◌+◌, ◌*◌, refl, sym, ap, ◌∙◌, arith, true}
 use Rattle.std.specs.Prelude.{ℤ, pos, negsuc, ◌-ℤ◌, ◌*ℤ◌, ◌≤ℤ◌, List, [], ◌∷◌, All, slice_index_or, Result, Ok, Err}
 use Rattle.std.proofs.lemmas.Int.{ints}
+use Rattle.std.proofs.lemmas.Bool.{and_parts}
 use Rattle.qs_assert.specs.Trees.{AssertionTree, natural, cost, num, total, product, AssertionTrees, no_assertions, assertion_and}
 use Rattle.qs_assert.specs.Values.{State, natural_part, term_value, Extended, finite, value, sum_of, product_of, plus as with, times}
 use Rattle.qs_poly.specs.Polynomials as poly
@@ -13,8 +14,8 @@ use Rattle.qs_poly.proofs.Ring.{mul_assoc, mul_not_negative}
 use Rattle.qs_poly.proofs.ValueLaws.{number_value, single_value}
 use Rattle.qs_entail.specs.Certificates.{Item, once, twice}
 use Rattle.qs_base.specs.Results.{bind}
-use Rattle.qs_entail.specs.Building.{Failure, limited, term_polynomial, is_plain, all_plain, assertion_polynomial, total_onto, factors_onto, at, item_polynomial, item_polynomials, sum_all, combination, two_combinations, Two}
-use Rattle.qs_entail.proofs.Built.{both, bind_ok, limited_value, limited_sum_value, limited_product_value, limited_multiple_value, term_polynomial_value}
+use Rattle.qs_entail.specs.Building.{Stop, limited, term_polynomial, is_plain, all_plain, assertion_polynomial, total_onto, factors_onto, at, item_polynomial, item_polynomials, sum_all, combination, two_combinations, Two}
+use Rattle.qs_entail.proofs.Built.{bind_ok, limited_value, limited_sum_value, limited_product_value, limited_multiple_value, term_polynomial_value}
 
 -- an assertion whose value is the number that a polynomial has
 pub record Counts (a : Extended) (z : ℤ) : Type 0 where
@@ -54,7 +55,7 @@ mutual
       let e : p ≡ r = cc in
       record { n = 0; is = refl; value_is = let k = ap (λ x. polynomial_value x s) e in omega (arith, ints, k) }
   total_onto_value (assertion_and c parts) p r s a h =
-      let ab = both (is_plain c) (all_plain parts) a in
+      let ab = and_parts (is_plain c) (all_plain parts) a in
       let b = bind_ok (assertion_polynomial c) (λ q. bind (limited (sum p q)) (λ r. total_onto parts r)) r h in
       let d = bind_ok (limited (sum p b.0)) (λ r. total_onto parts r) r b.1.1 in
       let x = assertion_polynomial_value c b.0 s ab.0 b.1.0 in
@@ -72,7 +73,7 @@ mutual
       let e : p ≡ r = cc in
       record { n = 1; is = refl; value_is = let k = ap (λ x. polynomial_value x s) e in omega (arith, ints, k) }
   factors_onto_value (assertion_and c parts) p r s a h =
-      let ab = both (is_plain c) (all_plain parts) a in
+      let ab = and_parts (is_plain c) (all_plain parts) a in
       let b = bind_ok (assertion_polynomial c) (λ q. bind (limited (operation.product p q)) (λ r. factors_onto parts r)) r h in
       let d = bind_ok (limited (operation.product p b.0)) (λ r. factors_onto parts r) r b.1.1 in
       let x = assertion_polynomial_value c b.0 s ab.0 b.1.0 in
@@ -129,7 +130,7 @@ items_not_negative (item ∷ items) l ps s h e =
     let y = items_not_negative items l b.0 s h b.1.0 in
     joined a.0 b.0 ps b.1.1 x y
   where
-    joined : (p : Polynomial) (qs rs : List Polynomial) → (let made : Result (List Polynomial) Failure = Ok (p ∷ qs) in made) ≡ Ok rs → pos 0 ≤ℤ polynomial_value p s → AllNotNegative s qs → AllNotNegative s rs
+    joined : (p : Polynomial) (qs rs : List Polynomial) → (let made : Result (List Polynomial) Stop = Ok (p ∷ qs) in made) ≡ Ok rs → pos 0 ≤ℤ polynomial_value p s → AllNotNegative s qs → AllNotNegative s rs
     joined p qs [] h x y = tt
     joined p qs (r ∷ rs) h x y =
         let e : p ≡ r = cc in
@@ -162,10 +163,10 @@ two_not_negative v w l z s h e =
     let g : d.0 ≡ z.second = ap second_of_two made in
     (let k = ap (λ p. polynomial_value p s) f in omega (arith, ints, k, x), let k = ap (λ p. polynomial_value p s) g in omega (arith, ints, k, y))
   where
-    first_of_two : Result Two Failure → Polynomial
+    first_of_two : Result Two Stop → Polynomial
     first_of_two (Ok t) = t.first
     first_of_two (Err failure) = nothing
 
-    second_of_two : Result Two Failure → Polynomial
+    second_of_two : Result Two Stop → Polynomial
     second_of_two (Ok t) = t.second
     second_of_two (Err failure) = nothing

@@ -3,6 +3,7 @@ use Rattle.std.proofs.Common.{◌≡◌, refl, sym, ap, ◌∙◌, arith, true, 
 use Rattle.std.specs.Prelude.{ℕ, ℤ, pos, ◌+ℤ◌, ◌-ℤ◌, ◌*ℤ◌, Bool, ◌&&◌, Result, Ok, Err}
 use Rattle.std.proofs.lemmas.Int.{ints}
 use Rattle.std.proofs.Math.IntN.{*ℤ_comm}
+use Rattle.std.proofs.lemmas.Bool.{and_parts}
 use Rattle.qs_assert.specs.Trees.{TermTree, number, variable, add, sub, mul, div, wrapu, wraps, bits, TermTrees, no_terms, term_and}
 use Rattle.qs_assert.specs.Values.{State, wrapped_unsigned, wrapped_signed, bit_length, quotient, term_value, sum_of_terms, product_of_terms}
 use Rattle.qs_poly.specs.Polynomials as poly
@@ -16,23 +17,18 @@ use Rattle.qs_poly.specs.declared.fault.PolyFault.TheVariants.{Wide, ManyTerms, 
 use Rattle.qs_poly.proofs.Ring.{mul_assoc}
 use Rattle.qs_poly.proofs.ValueLaws.{sum_value, multiple_value, lessened_value, product_value, number_value, single_value}
 use Rattle.qs_base.specs.Results.{bind, require}
-use Rattle.qs_entail.specs.Building.{Failure, breaks, limits, limited, difference, term_polynomial, sum_onto, product_onto}
+use Rattle.qs_entail.specs.Building.{Stop, breaks, limits, limited, difference, term_polynomial, sum_onto, product_onto}
 
 times_one : (z : ℤ) → z *ℤ pos 1 ≡ z
 times_one z = omega (arith, ints)
 
-pub both : (a b : Bool) → (a && b) ≡ true → (a ≡ true) × (b ≡ true)
-both true true h = (refl, refl)
-both true false h = cc
-both false b h = cc
-
 -- ---- attempts that succeed
 
-pub bind_ok : {A B : Type 0} (r : Result A Failure) (f : A → Result B Failure) (b : B) → bind r f ≡ Ok b → (a : A) × ((r ≡ Ok a) × (f a ≡ Ok b))
+pub bind_ok : {A B : Type 0} (r : Result A Stop) (f : A → Result B Stop) (b : B) → bind r f ≡ Ok b → (a : A) × ((r ≡ Ok a) × (f a ≡ Ok b))
 bind_ok (Ok a) f b h = (a, (refl, h))
 bind_ok (Err n) f b h = cc
 
-pub require_ok : {A : Type 0} (t : Bool) (r : Result A Failure) (a : A) → require t breaks r ≡ Ok a → (t ≡ true) × (r ≡ Ok a)
+pub require_ok : {A : Type 0} (t : Bool) (r : Result A Stop) (a : A) → require t breaks r ≡ Ok a → (t ≡ true) × (r ≡ Ok a)
 require_ok true r a h = (refl, h)
 require_ok false r a h = cc
 
@@ -67,7 +63,7 @@ limited_multiple_value k q r s h = limited_value (multiple k q) r s h ∙ multip
 
 -- ---- terms
 
-atom_ok : (a : AtomTree) (p : Polynomial) (s : State) → (let made : Result Polynomial Failure = Ok (single a) in made) ≡ Ok p → polynomial_value p s ≡ atom_value a s
+atom_ok : (a : AtomTree) (p : Polynomial) (s : State) → (let made : Result Polynomial Stop = Ok (single a) in made) ≡ Ok p → polynomial_value p s ≡ atom_value a s
 atom_ok a p s h = let e : single a ≡ p = cc in sym (ap (λ x. polynomial_value x s) e) ∙ single_value a s
 
 mutual

@@ -9,7 +9,7 @@ use Rattle.qs_assert.specs.Trees.{CondTree, le, lt, eq, ne, not, and, or, Assert
 use Rattle.qs_assert.specs.Listing.{cond_nodes, assertion_nodes}
 use Rattle.qs_assert.specs.Reading.{others}
 use Rattle.qs_base.specs.Results.{bind}
-use Rattle.qs_entail.specs.Building.{Failure}
+use Rattle.qs_entail.specs.Building.{Stop}
 use Rattle.qs_entail.specs.Facts.{equal_sides, different_sides}
 use Rattle.qs_entail.specs.Faults.{members_of, summands_of, guarded_of, member, member_at, count}
 use Rattle.qs_assert.specs.Views.{begins}
@@ -71,13 +71,13 @@ member_at_given : (parts : AssertionTrees) (i : ℤ) → is_given (member_at par
 member_at_given parts (pos i) = member_given parts i
 member_at_given parts (negsuc i) = refl
 
-pub numbered : (r : Result AssertionTrees Failure) (i : ℤ) (n : ℕ) (b : Bool) → bind r (λ members. Ok (count members)) ≡ counted (Some n) → b ≡ is_counted i n → b ≡ is_given (bind r (λ members. member_at members i))
+pub numbered : (r : Result AssertionTrees Stop) (i : ℤ) (n : ℕ) (b : Bool) → bind r (λ members. Ok (count members)) ≡ counted (Some n) → b ≡ is_counted i n → b ≡ is_given (bind r (λ members. member_at members i))
 numbered (Ok parts) i n b e h =
     let same : count parts ≡ n = cc in
     h ∙ (sym (ap (λ (k : ℕ). is_counted i k) same) ∙ sym (member_at_given parts i))
 numbered (Err failure) i n b e h = cc
 
-pub none_numbered : (r : Result AssertionTrees Failure) (i : ℤ) → bind r (λ members. Ok (count members)) ≡ counted None → false ≡ is_given (bind r (λ members. member_at members i))
+pub none_numbered : (r : Result AssertionTrees Stop) (i : ℤ) → bind r (λ members. Ok (count members)) ≡ counted None → false ≡ is_given (bind r (λ members. member_at members i))
 none_numbered (Ok parts) i e = cc
 none_numbered (Err failure) i e = refl
 

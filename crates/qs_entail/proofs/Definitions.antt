@@ -4,6 +4,7 @@ use Rattle.std.specs.Prelude.{pos, ◌+ℤ◌, ◌-ℤ◌, ◌*ℤ◌, Bool, ◌
 use Rattle.std.specs.Prelude.{not as flip}
 use Rattle.std.specs.Ordering.{int_eq}
 use Rattle.std.proofs.lemmas.List.Folds.{list_any-append}
+use Rattle.std.proofs.lemmas.Bool.{and_parts, and_from}
 use Rattle.qs_assert.specs.declared.define.Define.{Define}
 use Rattle.qs_assert.specs.Order.{names_known, all_names_known, is_among, order_fault_behind, IsInOrder}
 use Rattle.qs_assert.specs.Bounds.{Setting, same_name, with_definition, with_definitions}
@@ -11,17 +12,14 @@ use Rattle.qs_assert.specs.Trees.{TermTree, number, variable, add, sub, mul, div
 use Rattle.qs_assert.specs.Values.{State, wrapped_unsigned, wrapped_signed, bit_length, quotient, natural_part, term_value, sum_of_terms, product_of_terms, holds, all_hold, some_holds, Extended, finite, infinite, or_infinite, value, sum_of, greatest_of, product_of, plus, greater, times}
 use Rattle.qs_entail.specs.Faults.{definition}
 use Rattle.qs_entail.specs.Meaning.{defined_by, InRange}
-use Rattle.qs_entail.proofs.Built.{both}
 use Rattle.qs_entail.proofs.Pushed.{made}
+use Rattle.qs_entail.proofs.Replaced.{pair}
 
 abbrev Names : Type 0
 Names = List ℕ → Option Extended
 
 abbrev with_names : State → Names → State
 with_names s e = record s { names = e }
-
-pair : {A B C : Type 0} (f : A → B → C) {a a' : A} {b b' : B} → a ≡ a' → b ≡ b' → f a b ≡ f a' b'
-pair f {a' = a'} {b = b} p q = ap (λ x. f x b) p ∙ ap (f a') q
 
 -- ---- terms and conditions read no names
 
@@ -77,7 +75,7 @@ mutual
   value_agrees (product parts) known s e f k g = (values_agree parts known s e f k g).2
   value_agrees (guard c a) known s e f k g = pair (λ x y. if x then y else infinite) (condition_apart c s e f) (value_agrees a known s e f k g)
   value_agrees (choose c a b) known s e f k g =
-      let k' = both (names_known a known) (names_known b known) k in
+      let k' = and_parts (names_known a known) (names_known b known) k in
       pair (λ x y. if x then y else value b (with_names s e)) (condition_apart c s e f) (value_agrees a known s e f k'.0 g)
       ∙ ap (λ y. if holds c (with_names s f) then value a (with_names s f) else y) (value_agrees b known s e f k'.1 g)
   value_agrees (named n) known s e f k g = g n k
@@ -85,7 +83,7 @@ mutual
   values_agree : (ps : AssertionTrees) (known : List ℕ → Bool) (s : State) (e f : Names) → all_names_known ps known ≡ true → Agree known e f → (sum_of ps (with_names s e) ≡ sum_of ps (with_names s f)) × (greatest_of ps (with_names s e) ≡ greatest_of ps (with_names s f)) × (product_of ps (with_names s e) ≡ product_of ps (with_names s f))
   values_agree no_assertions known s e f k g = (refl, refl, refl)
   values_agree (assertion_and a ps) known s e f k g =
-      let b = both (names_known a known) (all_names_known ps known) k in
+      let b = and_parts (names_known a known) (all_names_known ps known) k in
       let x = value_agrees a known s e f b.0 g in
       let y = values_agree ps known s e f b.1 g in
       (pair plus x y.0, pair greater x y.1, pair times x y.2)
@@ -110,15 +108,11 @@ no_fault_here : (b : Bool) (x : Option ℕ) (i : ℕ) → (if b then x else Some
 no_fault_here true x i h = (refl, h)
 no_fault_here false x i h = cc
 
-and_true : (a b : Bool) → a ≡ true → b ≡ true → (a && b) ≡ true
-and_true true b h k = k
-and_true false b h k = cc
-
 orders : (ds earlier : List Define) (known : List ℕ → Bool) → known ≡ is_among earlier → order_fault_behind ds earlier ≡ None → in_order ds known ≡ true
 orders [] earlier known e h = refl
 orders (d ∷ ds) earlier known e h =
     let k = no_fault_here (names_known d.body (is_among earlier)) (order_fault_behind ds (earlier ++ d ∷ [])) (length earlier) h in
-    and_true (names_known d.body known) (in_order ds (λ n. known n || same_name n d.name)) (ap (names_known d.body) e ∙ k.0)
+    and_from (names_known d.body known) (in_order ds (λ n. known n || same_name n d.name)) (ap (names_known d.body) e ∙ k.0)
     (orders ds (earlier ++ d ∷ []) (λ n. known n || same_name n d.name) (one_more_name earlier d known e) k.1)
 
 -- only the names change
@@ -126,17 +120,19 @@ pub only_names : (ds : List Define) (g : Setting) → (with_definitions ds g).st
 only_names [] g = refl
 only_names (d ∷ ds) g = only_names ds (with_definition d g)
 
+-- what is defined stays
+
 abbrev has_value : Option Extended → Bool
 has_value o = elim o [ Some v ↦ true | None ↦ false ]
 
-defined_stays : (d : Define) (g : Setting) (n : List ℕ) (v : Extended) → g.state.names n ≡ Some v → (with_definition d g).state.names n ≡ Some v
+pub defined_stays : (d : Define) (g : Setting) (n : List ℕ) (v : Extended) → g.state.names n ≡ Some v → (with_definition d g).state.names n ≡ Some v
 defined_stays d g n v h =
     ap (λ b. if b then g.state.names n else (if same_name n d.name then Some (value d.body g.state) else None)) (ap has_value h) ∙ h
 
-undefined_takes : (d : Define) (g : Setting) (n : List ℕ) → g.state.names n ≡ None → (with_definition d g).state.names n ≡ (if same_name n d.name then Some (value d.body g.state) else None)
+pub undefined_takes : (d : Define) (g : Setting) (n : List ℕ) → g.state.names n ≡ None → (with_definition d g).state.names n ≡ (if same_name n d.name then Some (value d.body g.state) else None)
 undefined_takes d g n h = ap (λ b. if b then g.state.names n else (if same_name n d.name then Some (value d.body g.state) else None)) (ap has_value h)
 
-kept : (ds : List Define) (g : Setting) (n : List ℕ) (v : Extended) → g.state.names n ≡ Some v → (with_definitions ds g).state.names n ≡ Some v
+pub kept : (ds : List Define) (g : Setting) (n : List ℕ) (v : Extended) → g.state.names n ≡ Some v → (with_definitions ds g).state.names n ≡ Some v
 kept [] g n v h = h
 kept (d ∷ ds) g n v h = kept ds (with_definition d g) n v (defined_stays d g n v h)
 
@@ -155,7 +151,7 @@ one_more d g known k m h = by (known m) (same_name m d.name) (g.state.names m) r
 given : (ds : List Define) (g : Setting) (known : List ℕ → Bool) → in_order ds known ≡ true → AllValued known g → (n : List ℕ) (body : AssertionTree) → definition ds n ≡ Ok body → g.state.names n ≡ None → or_infinite ((with_definitions ds g).state.names n) ≡ value body (with_definitions ds g).state
 given [] g known o k n body h none = cc
 given (d ∷ ds) g known o k n body h none =
-    let b = both (names_known d.body known) (in_order ds (λ n. known n || same_name n d.name)) o in
+    let b = and_parts (names_known d.body known) (in_order ds (λ n. known n || same_name n d.name)) o in
     by (same_name n d.name) refl b.0 h (given ds (with_definition d g) (λ n. known n || same_name n d.name) b.1 (one_more d g known k) n body)
   where
     final : State

@@ -12,24 +12,24 @@ use Rattle.qs_poly.specs.declared.fault.PolyFault.TheVariants.{Wide, ManyTerms, 
 use Rattle.qs_entail.specs.declared.fault.Rule.{Rule}
 use Rattle.qs_entail.specs.declared.fault.Rule.TheVariants as rules
 use Rattle.qs_entail.specs.Certificates.{Item, once, twice, FactTree, range, cost_range, apart, num_is, num_bounds, wrapu_is, wraps_is, wrapu_bounds, wraps_bounds, quotient_bounds, bits_bound, bits_half, bits_rise, CertTree, same, via, pick, all, parts, assume, drop, split, contradict, arithmetic, by_definition, fact}
-use Rattle.qs_entail.specs.Faults.{Fault, step, limit}
+use Rattle.qs_entail.specs.Faults.{CertFault, step, limit}
 use Rattle.qs_entail.specs.Verdicts.{verdict}
 use Rattle.qs_entail.specs.View.{certs_of}
 
 -- ---- answers
 
-abbrev fails : List ℕ → Rule → Option Fault
+abbrev fails : List ℕ → Rule → Option CertFault
 fails path rule = Some (step path rule)
 
-abbrev passes : List ℕ → PolyFault → Option Fault
+abbrev passes : List ℕ → PolyFault → Option CertFault
 passes path fault = Some (limit path fault)
 
 -- without hypotheses and definitions
-abbrev answers : AssertionTree → AssertionTree → List CertTree → List (Option Fault)
+abbrev answers : AssertionTree → AssertionTree → List CertTree → List (Option CertFault)
 answers p q = map (verdict [] [] p q)
 
 -- whether p is at least 0 by a fact and then these items
-abbrev shows : List CondTree → FactTree → List Item → ℕ → Option Fault
+abbrev shows : List CondTree → FactTree → List Item → ℕ → Option CertFault
 shows hypotheses f items p = verdict hypotheses [] (natural p) (natural 0) (fact f (arithmetic items))
 
 -- the first two polynomials behind 1

@@ -5,6 +5,7 @@ use Rattle.std.specs.Prelude.{not as flip}
 use Rattle.std.specs.Ordering.{int_eq}
 use Rattle.std.proofs.lemmas.Int.{ints}
 use Rattle.std.proofs.lemmas.List.Elements.{All-head, All-tail}
+use Rattle.std.proofs.lemmas.Bool.{and_parts}
 use Rattle.qs_assert.specs.declared.variable.Var.{Var}
 use Rattle.qs_assert.specs.Trees.{TermTree, CondTree, le, lt, eq, ne, not, and, or}
 use Rattle.qs_assert.specs.Values.{State, term_value, holds, bit_length}
@@ -17,14 +18,14 @@ use Rattle.qs_poly.proofs.Equality.{polynomial_equal}
 use Rattle.qs_poly.proofs.ValueLaws.{lessened_value, number_value, single_value}
 use Rattle.qs_entail.specs.Certificates.{Item, FactTree, range, cost_range, apart, num_is, num_bounds, wrapu_is, wraps_is, wrapu_bounds, wraps_bounds, quotient_bounds, bits_bound, bits_half, bits_rise}
 use Rattle.qs_base.specs.Results.{bind}
-use Rattle.qs_entail.specs.Building.{Failure, limited, difference, term_polynomial, combination, two_combinations}
+use Rattle.qs_entail.specs.Building.{Stop, limited, difference, term_polynomial, combination, two_combinations}
 use Rattle.qs_entail.specs.Pushing.{Known}
 use Rattle.qs_entail.specs.Facts.{least, greatest_of_type, Sides, equal_sides, different_sides, condition_at, condition, added}
 use Rattle.qs_entail.specs.Verdicts.{fact_stands, outlined}
 use Rattle.qs_entail.specs.Meaning.{InRange}
-use Rattle.qs_entail.proofs.Built.{both, bind_ok, require_ok, difference_value, limited_lessened_value, limited_sum_value, limited_multiple_value, term_polynomial_value}
+use Rattle.qs_entail.proofs.Built.{bind_ok, require_ok, difference_value, limited_lessened_value, limited_sum_value, limited_multiple_value, term_polynomial_value}
 use Rattle.qs_entail.proofs.Assertions.{AllNotNegative, combination_not_negative, two_not_negative}
-use Rattle.qs_entail.proofs.Pushed.{Holds, made}
+use Rattle.qs_entail.proofs.Pushed.{Holds, made, not_true}
 use Rattle.qs_entail.proofs.Numbers.{natural_part_same, natural_part_above, unsigned_same, unsigned_least, unsigned_greatest, signed_same, signed_least, signed_greatest, quotient_is, length_halves, length_rises}
 
 -- ---- equal polynomials
@@ -47,10 +48,6 @@ condition_holds : (cs : List CondTree) (i : ℤ) (c : CondTree) (s : State) → 
 condition_holds cs (pos i) c s e h = condition_at_holds cs i c s e h
 condition_holds cs (negsuc i) c s e h = cc
 
-flip_true : (x : Bool) → flip x ≡ true → x ≡ false
-flip_true true h = cc
-flip_true false h = refl
-
 equal_differ : (c : CondTree) (t : Sides) (s : State) → equal_sides c ≡ Ok t → holds c s ≡ false → int_eq (term_value t.left s) (term_value t.right s) ≡ false
 equal_differ (eq t u) r s e h = subst (λ (x : Sides). int_eq (term_value x.left s) (term_value x.right s) ≡ false) (made (record { left = t; right = u }) r e) h
 equal_differ (le t u) r s e h = cc
@@ -62,8 +59,8 @@ equal_differ (or cs) r s e h = cc
 
 sides_differ : (c : CondTree) (t : Sides) (s : State) → different_sides c ≡ Ok t → holds c s ≡ true → int_eq (term_value t.left s) (term_value t.right s) ≡ false
 sides_differ (ne t u) r s e h =
-    subst (λ (x : Sides). int_eq (term_value x.left s) (term_value x.right s) ≡ false) (made (record { left = t; right = u }) r e) (flip_true (int_eq (term_value t s) (term_value u s)) h)
-sides_differ (not c) r s e h = equal_differ c r s e (flip_true (holds c s) h)
+    subst (λ (x : Sides). int_eq (term_value x.left s) (term_value x.right s) ≡ false) (made (record { left = t; right = u }) r e) (not_true (int_eq (term_value t s) (term_value u s)) h)
+sides_differ (not c) r s e h = equal_differ c r s e (not_true (holds c s) h)
 sides_differ (le t u) r s e h = cc
 sides_differ (lt t u) r s e h = cc
 sides_differ (eq t u) r s e h = cc
@@ -82,14 +79,14 @@ one_less m z l e f h = omega (arith, ints, e, f, h)
 
 -- ---- the facts
 
-one : (a : Polynomial) (ps : List Polynomial) (s : State) → (let r : Result (List Polynomial) Failure = Ok (a ∷ []) in r) ≡ Ok ps → pos 0 ≤ℤ polynomial_value a s → AllNotNegative s ps
+one : (a : Polynomial) (ps : List Polynomial) (s : State) → (let r : Result (List Polynomial) Stop = Ok (a ∷ []) in r) ≡ Ok ps → pos 0 ≤ℤ polynomial_value a s → AllNotNegative s ps
 one a ps s e h = subst (λ ps. AllNotNegative s ps) (made (a ∷ []) ps e) (h, tt)
 
-two : (a b : Polynomial) (ps : List Polynomial) (s : State) → (let r : Result (List Polynomial) Failure = Ok (a ∷ b ∷ []) in r) ≡ Ok ps → pos 0 ≤ℤ polynomial_value a s → pos 0 ≤ℤ polynomial_value b s → AllNotNegative s ps
+two : (a b : Polynomial) (ps : List Polynomial) (s : State) → (let r : Result (List Polynomial) Stop = Ok (a ∷ b ∷ []) in r) ≡ Ok ps → pos 0 ≤ℤ polynomial_value a s → pos 0 ≤ℤ polynomial_value b s → AllNotNegative s ps
 two a b ps s e h k = subst (λ ps. AllNotNegative s ps) (made (a ∷ b ∷ []) ps e) (h, (k, tt))
 
 -- the differences of polynomials of equal value
-same_both : (p q a b : Polynomial) (ps : List Polynomial) (s : State) → (let r : Result (List Polynomial) Failure = Ok (a ∷ b ∷ []) in r) ≡ Ok ps → difference p q ≡ Ok a → difference q p ≡ Ok b → polynomial_value p s ≡ polynomial_value q s → AllNotNegative s ps
+same_both : (p q a b : Polynomial) (ps : List Polynomial) (s : State) → (let r : Result (List Polynomial) Stop = Ok (a ∷ b ∷ []) in r) ≡ Ok ps → difference p q ≡ Ok a → difference q p ≡ Ok b → polynomial_value p s ≡ polynomial_value q s → AllNotNegative s ps
 same_both p q a b ps s e h k same =
     let x = difference_value p q a s h in
     let y = difference_value q p b s k in
@@ -168,7 +165,7 @@ wrapu_holds t v w k ps s e h =
     let a = bind_ok (difference (single (poly.wrapu p.0)) p.0) _ ps z.1.1 in
     let b = bind_ok (difference p.0 (single (poly.wrapu p.0))) _ ps a.1.1 in
     let q = require_ok (polynomial_eq z.0.first p.0 && polynomial_eq z.0.second room.0) _ ps b.1.1 in
-    let eqs = both (polynomial_eq z.0.first p.0) (polynomial_eq z.0.second room.0) q.0 in
+    let eqs = and_parts (polynomial_eq z.0.first p.0) (polynomial_eq z.0.second room.0) q.0 in
     let n = two_not_negative v w k.polynomials z.0 s h.polynomials z.1.0 in
     let n0 = n.0 in
     let n1 = n.1 in
@@ -188,7 +185,7 @@ wraps_holds t v w k ps s e h =
     let a = bind_ok (difference (single (poly.wraps p.0)) p.0) _ ps z.1.1 in
     let b = bind_ok (difference p.0 (single (poly.wraps p.0))) _ ps a.1.1 in
     let q = require_ok (polynomial_eq z.0.first above.0 && polynomial_eq z.0.second room.0) _ ps b.1.1 in
-    let eqs = both (polynomial_eq z.0.first above.0) (polynomial_eq z.0.second room.0) q.0 in
+    let eqs = and_parts (polynomial_eq z.0.first above.0) (polynomial_eq z.0.second room.0) q.0 in
     let n = two_not_negative v w k.polynomials z.0 s h.polynomials z.1.0 in
     let n0 = n.0 in
     let n1 = n.1 in

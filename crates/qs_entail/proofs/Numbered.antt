@@ -4,7 +4,7 @@ use Rattle.std.specs.Prelude.{ℤ, pos, negsuc, ◌<ℤ◌, Result, Ok, Err}
 use Rattle.std.proofs.lemmas.Int.{ints}
 use Rattle.qs_assert.specs.Trees.{AssertionTree, AssertionTrees, assertions_of}
 use Rattle.qs_base.specs.Results.{bind}
-use Rattle.qs_entail.specs.Building.{Failure, breaks}
+use Rattle.qs_entail.specs.Building.{Stop, breaks}
 use Rattle.qs_entail.specs.Faults.{member, member_at}
 
 -- behind the first
@@ -28,8 +28,8 @@ negative members (negsuc i) h = refl
 
 -- ---- members of what may be no greatest
 
-pub among : (r : Result AssertionTrees Failure) (members : AssertionTrees) (i : ℤ) (a : Result AssertionTree Failure) → r ≡ Ok members → member_at members i ≡ a → bind r (λ members. member_at members i) ≡ a
-among r members i a e h = ap (λ (r : Result AssertionTrees Failure). bind r (λ members. member_at members i)) e ∙ h
+pub among : (r : Result AssertionTrees Stop) (members : AssertionTrees) (i : ℤ) (a : Result AssertionTree Stop) → r ≡ Ok members → member_at members i ≡ a → bind r (λ members. member_at members i) ≡ a
+among r members i a e h = ap (λ (r : Result AssertionTrees Stop). bind r (λ members. member_at members i)) e ∙ h
 
-pub nowhere : (r : Result AssertionTrees Failure) (i : ℤ) → r ≡ Err breaks → bind r (λ members. member_at members i) ≡ Err breaks
-nowhere r i e = ap (λ (r : Result AssertionTrees Failure). bind r (λ members. member_at members i)) e
+pub nowhere : (r : Result AssertionTrees Stop) (i : ℤ) → r ≡ Err breaks → bind r (λ members. member_at members i) ≡ Err breaks
+nowhere r i e = ap (λ (r : Result AssertionTrees Stop). bind r (λ members. member_at members i)) e

@@ -8,42 +8,42 @@ use Rattle.qs_poly.specs.Polynomials.{Polynomial}
 use Rattle.qs_poly.specs.Operations.{lessened}
 use Rattle.qs_base.specs.Results.{bind}
 use Rattle.qs_entail.specs.Certificates.{CertTree}
-use Rattle.qs_entail.specs.Building.{Failure, limited, difference, term_polynomial}
+use Rattle.qs_entail.specs.Building.{Stop, limited, difference, term_polynomial}
 use Rattle.qs_entail.specs.Pushing.{Known, at_first, with_condition, with_polynomials, push_le, push_lt, push_eq, push, push_not, push_all, push_nots, push_list}
 use Rattle.qs_entail.proofs.Built.{bind_ok}
 use Rattle.qs_entail.specs.Verdicts.{takes, outline, outline_not, outline_all, outline_nots, outline_list, outlined, fault, verdict}
 
 -- ---- pushes
 
-made : (k k' : Known) → (let r : Result Known Failure = Ok k in r) ≡ Ok k' → k ≡ k'
+made : (k k' : Known) → (let r : Result Known Stop = Ok k in r) ≡ Ok k' → k ≡ k'
 made k k' h = cc
 
 longer : (k : Known) (c : CondTree) (ps : List Polynomial) → takes c (length ps) (outlined k) ≡ outlined (with_polynomials ps (with_condition c k))
 longer k c ps = ap (λ (n : ℕ). record { conditions = k.conditions ++ c ∷ []; count = n }) (sym (length-append k.polynomials ps))
 
-pushed : (k k' : Known) (c : CondTree) (ps : List Polynomial) → (let r : Result Known Failure = Ok (with_polynomials ps (with_condition c k)) in r) ≡ Ok k' → takes c (length ps) (outlined k) ≡ outlined k'
+pushed : (k k' : Known) (c : CondTree) (ps : List Polynomial) → (let r : Result Known Stop = Ok (with_polynomials ps (with_condition c k)) in r) ≡ Ok k' → takes c (length ps) (outlined k) ≡ outlined k'
 pushed k k' c ps h = longer k c ps ∙ ap outlined (made (with_polynomials ps (with_condition c k)) k' h)
 
-last_of_one : (k k' : Known) (c : CondTree) (d : Result Polynomial Failure) → bind d (λ d. Ok (with_polynomials (d ∷ []) (with_condition c k))) ≡ Ok k' → takes c 1 (outlined k) ≡ outlined k'
+last_of_one : (k k' : Known) (c : CondTree) (d : Result Polynomial Stop) → bind d (λ d. Ok (with_polynomials (d ∷ []) (with_condition c k))) ≡ Ok k' → takes c 1 (outlined k) ≡ outlined k'
 last_of_one k k' c (Ok d) h = pushed k k' c (d ∷ []) h
 last_of_one k k' c (Err failure) h = cc
 
-pushes_one : (k k' : Known) (c : CondTree) (r s : Result Polynomial Failure) (f : Polynomial → Polynomial → Result Polynomial Failure) → bind r (λ p. bind s (λ q. bind (f p q) (λ d. Ok (with_polynomials (d ∷ []) (with_condition c k))))) ≡ Ok k' → takes c 1 (outlined k) ≡ outlined k'
+pushes_one : (k k' : Known) (c : CondTree) (r s : Result Polynomial Stop) (f : Polynomial → Polynomial → Result Polynomial Stop) → bind r (λ p. bind s (λ q. bind (f p q) (λ d. Ok (with_polynomials (d ∷ []) (with_condition c k))))) ≡ Ok k' → takes c 1 (outlined k) ≡ outlined k'
 pushes_one k k' c (Ok p) (Ok q) f h = last_of_one k k' c (f p q) h
 pushes_one k k' c (Ok p) (Err failure) f h = cc
 pushes_one k k' c (Err failure) s f h = cc
 
-last_of_two : (k k' : Known) (c : CondTree) (d e : Result Polynomial Failure) → bind d (λ d. bind e (λ e. Ok (with_polynomials (d ∷ e ∷ []) (with_condition c k)))) ≡ Ok k' → takes c 2 (outlined k) ≡ outlined k'
+last_of_two : (k k' : Known) (c : CondTree) (d e : Result Polynomial Stop) → bind d (λ d. bind e (λ e. Ok (with_polynomials (d ∷ e ∷ []) (with_condition c k)))) ≡ Ok k' → takes c 2 (outlined k) ≡ outlined k'
 last_of_two k k' c (Ok d) (Ok e) h = pushed k k' c (d ∷ e ∷ []) h
 last_of_two k k' c (Ok d) (Err failure) h = cc
 last_of_two k k' c (Err failure) e h = cc
 
-pushes_two : (k k' : Known) (c : CondTree) (r s : Result Polynomial Failure) (f g : Polynomial → Polynomial → Result Polynomial Failure) → bind r (λ p. bind s (λ q. bind (f p q) (λ d. bind (g p q) (λ e. Ok (with_polynomials (d ∷ e ∷ []) (with_condition c k)))))) ≡ Ok k' → takes c 2 (outlined k) ≡ outlined k'
+pushes_two : (k k' : Known) (c : CondTree) (r s : Result Polynomial Stop) (f g : Polynomial → Polynomial → Result Polynomial Stop) → bind r (λ p. bind s (λ q. bind (f p q) (λ d. bind (g p q) (λ e. Ok (with_polynomials (d ∷ e ∷ []) (with_condition c k)))))) ≡ Ok k' → takes c 2 (outlined k) ≡ outlined k'
 pushes_two k k' c (Ok p) (Ok q) f g h = last_of_two k k' c (f p q) (g p q) h
 pushes_two k k' c (Ok p) (Err failure) f g h = cc
 pushes_two k k' c (Err failure) s f g h = cc
 
-pushes_none : (k k' : Known) (c : CondTree) → (let r : Result Known Failure = Ok (with_condition c k) in r) ≡ Ok k' → takes c 0 (outlined k) ≡ outlined k'
+pushes_none : (k k' : Known) (c : CondTree) → (let r : Result Known Stop = Ok (with_condition c k) in r) ≡ Ok k' → takes c 0 (outlined k) ≡ outlined k'
 pushes_none k k' c h = none ∙ ap outlined (made (with_condition c k) k' h)
   where
     none : takes c 0 (outlined k) ≡ outlined (with_condition c k)

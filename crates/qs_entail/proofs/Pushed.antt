@@ -6,14 +6,15 @@ use Rattle.std.specs.Ordering.{int_eq}
 use Rattle.std.proofs.lemmas.Int.{ints}
 use Rattle.std.proofs.lemmas.List.Elements.{All-push, All-head, All-tail}
 use Rattle.std.proofs.Common.{append_assoc}
+use Rattle.std.proofs.lemmas.Bool.{and_parts, or_parts}
 use Rattle.qs_assert.specs.Trees.{TermTree, CondTree, le, lt, eq, ne, not, and, or, CondTrees, no_conds, cond_and}
 use Rattle.qs_assert.specs.Values.{State, term_value, holds, all_hold, some_holds}
 use Rattle.qs_poly.specs.Polynomials.{Polynomial}
 use Rattle.qs_poly.specs.Operations.{lessened}
 use Rattle.qs_base.specs.Results.{bind}
-use Rattle.qs_entail.specs.Building.{Failure, limited, difference, term_polynomial}
+use Rattle.qs_entail.specs.Building.{Stop, limited, difference, term_polynomial}
 use Rattle.qs_entail.specs.Pushing.{Known, with_condition, with_polynomials, push_le, push_lt, push_eq, push, push_not, push_all, push_nots, push_list}
-use Rattle.qs_entail.proofs.Built.{both, bind_ok, difference_value, limited_lessened_value, term_polynomial_value}
+use Rattle.qs_entail.proofs.Built.{bind_ok, difference_value, limited_lessened_value, term_polynomial_value}
 use Rattle.qs_entail.proofs.Assertions.{IsNotNegative, AllNotNegative}
 
 -- what is known holds in a state
@@ -53,7 +54,7 @@ le_false a b h = grind (arith, ints)
 lt_false : (a b : ℤ) → int_lt a b ≡ false → int_le b a ≡ true
 lt_false a b h = grind (arith, ints)
 
-not_true : (x : Bool) → flip x ≡ true → x ≡ false
+pub not_true : (x : Bool) → flip x ≡ true → x ≡ false
 not_true true h = cc
 not_true false h = refl
 
@@ -61,13 +62,9 @@ not_false : (x : Bool) → flip x ≡ false → x ≡ true
 not_false true h = refl
 not_false false h = cc
 
-neither : (a b : Bool) → (a || b) ≡ false → (a ≡ false) × (b ≡ false)
-neither true b h = cc
-neither false b h = (refl, h)
-
 -- ---- pushes
 
-pub made : {A : Type 0} (a b : A) → (let r : Result A Failure = Ok a in r) ≡ Ok b → a ≡ b
+pub made : {A : Type 0} (a b : A) → (let r : Result A Stop = Ok a in r) ≡ Ok b → a ≡ b
 made a b h = cc
 
 push_le_holds : (t u : TermTree) (k k' : Known) (s : State) → push_le t u k ≡ Ok k' → holds (le t u) s ≡ true → Holds k s → Holds k' s
@@ -109,7 +106,7 @@ push_eq_holds t u k k' s e h o =
     subst (λ k. Holds k s) z
     (more_polynomials (c.0 ∷ f.0 ∷ []) (with_condition (eq t u) k) s (more_condition (eq t u) k s o h) (omega (arith, ints, x, y, v, i), (omega (arith, ints, x, y, w, i), tt)))
 
-kept : (c : CondTree) (k k' : Known) (s : State) → (let r : Result Known Failure = Ok (with_condition c k) in r) ≡ Ok k' → holds c s ≡ true → Holds k s → Holds k' s
+kept : (c : CondTree) (k k' : Known) (s : State) → (let r : Result Known Stop = Ok (with_condition c k) in r) ≡ Ok k' → holds c s ≡ true → Holds k s → Holds k' s
 kept c k k' s e h o = subst (λ k. Holds k s) (made (with_condition c k) k' e) (more_condition c k s o h)
 
 negated : (c : CondTree) (s : State) → holds c s ≡ false → holds (not c) s ≡ true
@@ -138,14 +135,14 @@ mutual
   push_all_holds no_conds k k' s e h o = subst (λ k. Holds k s) (made k k' e) o
   push_all_holds (cond_and c cs) k k' s e h o =
       let a = bind_ok (push c k) (λ k'. push_all cs k') k' e in
-      let b = both (holds c s) (all_hold cs s) h in
+      let b = and_parts (holds c s) (all_hold cs s) h in
       push_all_holds cs a.0 k' s a.1.1 b.1 (push_holds c k a.0 s a.1.0 b.0 o)
 
   push_nots_holds : (cs : CondTrees) (k k' : Known) (s : State) → push_nots cs k ≡ Ok k' → some_holds cs s ≡ false → Holds k s → Holds k' s
   push_nots_holds no_conds k k' s e h o = subst (λ k. Holds k s) (made k k' e) o
   push_nots_holds (cond_and c cs) k k' s e h o =
       let a = bind_ok (push_not c k) (λ k'. push_nots cs k') k' e in
-      let b = neither (holds c s) (some_holds cs s) h in
+      let b = or_parts (holds c s) (some_holds cs s) h in
       push_nots_holds cs a.0 k' s a.1.1 b.1 (push_not_holds c k a.0 s a.1.0 b.0 o)
 
 pub push_list_holds : (cs : List CondTree) (k k' : Known) (s : State) → push_list cs k ≡ Ok k' → All (λ c. holds c s ≡ true) cs → Holds k s → Holds k' s

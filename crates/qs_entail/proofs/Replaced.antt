@@ -1,26 +1,15 @@
 -- Branches of conditionals and bodies of names have the values of what they replace.
 use Rattle.std.proofs.Common.{◌≡◌, ℕ, List, [], ◌∷◌, refl, sym, ap, ◌∙◌, true, false, arith}
 use Rattle.std.specs.Prelude.{Bool, if◌then◌else◌, ◌==◌}
+use Rattle.std.proofs.lemmas.Bool.{and_parts}
 use Rattle.qs_assert.specs.Bounds.{same_name}
 use Rattle.qs_assert.specs.Sameness.{same_cond}
 use Rattle.qs_assert.specs.Trees.{CondTree, AssertionTree, natural, infinity, cost, num, total, greatest, product, guard, choose, named, AssertionTrees, no_assertions, assertion_and}
 use Rattle.qs_assert.specs.Values.{State, infinite, holds, or_infinite, value, sum_of, greatest_of, product_of, plus, greater, times}
-use Rattle.qs_assert.proofs.Same.{cond_same}
-use Rattle.qs_entail.proofs.Built.{both}
+use Rattle.qs_assert.proofs.Same.{cond_same, name_equal}
 use Rattle.qs_entail.specs.Faults.{branch, branches, unfolded, all_unfolded}
 
-pub name_equal : (a b : List ℕ) → same_name a b ≡ true → a ≡ b
-name_equal [] [] h = refl
-name_equal [] (y ∷ ys) h = cc
-name_equal (x ∷ xs) [] h = cc
-name_equal (x ∷ xs) (y ∷ ys) h =
-    let e = both (x == y) (same_name xs ys) h in
-    ap (λ z. z ∷ xs) (same_number x y e.0) ∙ ap (λ zs. y ∷ zs) (name_equal xs ys e.1)
-  where
-    same_number : (x y : ℕ) → (x == y) ≡ true → x ≡ y
-    same_number x y h = grind arith
-
-pair : {A B C : Type 0} (f : A → B → C) {a a' : A} {b b' : B} → a ≡ a' → b ≡ b' → f a b ≡ f a' b'
+pub pair : {A B C : Type 0} (f : A → B → C) {a a' : A} {b b' : B} → a ≡ a' → b ≡ b' → f a b ≡ f a' b'
 pair f {a' = a'} {b = b} p q = ap (λ x. f x b) p ∙ ap (f a') q
 
 -- the values of the three kinds of lists of parts

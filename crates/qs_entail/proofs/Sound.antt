@@ -5,6 +5,7 @@ use Rattle.std.specs.Prelude.{not as flip}
 use Rattle.std.proofs.lemmas.Int.{ints}
 use Rattle.std.proofs.lemmas.List.Elements.{All-nil, All-cons}
 use Rattle.std.specs.Option.{option_or}
+use Rattle.std.proofs.lemmas.Bool.{and_parts, eqb-true}
 use Rattle.qs_assert.specs.declared.define.Define.{Define}
 use Rattle.qs_entail.specs.declared.fault.Rule.{Rule}
 use Rattle.qs_entail.specs.declared.fault.Rule.TheVariants as rules
@@ -17,14 +18,13 @@ use Rattle.qs_poly.specs.Values.{polynomial_value}
 use Rattle.qs_poly.proofs.ValueLaws.{number_value}
 use Rattle.qs_entail.specs.Certificates.{Item, CertTree, same, via, pick, all, parts, assume, drop, split, contradict, arithmetic, by_definition, fact, CertTrees, no_certs, cert_and}
 use Rattle.qs_base.specs.Results.{bind}
-use Rattle.qs_entail.specs.Building.{Failure, difference, combination, is_plain, assertion_polynomial}
+use Rattle.qs_entail.specs.Building.{Stop, difference, combination, is_plain, assertion_polynomial}
 use Rattle.qs_entail.specs.Pushing.{Known, at_first, with_polynomials, push, push_list}
 use Rattle.qs_entail.specs.Facts.{added}
-use Rattle.qs_entail.specs.Faults.{Fault, step, node, part, done, member, member_at, members_of, summands_of, Guarded, guarded_of, count, count_certs, branch, unfolded, definition, contradiction, arithmetic_holds}
+use Rattle.qs_entail.specs.Faults.{CertFault, step, node, part, done, member, member_at, members_of, summands_of, Guarded, guarded_of, count, count_certs, branch, unfolded, definition, contradiction, arithmetic_holds}
 use Rattle.qs_entail.specs.Verdicts.{are_counted, has_count, stands, outline_list, rule_of, outlined, outlined_first, rest, faults_all, faults_parts, fault}
 use Rattle.qs_entail.specs.Meaning.{AtLeast, InRange, defined_by, IsSound}
 use Rattle.qs_entail.proofs.Built.{bind_ok, require_ok, difference_value}
-use Rattle.qs_entail.proofs.Built.{both as both_true}
 use Rattle.qs_entail.proofs.Assertions.{IsNotNegative, combination_not_negative, assertion_polynomial_value}
 use Rattle.qs_entail.proofs.Pushed.{Holds, made, more_polynomials, push_holds, push_list_holds}
 use Rattle.qs_entail.proofs.Amounts.{at_least_itself, at_least_through, first_at_most, second_at_most, both_at_most, sums_at_least, zero_at_most}
@@ -35,26 +35,23 @@ use Rattle.qs_entail.proofs.Definitions.{names_given, still_in_range}
 
 -- ---- verdicts without a fault
 
-node_none : {A : Type 0} (rule : Rule) (r : Result A Failure) (f : A → Option Fault) → node rule r f ≡ None → (a : A) × ((r ≡ Ok a) × (f a ≡ None))
+node_none : {A : Type 0} (rule : Rule) (r : Result A Stop) (f : A → Option CertFault) → node rule r f ≡ None → (a : A) × ((r ≡ Ok a) × (f a ≡ None))
 node_none rule (Ok a) f h = (a, (refl, h))
 node_none rule (Err failure) f h = cc
 
-first_none : (v u : Option Fault) → option_or v u ≡ None → (v ≡ None) × (u ≡ None)
+first_none : (v u : Option CertFault) → option_or v u ≡ None → (v ≡ None) × (u ≡ None)
 first_none None u h = (refl, h)
 first_none (Some f) u h = cc
 
-begun_none : (b : Bool) (v : Option Fault) (f : Fault) → (if b then v else Some f) ≡ None → (b ≡ true) × (v ≡ None)
+begun_none : (b : Bool) (v : Option CertFault) (f : CertFault) → (if b then v else Some f) ≡ None → (b ≡ true) × (v ≡ None)
 begun_none true v f h = (refl, h)
 begun_none false v f h = cc
 
 -- a part without a fault
-part_none : (i : ℕ) (b : Bool) (v : Option Fault) (f : Fault) → part i (if b then v else Some f) ≡ None → (b ≡ true) × (v ≡ None)
+part_none : (i : ℕ) (b : Bool) (v : Option CertFault) (f : CertFault) → part i (if b then v else Some f) ≡ None → (b ≡ true) × (v ≡ None)
 part_none i true None f h = (refl, refl)
 part_none i true (Some g) f h = cc
 part_none i false v f h = cc
-
-same_count : (m n : ℕ) → (m == n) ≡ true → m ≡ n
-same_count m n h = grind arith
 
 -- ---- the shapes of assertions
 
@@ -131,8 +128,8 @@ abbrev Fits : List Define → State → Type 0
 Fits ds s = (n : List ℕ) (body : AssertionTree) → definition ds n ≡ Ok body → or_infinite (s.names n) ≡ value body s
 
 -- as many as are wanted
-counted : (n : ℕ) (r : Result AssertionTrees Failure) (ms : AssertionTrees) → r ≡ Ok ms → has_count n (bind r (λ parts. Ok (count parts))) ≡ true → n ≡ count ms
-counted n r ms e h = same_count n (count ms) (sym (ap (λ (x : Result AssertionTrees Failure). has_count n (bind x (λ parts. Ok (count parts)))) e) ∙ h)
+counted : (n : ℕ) (r : Result AssertionTrees Stop) (ms : AssertionTrees) → r ≡ Ok ms → has_count n (bind r (λ parts. Ok (count parts))) ≡ true → n ≡ count ms
+counted n r ms e h = eqb-true n (count ms) (sym (ap (λ (x : Result AssertionTrees Stop). has_count n (bind x (λ parts. Ok (count parts)))) e) ∙ h)
 
 mutual
   sound : (c : CertTree) (ds : List Define) (k : Known) (p q : AssertionTree) → stands c ds (outlined k) p q ≡ true → rest c ds k p q ≡ None → (s : State) → InRange s → Fits ds s → Holds k s → AtLeast (value p s) (value q s)
@@ -156,7 +153,7 @@ mutual
   sound (parts cs) ds k p q st e s r f h =
       let a = node_none rules.Parts (summands_of p) (λ left. node rules.Parts (summands_of q) (λ right. faults_parts cs 0 ds k left right)) e in
       let b = node_none rules.Parts (summands_of q) (λ right. faults_parts cs 0 ds k a.0 right) a.1.1 in
-      let t = both_true (has_count (count_certs cs) (bind (summands_of p) (λ summands. Ok (count summands)))) (has_count (count_certs cs) (bind (summands_of q) (λ summands. Ok (count summands)))) st in
+      let t = and_parts (has_count (count_certs cs) (bind (summands_of p) (λ summands. Ok (count summands)))) (has_count (count_certs cs) (bind (summands_of q) (λ summands. Ok (count summands)))) st in
       let m = counted (count_certs cs) (summands_of p) a.0 a.1.0 t.0 in
       let n = counted (count_certs cs) (summands_of q) b.0 b.1.0 t.1 in
       subst (λ x. AtLeast (value x s) (value q s)) (sym (is_total p a.0 a.1.0))
@@ -193,8 +190,8 @@ mutual
       absurd (contradicts w k s a.1.0 h)
   sound (arithmetic w) ds k p q st e s r f h =
       let a = node_none rules.Arithmetic (arithmetic_holds w k p q) (λ _. None) e in
-      let t = both_true (is_plain p && is_plain q) (are_counted w (outlined k).count) st in
-      let l = both_true (is_plain p) (is_plain q) t.0 in
+      let t = and_parts (is_plain p && is_plain q) (are_counted w (outlined k).count) st in
+      let l = and_parts (is_plain p) (is_plain q) t.0 in
       by_arithmetic w k p q s l.0 l.1 a.1.0 h
   sound (by_definition n c) ds k p q st e s r f h =
       let a = node_none rules.ByDefinition (definition ds n) (λ body. part 0 (fault c ds k (unfolded n body p) (unfolded n body q))) e in

@@ -14,11 +14,11 @@ use Rattle.qs_poly.specs.Operations as operation
 use Rattle.qs_entail.specs.declared.operation.Operation.{Operation}
 use Rattle.qs_entail.specs.declared.operation.Operation.TheVariants as operations
 use Rattle.qs_base.specs.Results.{bind}
-use Rattle.qs_entail.specs.Building.{Failure, limited, term_polynomial, sum_onto, product_onto, assertion_polynomial, total_onto, factors_onto}
+use Rattle.qs_entail.specs.Building.{Stop, limited, term_polynomial, sum_onto, product_onto, assertion_polynomial, total_onto, factors_onto}
 use Rattle.qs_entail.specs.Stacks.{operated, on_both, joined, step_term, term_steps, Stacks, step_cond, step_assertion, step_node, node_steps}
 
 abbrev Attempt : Type 0
-Attempt = Result Polynomial Failure
+Attempt = Result Polynomial Stop
 
 -- ---- what is joined
 

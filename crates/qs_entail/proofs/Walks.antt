@@ -22,14 +22,14 @@ use Rattle.qs_entail.specs.declared.failed.Failed.{Failed}
 use Rattle.qs_entail.specs.declared.failed.Failed.TheVariants as failures
 use Rattle.qs_entail.specs.Answers.{Follows}
 use Rattle.qs_base.specs.Results.{bind}
-use Rattle.qs_entail.specs.Building.{Failure}
-use Rattle.qs_entail.specs.Faults.{Fault, step, limit, node, part, Guarded}
+use Rattle.qs_entail.specs.Building as building
+use Rattle.qs_entail.specs.Faults.{CertFault, step, limit, node, part, Guarded}
 use Rattle.qs_entail.specs.Verdicts.{fault, faults_all, faults_parts}
 use Rattle.qs_entail.specs.Pushing.{Known, with_polynomials}
 use Rattle.qs_entail.specs.Walking.{Place, Says, settled}
 
 -- a node without parts
-pub says_settled : (w : Place) (rule : Rule) (r : Result (Unit {0}) Stop) (attempt : Result (Unit {0}) Failure) → Follows r attempt → Says w w (settled rule r) (node rule attempt (λ _. None))
+pub says_settled : (w : Place) (rule : Rule) (r : Result (Unit {0}) Stop) (attempt : Result (Unit {0}) building.Stop) → Follows r attempt → Says w w (settled rule r) (node rule attempt (λ _. None))
 says_settled w rule (Ok u) attempt h = subst (λ a. Says w w (Ok u) (node rule a (λ _. None))) (sym h) refl
 says_settled w rule (Err NoMemory) attempt h = tt
 says_settled w rule (Err Breaks) attempt h =
@@ -37,7 +37,7 @@ says_settled w rule (Err Breaks) attempt h =
 says_settled w rule (Err (Passes l)) attempt h =
     subst (λ a. Says w w (Err (failures.Limit l)) (node rule a (λ _. None))) (sym h) (refl, sym (append-nil w.path))
 
-pub both_err : (old new : Place) (f : Failed) (v u : Option Fault) → Says old new (Err f) v → Says old new (Err f) (option_or v u)
+pub both_err : (old new : Place) (f : Failed) (v u : Option CertFault) → Says old new (Err f) v → Says old new (Err f) (option_or v u)
 both_err old new failures.NoMemory v u h = tt
 both_err old new (failures.Step r) None u h = absurd h
 both_err old new (failures.Step r) (Some (step p q)) u h = h
@@ -46,59 +46,59 @@ both_err old new (failures.Limit r) None u h = absurd h
 both_err old new (failures.Limit r) (Some (step p q)) u h = absurd h
 both_err old new (failures.Limit r) (Some (limit p q)) u h = h
 
-pub both_ok : (old mid new : Place) (x : Unit {0}) (r : Result (Unit {0}) Failed) (v u : Option Fault) → Says old mid (Ok x) v → Says mid new r u → Says old new r (option_or v u)
+pub both_ok : (old mid new : Place) (x : Unit {0}) (r : Result (Unit {0}) Failed) (v u : Option CertFault) → Says old mid (Ok x) v → Says mid new r u → Says old new r (option_or v u)
 both_ok old mid new x r None u h k = subst (λ o. Says o new r u) h k
 both_ok old mid new x r (Some f) u h k = absurd h
 
 -- a condition with its negation: both are pushed before either part
-pub split_ok : (old mid new : Place) (x : Unit {0}) (r : Result (Unit {0}) Failed) (rule : Rule) (a b : Result Known Failure) (f g : Known → Option Fault) → Says old mid (Ok x) (node rule a (λ k. node rule b (λ _. f k))) → Says mid new r (node rule b g) → Says old new r (node rule a (λ k. node rule b (λ l. option_or (f k) (g l))))
+pub split_ok : (old mid new : Place) (x : Unit {0}) (r : Result (Unit {0}) Failed) (rule : Rule) (a b : Result Known building.Stop) (f g : Known → Option CertFault) → Says old mid (Ok x) (node rule a (λ k. node rule b (λ _. f k))) → Says mid new r (node rule b g) → Says old new r (node rule a (λ k. node rule b (λ l. option_or (f k) (g l))))
 split_ok old mid new x r rule (Ok k) (Ok l) f g h j = both_ok old mid new x r (f k) (g l) h j
 split_ok old mid new x r rule (Ok k) (Err e) f g h j = absurd h
 split_ok old mid new x r rule (Err e) b f g h j = absurd h
 
-said_none : (old new : Place) (x : Unit {0}) (v : Option Fault) → Says old new (Ok x) v → new ≡ old
+said_none : (old new : Place) (x : Unit {0}) (v : Option CertFault) → Says old new (Ok x) v → new ≡ old
 said_none old new x None h = h
 said_none old new x (Some f) h = absurd h
 
-pub via_ok : (old mid new : Place) (x : Unit {0}) (r : Result (Unit {0}) Failed) (v : Option Fault) (u : Known → Option Fault) → Says old mid (Ok x) v → Says mid new r (u mid.known) → Says old new r (option_or v (u old.known))
+pub via_ok : (old mid new : Place) (x : Unit {0}) (r : Result (Unit {0}) Failed) (v : Option CertFault) (u : Known → Option CertFault) → Says old mid (Ok x) v → Says mid new r (u mid.known) → Says old new r (option_or v (u old.known))
 via_ok old mid new x r v u h k =
     both_ok old old new x r v (u old.known) (subst (λ (w : Place). Says old w (Ok x) v) (said_none old mid x v h) h) (subst (λ (w : Place). Says w new r (u w.known)) (said_none old mid x v h) k)
 
-pub split_known : (old mid new : Place) (x : Unit {0}) (r : Result (Unit {0}) Failed) (rule : Rule) (a : Result Known Failure) (b : Known → Result Known Failure) (f g : Known → Option Fault) → Says old mid (Ok x) (node rule a (λ k. node rule (b old.known) (λ _. f k))) → Says mid new r (node rule (b mid.known) g) → Says old new r (node rule a (λ k. node rule (b old.known) (λ l. option_or (f k) (g l))))
+pub split_known : (old mid new : Place) (x : Unit {0}) (r : Result (Unit {0}) Failed) (rule : Rule) (a : Result Known building.Stop) (b : Known → Result Known building.Stop) (f g : Known → Option CertFault) → Says old mid (Ok x) (node rule a (λ k. node rule (b old.known) (λ _. f k))) → Says mid new r (node rule (b mid.known) g) → Says old new r (node rule a (λ k. node rule (b old.known) (λ l. option_or (f k) (g l))))
 split_known old mid new x r rule a b f g h k =
     let e = said_none old mid x (node rule a (λ k. node rule (b old.known) (λ _. f k))) h in
     split_ok old old new x r rule a (b old.known) f g (subst (λ (w : Place). Says old w (Ok x) (node rule a (λ k. node rule (b old.known) (λ _. f k)))) e h) (subst (λ (w : Place). Says w new r (node rule (b w.known) g)) e k)
 
-pub split_err : (old new : Place) (f : Failed) (rule : Rule) (a b : Result Known Failure) (g h : Known → Option Fault) → Says old new (Err f) (node rule a (λ k. node rule b (λ _. g k))) → Says old new (Err f) (node rule a (λ k. node rule b (λ l. option_or (g k) (h l))))
+pub split_err : (old new : Place) (f : Failed) (rule : Rule) (a b : Result Known building.Stop) (g h : Known → Option CertFault) → Says old new (Err f) (node rule a (λ k. node rule b (λ _. g k))) → Says old new (Err f) (node rule a (λ k. node rule b (λ l. option_or (g k) (h l))))
 split_err old new f rule (Ok k) (Ok l) g h s = both_err old new f (g k) (h l) s
 split_err old new f rule (Ok k) (Err e) g h s = s
 split_err old new f rule (Err e) b g h s = s
 
 -- a guard that goes: its condition is refuted, and then its body is shown
 
-one_ok : (old new : Place) (x : Unit {0}) (r : Result (Unit {0}) Failed) (rule : Rule) (b : Result Known Failure) (g : Known → Option Fault) (v : Option Fault) → Says old old (Ok x) (node rule b g) → Says old new r v → Says old new r (node rule b (λ k. option_or (g k) v))
+one_ok : (old new : Place) (x : Unit {0}) (r : Result (Unit {0}) Failed) (rule : Rule) (b : Result Known building.Stop) (g : Known → Option CertFault) (v : Option CertFault) → Says old old (Ok x) (node rule b g) → Says old new r v → Says old new r (node rule b (λ k. option_or (g k) v))
 one_ok old new x r rule (Ok k) g v h j = both_ok old old new x r (g k) v h j
 one_ok old new x r rule (Err e) g v h j = absurd h
 
-one_err : (old new : Place) (f : Failed) (rule : Rule) (b : Result Known Failure) (g : Known → Option Fault) (v : Option Fault) → Says old new (Err f) (node rule b g) → Says old new (Err f) (node rule b (λ k. option_or (g k) v))
+one_err : (old new : Place) (f : Failed) (rule : Rule) (b : Result Known building.Stop) (g : Known → Option CertFault) (v : Option CertFault) → Says old new (Err f) (node rule b g) → Says old new (Err f) (node rule b (λ k. option_or (g k) v))
 one_err old new f rule (Ok k) g v h = both_err old new f (g k) v h
 one_err old new f rule (Err e) g v h = h
 
-pub drop_err : (old new : Place) (f : Failed) (rule : Rule) (a : Result Guarded Failure) (b : Guarded → Result Known Failure) (g : Known → Option Fault) (h : Guarded → Option Fault) → Says old new (Err f) (node rule a (λ z. node rule (b z) g)) → Says old new (Err f) (node rule a (λ z. node rule (b z) (λ k. option_or (g k) (h z))))
+pub drop_err : (old new : Place) (f : Failed) (rule : Rule) (a : Result Guarded building.Stop) (b : Guarded → Result Known building.Stop) (g : Known → Option CertFault) (h : Guarded → Option CertFault) → Says old new (Err f) (node rule a (λ z. node rule (b z) g)) → Says old new (Err f) (node rule a (λ z. node rule (b z) (λ k. option_or (g k) (h z))))
 drop_err old new f rule (Ok z) b g h s = one_err old new f rule (b z) g (h z) s
 drop_err old new f rule (Err e) b g h s = s
 
-drop_at : (old new : Place) (x : Unit {0}) (r : Result (Unit {0}) Failed) (rule : Rule) (a : Result Guarded Failure) (b : Guarded → Result Known Failure) (g : Known → Option Fault) (h : Guarded → Option Fault) → Says old old (Ok x) (node rule a (λ z. node rule (b z) g)) → Says old new r (node rule a h) → Says old new r (node rule a (λ z. node rule (b z) (λ k. option_or (g k) (h z))))
+drop_at : (old new : Place) (x : Unit {0}) (r : Result (Unit {0}) Failed) (rule : Rule) (a : Result Guarded building.Stop) (b : Guarded → Result Known building.Stop) (g : Known → Option CertFault) (h : Guarded → Option CertFault) → Says old old (Ok x) (node rule a (λ z. node rule (b z) g)) → Says old new r (node rule a h) → Says old new r (node rule a (λ z. node rule (b z) (λ k. option_or (g k) (h z))))
 drop_at old new x r rule (Ok z) b g h s j = one_ok old new x r rule (b z) g (h z) s j
 drop_at old new x r rule (Err e) b g h s j = absurd s
 
-pub drop_ok : (old mid new : Place) (x : Unit {0}) (r : Result (Unit {0}) Failed) (rule : Rule) (a : Result Guarded Failure) (b : Guarded → Result Known Failure) (g : Known → Option Fault) (h : Guarded → Known → Option Fault) → Says old mid (Ok x) (node rule a (λ z. node rule (b z) g)) → Says mid new r (node rule a (λ z. h z mid.known)) → Says old new r (node rule a (λ z. node rule (b z) (λ k. option_or (g k) (h z old.known))))
+pub drop_ok : (old mid new : Place) (x : Unit {0}) (r : Result (Unit {0}) Failed) (rule : Rule) (a : Result Guarded building.Stop) (b : Guarded → Result Known building.Stop) (g : Known → Option CertFault) (h : Guarded → Known → Option CertFault) → Says old mid (Ok x) (node rule a (λ z. node rule (b z) g)) → Says mid new r (node rule a (λ z. h z mid.known)) → Says old new r (node rule a (λ z. node rule (b z) (λ k. option_or (g k) (h z old.known))))
 drop_ok old mid new x r rule a b g h s j =
     let e = said_none old mid x (node rule a (λ z. node rule (b z) g)) s in
     drop_at old new x r rule a b g (λ z. h z old.known) (subst (λ (w : Place). Says old w (Ok x) (node rule a (λ z. node rule (b z) g))) e s) (subst (λ (w : Place). Says w new r (node rule a (λ z. h z w.known))) e j)
 
 -- a fact, and then its part
-pub fact_given : (old mid new : Place) (r : Result (Unit {0}) Failed) (rule : Rule) (a : Result (List Polynomial) Failure) (k k' : Known) (f : Known → Option Fault) → bind a (λ ps. Ok (with_polynomials ps k)) ≡ Ok k' → mid ≡ old → Says mid new r (f k') → Says old new r (node rule a (λ ps. f (with_polynomials ps k)))
+pub fact_given : (old mid new : Place) (r : Result (Unit {0}) Failed) (rule : Rule) (a : Result (List Polynomial) building.Stop) (k k' : Known) (f : Known → Option CertFault) → bind a (λ ps. Ok (with_polynomials ps k)) ≡ Ok k' → mid ≡ old → Says mid new r (f k') → Says old new r (node rule a (λ ps. f (with_polynomials ps k)))
 fact_given old mid new r rule (Ok ps) k k' f e b h =
     let same : with_polynomials ps k ≡ k' = cc in
     subst (λ (w : Place). Says w new r (f (with_polynomials ps k))) b (subst (λ (l : Known). Says mid new r (f l)) (sym same) h)
@@ -106,17 +106,17 @@ fact_given old mid new r rule (Err failure) k k' f e b h = cc
 
 -- ---- part by part
 
-said : (old new : Place) (x : Unit {0}) (v : Option Fault) → Says old new (Ok x) v → (v ≡ None) × (new ≡ old)
+said : (old new : Place) (x : Unit {0}) (v : Option CertFault) → Says old new (Ok x) v → (v ≡ None) × (new ≡ old)
 said old new x None h = (refl, h)
 said old new x (Some f) h = absurd h
 
 all_step : (cs : List Certificate) (ms rest : List AssertionTree) (i : ℕ) (c : Certificate) (m : AssertionTree) (ds : List Define) (k : Known) (p : AssertionTree) → i < length cs → c ≡ get_or cs i c → ms ≡ m ∷ rest → part i (fault (cert_tree c) ds k p m) ≡ None → faults_all (certs_tree (drop i cs)) i ds k p (assertions_of ms) ≡ faults_all (certs_tree (drop (i + 1) cs)) (i + 1) ds k p (assertions_of rest)
 all_step cs ms rest i c m ds k p h is at none =
     (λ z. faults_all (certs_tree ((drop-cons cs i c h ∙ ap (λ (x : Certificate). x ∷ drop (suc i) cs) (sym is)) z)) i ds k p (assertions_of (at z)))
-    ∙ (ap (λ (o : Option Fault). option_or o (faults_all (certs_tree (drop (suc i) cs)) (suc i) ds k p (assertions_of rest))) none
+    ∙ (ap (λ (o : Option CertFault). option_or o (faults_all (certs_tree (drop (suc i) cs)) (suc i) ds k p (assertions_of rest))) none
     ∙ ap (λ (j : ℕ). faults_all (certs_tree (drop j cs)) j ds k p (assertions_of rest)) (sym (add-one i)))
 
-pub each_goes_on : (start old new : Place) (x : Unit {0}) (cs : List Certificate) (ms rest : List AssertionTree) (i : ℕ) (c : Certificate) (m : AssertionTree) (ds : List Define) (p : AssertionTree) (v : Option Fault) → old ≡ start → i < length cs → c ≡ get_or cs i c → ms ≡ m ∷ rest → Says old new (Ok x) (part i (fault (cert_tree c) ds old.known p m)) → v ≡ faults_all (certs_tree (drop i cs)) i ds start.known p (assertions_of ms) → (new ≡ start) × (v ≡ faults_all (certs_tree (drop (i + 1) cs)) (i + 1) ds start.known p (assertions_of rest))
+pub each_goes_on : (start old new : Place) (x : Unit {0}) (cs : List Certificate) (ms rest : List AssertionTree) (i : ℕ) (c : Certificate) (m : AssertionTree) (ds : List Define) (p : AssertionTree) (v : Option CertFault) → old ≡ start → i < length cs → c ≡ get_or cs i c → ms ≡ m ∷ rest → Says old new (Ok x) (part i (fault (cert_tree c) ds old.known p m)) → v ≡ faults_all (certs_tree (drop i cs)) i ds start.known p (assertions_of ms) → (new ≡ start) × (v ≡ faults_all (certs_tree (drop (i + 1) cs)) (i + 1) ds start.known p (assertions_of rest))
 each_goes_on start old new x cs ms rest i c m ds p v back h is at says others =
     let s = said old new x (part i (fault (cert_tree c) ds old.known p m)) says in
     let none = ap (λ (w : Place). part i (fault (cert_tree c) ds w.known p m)) (sym back) ∙ s.0 in
@@ -125,10 +125,10 @@ each_goes_on start old new x cs ms rest i c m ds p v back h is at says others =
 pair_step : (cs : List Certificate) (ps qs left right : List AssertionTree) (i : ℕ) (c : Certificate) (p q : AssertionTree) (ds : List Define) (k : Known) → i < length cs → c ≡ get_or cs i c → ps ≡ p ∷ left → qs ≡ q ∷ right → part i (fault (cert_tree c) ds k p q) ≡ None → faults_parts (certs_tree (drop i cs)) i ds k (assertions_of ps) (assertions_of qs) ≡ faults_parts (certs_tree (drop (i + 1) cs)) (i + 1) ds k (assertions_of left) (assertions_of right)
 pair_step cs ps qs left right i c p q ds k h is at there none =
     (λ z. faults_parts (certs_tree ((drop-cons cs i c h ∙ ap (λ (x : Certificate). x ∷ drop (suc i) cs) (sym is)) z)) i ds k (assertions_of (at z)) (assertions_of (there z)))
-    ∙ (ap (λ (o : Option Fault). option_or o (faults_parts (certs_tree (drop (suc i) cs)) (suc i) ds k (assertions_of left) (assertions_of right))) none
+    ∙ (ap (λ (o : Option CertFault). option_or o (faults_parts (certs_tree (drop (suc i) cs)) (suc i) ds k (assertions_of left) (assertions_of right))) none
     ∙ ap (λ (j : ℕ). faults_parts (certs_tree (drop j cs)) j ds k (assertions_of left) (assertions_of right)) (sym (add-one i)))
 
-pub pair_goes_on : (start old new : Place) (x : Unit {0}) (cs : List Certificate) (ps qs left right : List AssertionTree) (i : ℕ) (c : Certificate) (p q : AssertionTree) (ds : List Define) (v : Option Fault) → old ≡ start → i < length cs → c ≡ get_or cs i c → ps ≡ p ∷ left → qs ≡ q ∷ right → Says old new (Ok x) (part i (fault (cert_tree c) ds old.known p q)) → v ≡ faults_parts (certs_tree (drop i cs)) i ds start.known (assertions_of ps) (assertions_of qs) → (new ≡ start) × (v ≡ faults_parts (certs_tree (drop (i + 1) cs)) (i + 1) ds start.known (assertions_of left) (assertions_of right))
+pub pair_goes_on : (start old new : Place) (x : Unit {0}) (cs : List Certificate) (ps qs left right : List AssertionTree) (i : ℕ) (c : Certificate) (p q : AssertionTree) (ds : List Define) (v : Option CertFault) → old ≡ start → i < length cs → c ≡ get_or cs i c → ps ≡ p ∷ left → qs ≡ q ∷ right → Says old new (Ok x) (part i (fault (cert_tree c) ds old.known p q)) → v ≡ faults_parts (certs_tree (drop i cs)) i ds start.known (assertions_of ps) (assertions_of qs) → (new ≡ start) × (v ≡ faults_parts (certs_tree (drop (i + 1) cs)) (i + 1) ds start.known (assertions_of left) (assertions_of right))
 pair_goes_on start old new x cs ps qs left right i c p q ds v back h is at there says others =
     let s = said old new x (part i (fault (cert_tree c) ds old.known p q)) says in
     let none = ap (λ (w : Place). part i (fault (cert_tree c) ds w.known p q)) (sym back) ∙ s.0 in

@@ -4,23 +4,23 @@ use Rattle.qs_poly.specs.Polynomials.{Polynomial}
 use Rattle.qs_poly.specs.Operations.{lessened}
 use Rattle.qs_assert.specs.Trees.{TermTree, CondTree, le, lt, eq, ne, not, and, or, CondTrees, no_conds, cond_and}
 use Rattle.qs_base.specs.Results.{bind}
-use Rattle.qs_entail.specs.Building.{Failure, Two, limited, difference, term_polynomial}
+use Rattle.qs_entail.specs.Building.{Stop, Two, limited, difference, term_polynomial}
 use Rattle.qs_entail.specs.Extending.{pushed}
 use Rattle.qs_entail.specs.Flattening.{flat, flats, both_polynomials, push_whole, push_wholes}
 use Rattle.qs_entail.specs.Pushing.{Known, with_condition, with_polynomials, push_le, push_lt, push_eq, push_all, push_nots}
 
 -- ---- attempts one after the other
 
-bind_ok : {A : Type 0} (r : Result A Failure) → bind r (λ a. Ok a) ≡ r
+bind_ok : {A : Type 0} (r : Result A Stop) → bind r (λ a. Ok a) ≡ r
 bind_ok (Ok a) = refl
 bind_ok (Err failure) = refl
 
-bind_bind : {A B C : Type 0} (r : Result A Failure) (f : A → Result B Failure) (g : B → Result C Failure) → bind (bind r f) g ≡ bind r (λ a. bind (f a) g)
+bind_bind : {A B C : Type 0} (r : Result A Stop) (f : A → Result B Stop) (g : B → Result C Stop) → bind (bind r f) g ≡ bind r (λ a. bind (f a) g)
 bind_bind (Ok a) f g = refl
 bind_bind (Err failure) f g = refl
 
 -- the polynomials of two terms, and then what is made of them
-after_both : {C : Type 0} (r s : Result Polynomial Failure) (f : Two → Result C Failure) →
+after_both : {C : Type 0} (r s : Result Polynomial Stop) (f : Two → Result C Stop) →
     bind (bind r (λ p. bind s (λ q. Ok (record { first = p; second = q })))) f ≡ bind r (λ p. bind s (λ q. f (record { first = p; second = q })))
 after_both (Ok p) (Ok q) f = refl
 after_both (Ok p) (Err failure) f = refl
@@ -31,7 +31,7 @@ after_both (Err failure) s f = refl
 abbrev put_on : CondTree → Known → List Polynomial → Known
 put_on c k ps = with_polynomials ps (with_condition c k)
 
-both_on : (t u : TermTree) (f : Two → Result (List Polynomial) Failure) (g : List Polynomial → Result Known Failure) →
+both_on : (t u : TermTree) (f : Two → Result (List Polynomial) Stop) (g : List Polynomial → Result Known Stop) →
     bind (bind (both_polynomials t u) f) g ≡ bind (term_polynomial t) (λ p. bind (term_polynomial u) (λ q. bind (f (record { first = p; second = q })) g))
 both_on t u f g = bind_bind (both_polynomials t u) f g ∙ after_both (term_polynomial t) (term_polynomial u) (λ z. bind (f z) g)
 
@@ -52,7 +52,7 @@ eq_whole t u k =
     (λ i. bind (term_polynomial t) (λ p. bind (term_polynomial u) (λ q. bind (difference q p) (λ d. bind_bind (difference p q) (λ e. Ok (d ∷ e ∷ [])) (λ ps. Ok (put_on (eq t u) k ps)) i)))))
 
 -- without polynomials
-bare_whole : (c : CondTree) (k : Known) → (let r : Result Known Failure = Ok (put_on c k []) in r) ≡ Ok (with_condition c k)
+bare_whole : (c : CondTree) (k : Known) → (let r : Result Known Stop = Ok (put_on c k []) in r) ≡ Ok (with_condition c k)
 bare_whole c k = ap (λ (l : List Polynomial). Ok (record (with_condition c k) { polynomials = l })) (append-nil k.polynomials)
 
 -- ---- all that are pushed
@@ -62,7 +62,7 @@ wholes-append [] ys k = refl
 wholes-append (x ∷ xs) ys k =
     (λ i. bind (push_whole x k) (λ k'. wholes-append xs ys k' i)) ∙ sym (bind_bind (push_whole x k) (λ k'. push_wholes xs k') (λ k'. push_wholes ys k'))
 
-one_whole : (c : CondTree) (k : Known) (r : Result Known Failure) → push_whole c k ≡ r → push_wholes (c ∷ []) k ≡ r
+one_whole : (c : CondTree) (k : Known) (r : Result Known Stop) → push_whole c k ≡ r → push_wholes (c ∷ []) k ≡ r
 one_whole c k r e = bind_ok (push_whole c k) ∙ e
 
 mutual

@@ -13,25 +13,25 @@ use Rattle.qs_entail.specs.Certificates.{Item, once, twice}
 
 -- ---- what fails at a node: its rule's side condition, or a limit
 
-pub data Failure : Type 0 where
-  breaks : Failure
-  passes : PolyFault → Failure
+pub data Stop : Type 0 where
+  breaks : Stop
+  passes : PolyFault → Stop
 
-abbrev pub limits : Result Polynomial PolyFault → Result Polynomial Failure
+abbrev pub limits : Result Polynomial PolyFault → Result Polynomial Stop
 limits = result_map_both (λ p. p) passes
 
 -- a true result, where it passes no limit
-abbrev pub limited : Polynomial → Result Polynomial Failure
+abbrev pub limited : Polynomial → Result Polynomial Stop
 limited p = limits (within p)
 
 -- p less q
-abbrev pub difference : Polynomial → Polynomial → Result Polynomial Failure
+abbrev pub difference : Polynomial → Polynomial → Result Polynomial Stop
 difference p q = limited (lessened p 1 q 0)
 
 -- ---- terms
 
 abbrev mutual
-  pub term_polynomial : TermTree → Result Polynomial Failure
+  pub term_polynomial : TermTree → Result Polynomial Stop
   term_polynomial (number k) = limited (operation.number k)
   term_polynomial (variable x) = Ok (single (poly.variable x))
   term_polynomial (add ts) = sum_onto ts nothing
@@ -42,11 +42,11 @@ abbrev mutual
   term_polynomial (wraps t) = bind (term_polynomial t) (λ p. Ok (single (poly.wraps p)))
   term_polynomial (bits t) = bind (term_polynomial t) (λ p. Ok (single (poly.bits p)))
 
-  pub sum_onto : TermTrees → Polynomial → Result Polynomial Failure
+  pub sum_onto : TermTrees → Polynomial → Result Polynomial Stop
   sum_onto no_terms p = Ok p
   sum_onto (term_and t ts) p = bind (term_polynomial t) (λ q. bind (limited (sum p q)) (λ r. sum_onto ts r))
 
-  pub product_onto : TermTrees → Polynomial → Result Polynomial Failure
+  pub product_onto : TermTrees → Polynomial → Result Polynomial Stop
   product_onto no_terms p = Ok p
   product_onto (term_and t ts) p = bind (term_polynomial t) (λ q. bind (limited (operation.product p q)) (λ r. product_onto ts r))
 
@@ -72,7 +72,7 @@ abbrev mutual
 
 -- of an assertion that is plain
 abbrev mutual
-  pub assertion_polynomial : AssertionTree → Result Polynomial Failure
+  pub assertion_polynomial : AssertionTree → Result Polynomial Stop
   assertion_polynomial (natural n) = limited (operation.number (pos n))
   assertion_polynomial infinity = Err breaks
   assertion_polynomial (cost f) = Ok (single (poly.cost f))
@@ -84,11 +84,11 @@ abbrev mutual
   assertion_polynomial (choose c a b) = Err breaks
   assertion_polynomial (named n) = Err breaks
 
-  pub total_onto : AssertionTrees → Polynomial → Result Polynomial Failure
+  pub total_onto : AssertionTrees → Polynomial → Result Polynomial Stop
   total_onto no_assertions p = Ok p
   total_onto (assertion_and a parts) p = bind (assertion_polynomial a) (λ q. bind (limited (sum p q)) (λ r. total_onto parts r))
 
-  pub factors_onto : AssertionTrees → Polynomial → Result Polynomial Failure
+  pub factors_onto : AssertionTrees → Polynomial → Result Polynomial Stop
   factors_onto no_assertions p = Ok p
   factors_onto (assertion_and a parts) p = bind (assertion_polynomial a) (λ q. bind (limited (operation.product p q)) (λ r. factors_onto parts r))
 
@@ -100,24 +100,24 @@ at l (pos i) = slice_index_or l i nothing
 at l (negsuc i) = nothing
 
 -- k times a product
-abbrev pub product_times : ℕ → Polynomial → Polynomial → Result Polynomial Failure
+abbrev pub product_times : ℕ → Polynomial → Polynomial → Result Polynomial Stop
 product_times k p q = bind (limited (operation.product p q)) (λ r. limited (multiple (pos k) r))
 
-abbrev pub item_polynomial : Item → List Polynomial → Result Polynomial Failure
+abbrev pub item_polynomial : Item → List Polynomial → Result Polynomial Stop
 item_polynomial (once k i) l = limited (multiple (pos k) (at l i))
 item_polynomial (twice k i j) l = product_times k (at l i) (at l j)
 
-abbrev pub item_polynomials : List Item → List Polynomial → Result (List Polynomial) Failure
+abbrev pub item_polynomials : List Item → List Polynomial → Result (List Polynomial) Stop
 item_polynomials [] l = Ok []
 item_polynomials (item ∷ items) l = bind (item_polynomial item l) (λ p. bind (item_polynomials items l) (λ ps. Ok (p ∷ ps)))
 
 -- the sums from left to right
-abbrev pub sum_all : Polynomial → List Polynomial → Result Polynomial Failure
+abbrev pub sum_all : Polynomial → List Polynomial → Result Polynomial Stop
 sum_all p [] = Ok p
 sum_all p (q ∷ qs) = bind (limited (sum p q)) (λ r. sum_all r qs)
 
 -- all items, and then the sums
-abbrev pub combination : List Item → List Polynomial → Result Polynomial Failure
+abbrev pub combination : List Item → List Polynomial → Result Polynomial Stop
 combination items l = bind (item_polynomials items l) (λ ps. sum_all nothing ps)
 
 pub record Two : Type 0 where
@@ -125,6 +125,6 @@ pub record Two : Type 0 where
   pub second : Polynomial
 
 -- all items of both, and then the sums of both
-abbrev pub two_combinations : List Item → List Item → List Polynomial → Result Two Failure
+abbrev pub two_combinations : List Item → List Item → List Polynomial → Result Two Stop
 two_combinations v w l =
     bind (item_polynomials v l) (λ ps. bind (item_polynomials w l) (λ qs. bind (sum_all nothing ps) (λ p. bind (sum_all nothing qs) (λ q. Ok (record { first = p; second = q })))))

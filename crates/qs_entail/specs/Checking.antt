@@ -16,7 +16,8 @@ use Rattle.qs_entail.specs.declared.walk.Walk.{Walk}
 use Rattle.qs_entail.specs.Certificates.{pick, all, parts, assume, by_definition}
 use Rattle.qs_entail.specs.Certificates as cert
 use Rattle.qs_entail.specs.Extending.{pushed}
-use Rattle.qs_entail.specs.Faults.{Fault, node, part, branch, guarded_of, summands_of, contradiction, arithmetic_holds}
+use Rattle.qs_entail.specs.Faults as faults
+use Rattle.qs_entail.specs.Faults.{node, part, branch, guarded_of, summands_of, contradiction, arithmetic_holds}
 use Rattle.qs_entail.specs.Pushing.{Known, push}
 use Rattle.qs_entail.specs.Said.{Tells}
 use Rattle.qs_entail.specs.Verdicts as verdicts
@@ -25,7 +26,7 @@ use Rattle.qs_entail.specs.View.{cert_tree, certs_tree, fact_tree, items_view, k
 use Rattle.qs_entail.specs.Walking.{place, cut, Says, not_of, branch_number}
 
 -- the answer is this verdict on what was known
-abbrev pub Answers : (Known → Option Fault) → (old new : Walk) → Result (Unit {0}) Failed → Type 0
+abbrev pub Answers : (Known → Option faults.CertFault) → (old new : Walk) → Result (Unit {0}) Failed → Type 0
 Answers verdict old new result = Says (place old) (place new) result (verdict (known_view old.known))
 
 -- ---- a node
@@ -41,7 +42,7 @@ ChecksRest c ds p q old new result = Answers (λ k. rest (cert_tree c) ds k p q)
 -- ---- a part
 
 -- the verdict on part i
-abbrev pub part_fault : ℕ → Certificate → List Define → AssertionTree → AssertionTree → Known → Option Fault
+abbrev pub part_fault : ℕ → Certificate → List Define → AssertionTree → AssertionTree → Known → Option faults.CertFault
 part_fault i c ds p q k = part i (fault (cert_tree c) ds k p q)
 
 abbrev pub ChecksPart : ℕ → Certificate → List Define → AssertionTree → AssertionTree → (old new : Walk) → Result (Unit {0}) Failed → Type 0
@@ -87,7 +88,7 @@ ChecksGuarded c ds guarded q old new result =
     Answers (λ k. node rules.Assume (push guarded.condition k) (part_fault 0 c ds guarded.body q)) old new result
 
 -- what is known with the negation of a condition is a contradiction: 0 is at least infinity
-abbrev pub refutation : CondTree → Certificate → List Define → Known → Option Fault
+abbrev pub refutation : CondTree → Certificate → List Define → Known → Option faults.CertFault
 refutation b c ds k = node rules.DropGuard (push (not b) k) (part_fault 0 c ds (natural 0) infinity)
 
 abbrev pub ChecksRefuted : CondTree → Certificate → List Define → (old new : Walk) → Result (Unit {0}) Failed → Type 0
@@ -104,7 +105,7 @@ ChecksBody c ds p q old new result =
     Answers (λ k. node rules.DropGuard (guarded_of q) (λ g. part_fault 1 c ds p g.body k)) old new result
 
 -- the verdict on the part with the first branches or with the second
-abbrev pub branch_fault : CondTree → Bool → Certificate → List Define → AssertionTree → AssertionTree → Known → Option Fault
+abbrev pub branch_fault : CondTree → Bool → Certificate → List Define → AssertionTree → AssertionTree → Known → Option faults.CertFault
 branch_fault b first c ds p q = part_fault (branch_number first) c ds (branch b first p) (branch b first q)
 
 -- the condition and its negation can be pushed, and the part with the condition

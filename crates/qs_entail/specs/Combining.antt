@@ -7,7 +7,8 @@ use Rattle.qs_entail.specs.declared.combination.Two as pair
 use Rattle.qs_base.specs.Results.{bind}
 use Rattle.qs_entail.specs.declared.stop.Stop.{Stop}
 use Rattle.qs_entail.specs.Answers.{FollowsAs}
-use Rattle.qs_entail.specs.Building.{Failure, Two, two_combinations}
+use Rattle.qs_entail.specs.Building as building
+use Rattle.qs_entail.specs.Building.{Two, two_combinations}
 use Rattle.qs_entail.specs.Verdicts.{is_counted}
 use Rattle.qs_entail.specs.View.{items_view}
 
@@ -22,5 +23,5 @@ item_counted (Once k i) n = is_counted i n
 item_counted (Twice k i j) n = is_counted i n && is_counted j n
 
 -- polynomials, and then those of an attempt
-abbrev pub and_then : List Polynomial → Result (List Polynomial) Failure → Result (List Polynomial) Failure
+abbrev pub and_then : List Polynomial → Result (List Polynomial) building.Stop → Result (List Polynomial) building.Stop
 and_then ps attempt = bind attempt (λ qs. Ok (ps ++ qs))

@@ -9,17 +9,21 @@ use Rattle.qs_poly.specs.Operations.{sum, multiple, number, lessened, single}
 use Rattle.qs_poly.specs.Terms.{polynomial_eq}
 use Rattle.qs_entail.specs.Certificates.{Item, FactTree, range, cost_range, apart, num_is, num_bounds, wrapu_is, wraps_is, wrapu_bounds, wraps_bounds, quotient_bounds, bits_bound, bits_half, bits_rise}
 use Rattle.qs_base.specs.Results.{bind, require}
-use Rattle.qs_entail.specs.Building.{Failure, breaks, limited, difference, term_polynomial, combination, two_combinations}
+use Rattle.qs_entail.specs.Building.{Stop, breaks, limited, difference, term_polynomial, combination, two_combinations}
 use Rattle.qs_entail.specs.Pushing.{Known}
+
+-- how many numbers of type int are below 0
+abbrev pub ints_below_zero : ℕ
+ints_below_zero = 2 ^ 31
 
 -- the least and the greatest number of a type (C11 6.2.5 and 6.2.6.2)
 abbrev pub least : NumberType → ℤ
-least Int = negsuc (2 ^ 31 - 1)
+least Int = negsuc (ints_below_zero - 1)
 least Unsigned = pos 0
 least Char = pos 0
 
 abbrev pub greatest_of_type : NumberType → ℤ
-greatest_of_type Int = pos (2 ^ 31 - 1)
+greatest_of_type Int = pos (ints_below_zero - 1)
 greatest_of_type Unsigned = pos (2 ^ 32 - 1)
 greatest_of_type Char = pos 255
 
@@ -28,7 +32,7 @@ pub record Sides : Type 0 where
   pub left : TermTree
   pub right : TermTree
 
-abbrev pub equal_sides : CondTree → Result Sides Failure
+abbrev pub equal_sides : CondTree → Result Sides Stop
 equal_sides (eq t u) = Ok (record { left = t; right = u })
 equal_sides (le t u) = Err breaks
 equal_sides (lt t u) = Err breaks
@@ -37,7 +41,7 @@ equal_sides (not c) = Err breaks
 equal_sides (and cs) = Err breaks
 equal_sides (or cs) = Err breaks
 
-abbrev pub different_sides : CondTree → Result Sides Failure
+abbrev pub different_sides : CondTree → Result Sides Stop
 different_sides (ne t u) = Ok (record { left = t; right = u })
 different_sides (not c) = equal_sides c
 different_sides (le t u) = Err breaks
@@ -46,17 +50,17 @@ different_sides (eq t u) = Err breaks
 different_sides (and cs) = Err breaks
 different_sides (or cs) = Err breaks
 
-abbrev pub condition_at : List CondTree → ℕ → Result CondTree Failure
+abbrev pub condition_at : List CondTree → ℕ → Result CondTree Stop
 condition_at [] i = Err breaks
 condition_at (c ∷ cs) zero = Ok c
 condition_at (c ∷ cs) (suc i) = condition_at cs i
 
-abbrev pub condition : List CondTree → ℤ → Result CondTree Failure
+abbrev pub condition : List CondTree → ℤ → Result CondTree Stop
 condition cs (pos i) = condition_at cs i
 condition cs (negsuc i) = Err breaks
 
 -- one less than the combination, where that is what t and u differ by
-abbrev pub apart_by : TermTree → TermTree → List Item → List Polynomial → Result (List Polynomial) Failure
+abbrev pub apart_by : TermTree → TermTree → List Item → List Polynomial → Result (List Polynomial) Stop
 apart_by left right w l =
     bind (term_polynomial left) (λ t.
     bind (term_polynomial right) (λ u.
@@ -67,10 +71,10 @@ apart_by left right w l =
     require (polynomial_eq z more || polynomial_eq z less) breaks (Ok (r ∷ []))))))))
 
 -- p less q, and q less p
-abbrev pub both_differences : Polynomial → Polynomial → Result (List Polynomial) Failure
+abbrev pub both_differences : Polynomial → Polynomial → Result (List Polynomial) Stop
 both_differences p q = bind (difference p q) (λ a. bind (difference q p) (λ b. Ok (a ∷ b ∷ [])))
 
-abbrev pub added : FactTree → Known → Result (List Polynomial) Failure
+abbrev pub added : FactTree → Known → Result (List Polynomial) Stop
 added (range x) k =
     bind (difference (single (poly.variable x)) (number (least x.number))) (λ a.
     bind (difference (number (greatest_of_type x.number)) (single (poly.variable x))) (λ b.
@@ -92,27 +96,27 @@ added (num_bounds t) k =
     Ok (single (poly.num p) ∷ a ∷ [])))
 added (wrapu_is t v w) k =
     bind (term_polynomial t) (λ p.
-    bind (difference (number (pos 4294967295)) p) (λ room.
+    bind (difference (number (greatest_of_type Unsigned)) p) (λ room.
     bind (two_combinations v w k.polynomials) (λ z.
     bind (difference (single (poly.wrapu p)) p) (λ a.
     bind (difference p (single (poly.wrapu p))) (λ b.
     require (polynomial_eq z.first p && polynomial_eq z.second room) breaks (Ok (a ∷ b ∷ [])))))))
 added (wraps_is t v w) k =
     bind (term_polynomial t) (λ p.
-    bind (limited (sum p (number (pos 2147483648)))) (λ above.
-    bind (difference (number (pos 2147483647)) p) (λ room.
+    bind (limited (sum p (number (pos ints_below_zero)))) (λ above.
+    bind (difference (number (greatest_of_type Int)) p) (λ room.
     bind (two_combinations v w k.polynomials) (λ z.
     bind (difference (single (poly.wraps p)) p) (λ a.
     bind (difference p (single (poly.wraps p))) (λ b.
     require (polynomial_eq z.first above && polynomial_eq z.second room) breaks (Ok (a ∷ b ∷ []))))))))
 added (wrapu_bounds t) k =
     bind (term_polynomial t) (λ p.
-    bind (difference (number (pos 4294967295)) (single (poly.wrapu p))) (λ a.
+    bind (difference (number (greatest_of_type Unsigned)) (single (poly.wrapu p))) (λ a.
     Ok (single (poly.wrapu p) ∷ a ∷ [])))
 added (wraps_bounds t) k =
     bind (term_polynomial t) (λ p.
-    bind (limited (sum (single (poly.wraps p)) (number (pos 2147483648)))) (λ a.
-    bind (difference (number (pos 2147483647)) (single (poly.wraps p))) (λ b.
+    bind (limited (sum (single (poly.wraps p)) (number (pos ints_below_zero)))) (λ a.
+    bind (difference (number (greatest_of_type Int)) (single (poly.wraps p))) (λ b.
     Ok (a ∷ b ∷ []))))
 added (quotient_bounds t n) k =
     bind (term_polynomial t) (λ p.

@@ -10,48 +10,48 @@ use Rattle.qs_poly.specs.declared.fault.PolyFault.{PolyFault}
 use Rattle.qs_entail.specs.declared.fault.Rule.{Rule}
 use Rattle.qs_entail.specs.Certificates.{Item, CertTrees, no_certs, cert_and}
 use Rattle.qs_base.specs.Results.{bind, require, fault_or}
-use Rattle.qs_entail.specs.Building.{Failure, breaks, passes, difference, combination, assertion_polynomial}
+use Rattle.qs_entail.specs.Building.{Stop, breaks, passes, difference, combination, assertion_polynomial}
 use Rattle.qs_entail.specs.Pushing.{Known}
 
 -- ---- verdicts
 
 -- the path of a node, and the rule whose side condition fails or the limit that is passed
-pub data Fault : Type 0 where
-  step : List ℕ → Rule → Fault
-  limit : List ℕ → PolyFault → Fault
+pub data CertFault : Type 0 where
+  step : List ℕ → Rule → CertFault
+  limit : List ℕ → PolyFault → CertFault
 
-abbrev pub at_root : Rule → Failure → Fault
+abbrev pub at_root : Rule → Stop → CertFault
 at_root rule breaks = step [] rule
 at_root rule (passes fault) = limit [] fault
 
-abbrev pub below : ℕ → Fault → Fault
+abbrev pub below : ℕ → CertFault → CertFault
 below i (step path rule) = step (i ∷ path) rule
 below i (limit path fault) = limit (i ∷ path) fault
 
 -- a node of this rule, and then its parts
-abbrev pub node : {A : Type 0} → Rule → Result A Failure → (A → Option Fault) → Option Fault
+abbrev pub node : {A : Type 0} → Rule → Result A Stop → (A → Option CertFault) → Option CertFault
 node rule = fault_or (at_root rule)
 
 -- part i of a node
-abbrev pub part : ℕ → Option Fault → Option Fault
+abbrev pub part : ℕ → Option CertFault → Option CertFault
 part i None = None
 part i (Some fault) = Some (below i fault)
 
 -- ---- the parts of assertions
 
-abbrev pub done : Result (Unit {0}) Failure
+abbrev pub done : Result (Unit {0}) Stop
 done = Ok tt
 
-abbrev pub member : AssertionTrees → ℕ → Result AssertionTree Failure
+abbrev pub member : AssertionTrees → ℕ → Result AssertionTree Stop
 member no_assertions i = Err breaks
 member (assertion_and a others) zero = Ok a
 member (assertion_and a others) (suc i) = member others i
 
-abbrev pub member_at : AssertionTrees → ℤ → Result AssertionTree Failure
+abbrev pub member_at : AssertionTrees → ℤ → Result AssertionTree Stop
 member_at members (pos i) = member members i
 member_at members (negsuc i) = Err breaks
 
-abbrev pub members_of : AssertionTree → Result AssertionTrees Failure
+abbrev pub members_of : AssertionTree → Result AssertionTrees Stop
 members_of (greatest members) = Ok members
 members_of (natural n) = Err breaks
 members_of infinity = Err breaks
@@ -63,7 +63,7 @@ members_of (guard c a) = Err breaks
 members_of (choose c a b) = Err breaks
 members_of (named n) = Err breaks
 
-abbrev pub summands_of : AssertionTree → Result AssertionTrees Failure
+abbrev pub summands_of : AssertionTree → Result AssertionTrees Stop
 summands_of (total summands) = Ok summands
 summands_of (natural n) = Err breaks
 summands_of infinity = Err breaks
@@ -79,7 +79,7 @@ pub record Guarded : Type 0 where
   pub condition : CondTree
   pub body : AssertionTree
 
-abbrev pub guarded_of : AssertionTree → Result Guarded Failure
+abbrev pub guarded_of : AssertionTree → Result Guarded Stop
 guarded_of (guard c a) = Ok (record { condition = c; body = a })
 guarded_of (natural n) = Err breaks
 guarded_of infinity = Err breaks
@@ -96,13 +96,13 @@ count no_assertions = 0
 count (assertion_and a others) = suc (count others)
 
 -- member i of a greatest, how many members it has, and how many summands a sum has
-abbrev pub member_of : AssertionTree → ℤ → Result AssertionTree Failure
+abbrev pub member_of : AssertionTree → ℤ → Result AssertionTree Stop
 member_of a i = bind (members_of a) (λ members. member_at members i)
 
-abbrev pub member_count : AssertionTree → Result ℕ Failure
+abbrev pub member_count : AssertionTree → Result ℕ Stop
 member_count a = bind (members_of a) (λ members. Ok (count members))
 
-abbrev pub summand_count : AssertionTree → Result ℕ Failure
+abbrev pub summand_count : AssertionTree → Result ℕ Stop
 summand_count a = bind (summands_of a) (λ summands. Ok (count summands))
 
 abbrev pub count_certs : CertTrees → ℕ
@@ -147,18 +147,18 @@ abbrev mutual
   all_unfolded n body (assertion_and a others) = assertion_and (unfolded n body a) (all_unfolded n body others)
 
 -- the body of the first definition of a name
-abbrev pub definition : List Define → List ℕ → Result AssertionTree Failure
+abbrev pub definition : List Define → List ℕ → Result AssertionTree Stop
 definition [] n = Err breaks
 definition (d ∷ ds) n = if same_name n d.name then Ok d.body else definition ds n
 
 -- ---- the equalities of polynomials of two rules, where their other conditions hold
 
 -- the combination is -1
-abbrev pub contradiction : List Item → Known → Result (Unit {0}) Failure
+abbrev pub contradiction : List Item → Known → Result (Unit {0}) Stop
 contradiction w k = bind (combination w k.polynomials) (λ z. require (polynomial_eq z (number (negsuc 0))) breaks done)
 
 -- the combination is the difference of the sides
-abbrev pub arithmetic_holds : List Item → Known → AssertionTree → AssertionTree → Result (Unit {0}) Failure
+abbrev pub arithmetic_holds : List Item → Known → AssertionTree → AssertionTree → Result (Unit {0}) Stop
 arithmetic_holds w k p q =
     bind (assertion_polynomial p) (λ a.
     bind (assertion_polynomial q) (λ b.

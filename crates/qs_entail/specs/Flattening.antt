@@ -11,7 +11,7 @@ use Rattle.qs_poly.specs.Operations.{lessened}
 use Rattle.qs_assert.specs.Views.{begins, head_arity}
 use Rattle.qs_base.specs.Results.{bind}
 use Rattle.qs_base.specs.declared.memory.NoMemory.{NoMemory}
-use Rattle.qs_entail.specs.Building.{Failure, Two, limited, difference, term_polynomial}
+use Rattle.qs_entail.specs.Building.{Stop, Two, limited, difference, term_polynomial}
 use Rattle.qs_entail.specs.Pushing.{Known, with_condition, with_polynomials}
 
 -- ---- trees
@@ -91,10 +91,10 @@ polynomial_counts (c ∷ cs) = polynomial_count c + polynomial_counts cs
 
 -- what is pushed for a condition that is pushed whole
 
-abbrev pub both_polynomials : TermTree → TermTree → Result Two Failure
+abbrev pub both_polynomials : TermTree → TermTree → Result Two Stop
 both_polynomials t u = bind (term_polynomial t) (λ p. bind (term_polynomial u) (λ q. Ok (record { first = p; second = q })))
 
-abbrev pub polynomials_of : CondTree → Result (List Polynomial) Failure
+abbrev pub polynomials_of : CondTree → Result (List Polynomial) Stop
 polynomials_of (le t u) = bind (both_polynomials t u) (λ z. bind (difference z.second z.first) (λ d. Ok (d ∷ [])))
 polynomials_of (lt t u) = bind (both_polynomials t u) (λ z. bind (limited (lessened z.second 1 z.first 1)) (λ d. Ok (d ∷ [])))
 polynomials_of (eq t u) =
@@ -104,9 +104,9 @@ polynomials_of (not c) = Ok []
 polynomials_of (and cs) = Ok []
 polynomials_of (or cs) = Ok []
 
-abbrev pub push_whole : CondTree → Known → Result Known Failure
+abbrev pub push_whole : CondTree → Known → Result Known Stop
 push_whole c k = bind (polynomials_of c) (λ ps. Ok (with_polynomials ps (with_condition c k)))
 
-abbrev pub push_wholes : List CondTree → Known → Result Known Failure
+abbrev pub push_wholes : List CondTree → Known → Result Known Stop
 push_wholes [] k = Ok k
 push_wholes (c ∷ cs) k = bind (push_whole c k) (λ k'. push_wholes cs k')

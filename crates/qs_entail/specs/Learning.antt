@@ -9,7 +9,7 @@ use Rattle.qs_entail.specs.declared.known.Known as code
 use Rattle.qs_entail.specs.declared.parts.Sides.{Sides}
 use Rattle.qs_entail.specs.declared.stop.Stop.{Stop}
 use Rattle.qs_entail.specs.Answers.{Follows, FollowsAs, ListFollows}
-use Rattle.qs_entail.specs.Building.{Failure}
+use Rattle.qs_entail.specs.Building as building
 use Rattle.qs_entail.specs.Certificates.{FactTree}
 use Rattle.qs_entail.specs.Extending.{pushed, with_fact}
 use Rattle.qs_entail.specs.Facts.{added, apart_by}
@@ -39,7 +39,7 @@ TellsDifference items known p q result = Follows result (arithmetic_holds (items
 -- ---- more is known
 
 -- what is known becomes what f makes of it
-abbrev pub Learns : {A : Type 0} → (Known → Result Known Failure) → (old new : code.Known) → Result A Stop → Type 0
+abbrev pub Learns : {A : Type 0} → (Known → Result Known building.Stop) → (old new : code.Known) → Result A Stop → Type 0
 Learns f old new result = FollowsAs (λ _. known_view new) result (f (known_view old))
 
 -- a condition is pushed, or its negation

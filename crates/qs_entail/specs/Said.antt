@@ -8,7 +8,8 @@ use Rattle.qs_entail.specs.declared.fault.CertFault.TheVariants.{Step}
 use Rattle.qs_entail.specs.declared.stop.Limit.{Limit}
 use Rattle.qs_entail.specs.declared.stop.Limit.TheVariants.{Coefficient, Terms, Degree}
 use Rattle.qs_entail.specs.Answers.{fault_of}
-use Rattle.qs_entail.specs.Faults.{Fault, step, limit}
+use Rattle.qs_entail.specs.Faults as faults
+use Rattle.qs_entail.specs.Faults.{step, limit}
 
 abbrev pub rule_number : Rule → ℕ
 rule_number Same = 1
@@ -30,7 +31,7 @@ limit_number Terms = 2
 limit_number Degree = 3
 
 -- what the check answers says what the verdict is, want of memory aside
-abbrev pub Tells : Result (Unit {0}) CertFault → Option Fault → Type 0
+abbrev pub Tells : Result (Unit {0}) CertFault → Option faults.CertFault → Type 0
 Tells (Ok u) verdict = verdict ≡ None
 Tells (Err answers.NoMemory) verdict = Unit {0}
 Tells (Err (Step path rule)) verdict = verdict ≡ Some (step path.items rule)

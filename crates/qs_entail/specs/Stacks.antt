@@ -22,31 +22,31 @@ use Rattle.qs_entail.specs.declared.stack.Head.TheVariants as heads
 use Rattle.qs_entail.specs.declared.operation.Operation.{Operation}
 use Rattle.qs_entail.specs.declared.operation.Operation.TheVariants as operations
 use Rattle.qs_base.specs.Results.{bind}
-use Rattle.qs_entail.specs.Building.{Failure, breaks, passes, limited}
-use Rattle.qs_entail.specs.declared.stop.Stop.{Stop}
+use Rattle.qs_entail.specs.Building.{Stop, breaks, passes, limited}
+use Rattle.qs_entail.specs.declared.stop.Stop as code
 use Rattle.qs_entail.specs.Answers.{fault_of, Follows}
 
 -- ---- what the code has
 
-abbrev pub attempt_of : Built → Result Polynomial Failure
+abbrev pub attempt_of : Built → Result Polynomial Stop
 attempt_of (Made p) = Ok p
 attempt_of Broken = Err breaks
 attempt_of (Past limit) = Err (passes (fault_of limit))
 
 -- the attempts of a stack, the front being the end
-abbrev pub seen : List Built → List (Result Polynomial Failure)
+abbrev pub seen : List Built → List (Result Polynomial Stop)
 seen items = map attempt_of (reverse items)
 
 -- what is built is this attempt, if memory suffices
-abbrev pub Builds : Result Polynomial Failure → Result Built NoMemory → Type 0
+abbrev pub Builds : Result Polynomial Stop → Result Built NoMemory → Type 0
 Builds attempt result = IfOk result (λ built. attempt_of built ≡ attempt)
 
 -- what a step gives is kept
-abbrev pub KeepsGiven : Result Polynomial Stop → Result Built NoMemory → Type 0
-KeepsGiven given result = (attempt : Result Polynomial Failure) → Follows given attempt → Builds attempt result
+abbrev pub KeepsGiven : Result Polynomial code.Stop → Result Built NoMemory → Type 0
+KeepsGiven given result = (attempt : Result Polynomial Stop) → Follows given attempt → Builds attempt result
 
 -- the stack becomes what f makes of it, if memory suffices
-abbrev pub Changes : (List (Result Polynomial Failure) → List (Result Polynomial Failure)) → (old new : List Built) → Result (Unit {0}) NoMemory → Type 0
+abbrev pub Changes : (List (Result Polynomial Stop) → List (Result Polynomial Stop)) → (old new : List Built) → Result (Unit {0}) NoMemory → Type 0
 Changes f old new result = OnOk result (seen new ≡ f (seen old))
 
 abbrev pub operated : Operation → Polynomial → Polynomial → Polynomial
@@ -64,40 +64,40 @@ atom_on heads.Bits p = bits p
 -- ---- terms
 
 -- the first attempt; a list of the nodes of a tree never lacks one
-abbrev pub first : List (Result Polynomial Failure) → Result Polynomial Failure
+abbrev pub first : List (Result Polynomial Stop) → Result Polynomial Stop
 first = first_or (Err breaks)
 
-abbrev pub on_one : Head → Result Polynomial Failure → Result Polynomial Failure
+abbrev pub on_one : Head → Result Polynomial Stop → Result Polynomial Stop
 on_one head a = bind a (λ p. Ok (single (atom_on head p)))
 
-abbrev pub on_both : Operation → Result Polynomial Failure → Result Polynomial Failure → Result Polynomial Failure
+abbrev pub on_both : Operation → Result Polynomial Stop → Result Polynomial Stop → Result Polynomial Stop
 on_both operation a b = bind a (λ p. bind b (λ q. limited (operated operation p q)))
 
 -- the first n attempts joined to one, from left to right
-abbrev pub joined : Operation → ℕ → List (Result Polynomial Failure) → Result Polynomial Failure → Result Polynomial Failure
+abbrev pub joined : Operation → ℕ → List (Result Polynomial Stop) → Result Polynomial Stop → Result Polynomial Stop
 joined operation zero xs so_far = so_far
 joined operation (suc n) xs so_far = joined operation n (others xs) (on_both operation so_far (first xs))
 
 -- joined to a number
-abbrev pub joined_from : ℤ → Operation → ℕ → List (Result Polynomial Failure) → Result Polynomial Failure
+abbrev pub joined_from : ℤ → Operation → ℕ → List (Result Polynomial Stop) → Result Polynomial Stop
 joined_from start operation n xs = joined operation n xs (limited (number start))
 
-abbrev pub sum_first : ℕ → List (Result Polynomial Failure) → Result Polynomial Failure
+abbrev pub sum_first : ℕ → List (Result Polynomial Stop) → Result Polynomial Stop
 sum_first n xs = joined_from (pos 0) operations.Sum n xs
 
-abbrev pub product_first : ℕ → List (Result Polynomial Failure) → Result Polynomial Failure
+abbrev pub product_first : ℕ → List (Result Polynomial Stop) → Result Polynomial Stop
 product_first n xs = joined_from (pos 1) operations.Product n xs
 
-abbrev pub sum_step : ℕ → List (Result Polynomial Failure) → List (Result Polynomial Failure)
+abbrev pub sum_step : ℕ → List (Result Polynomial Stop) → List (Result Polynomial Stop)
 sum_step n xs = sum_first n xs ∷ drop n xs
 
-abbrev pub product_step : ℕ → List (Result Polynomial Failure) → List (Result Polynomial Failure)
+abbrev pub product_step : ℕ → List (Result Polynomial Stop) → List (Result Polynomial Stop)
 product_step n xs = product_first n xs ∷ drop n xs
 
-abbrev pub head_step : Head → List (Result Polynomial Failure) → List (Result Polynomial Failure)
+abbrev pub head_step : Head → List (Result Polynomial Stop) → List (Result Polynomial Stop)
 head_step head xs = on_one head (first xs) ∷ others xs
 
-abbrev pub step_term : TermNode → List (Result Polynomial Failure) → List (Result Polynomial Failure)
+abbrev pub step_term : TermNode → List (Result Polynomial Stop) → List (Result Polynomial Stop)
 step_term (Number k) xs = limited (number k) ∷ xs
 step_term (Variable x) xs = Ok (single (variable x)) ∷ xs
 step_term (Add n) xs = sum_step n xs
@@ -108,15 +108,15 @@ step_term WrapUnsigned xs = head_step heads.Wrapu xs
 step_term WrapSigned xs = head_step heads.Wraps xs
 step_term Bits xs = head_step heads.Bits xs
 
-abbrev pub term_steps : List TermNode → List (Result Polynomial Failure) → List (Result Polynomial Failure)
+abbrev pub term_steps : List TermNode → List (Result Polynomial Stop) → List (Result Polynomial Stop)
 term_steps [] xs = xs
 term_steps (node ∷ nodes) xs = step_term node (term_steps nodes xs)
 
 -- ---- assertions
 
 pub record Stacks : Type 0 where
-  pub terms : List (Result Polynomial Failure)
-  pub assertions : List (Result Polynomial Failure)
+  pub terms : List (Result Polynomial Stop)
+  pub assertions : List (Result Polynomial Stop)
 
 abbrev pub no_attempts : Stacks
 no_attempts = record { terms = []; assertions = [] }

@@ -9,12 +9,12 @@ use Rattle.qs_assert.specs.declared.define.Define.{Define}
 use Rattle.qs_assert.specs.Trees.{CondTree, AssertionTree}
 use Rattle.qs_entail.specs.declared.certificate.Certificate.{Certificate}
 use Rattle.qs_entail.specs.declared.known.Known.{Known}
-use Rattle.qs_entail.specs.Building.{Failure, breaks}
+use Rattle.qs_entail.specs.Building.{Stop, breaks}
 use Rattle.qs_entail.specs.Verdicts.{Outline, outlined, stands}
 use Rattle.qs_entail.specs.View.{cert_tree, known_view}
 
 -- the count of parts, where there are any
-abbrev pub counted : Option ℕ → Result ℕ Failure
+abbrev pub counted : Option ℕ → Result ℕ Stop
 counted (Some n) = Ok n
 counted None = Err breaks
 

@@ -10,10 +10,10 @@ use Rattle.qs_assert.specs.Sameness.{same_assertion}
 use Rattle.qs_assert.specs.Trees.{CondTree, le, lt, eq, ne, not, and, or, CondTrees, no_conds, cond_and, AssertionTree, natural, infinity, AssertionTrees, no_assertions, assertion_and}
 use Rattle.qs_entail.specs.Certificates.{Item, once, twice, FactTree, range, cost_range, apart, num_is, num_bounds, wrapu_is, wraps_is, wrapu_bounds, wraps_bounds, quotient_bounds, bits_bound, bits_half, bits_rise, CertTree, same, via, pick, all, parts, assume, drop, split, contradict, arithmetic, by_definition, fact, CertTrees, no_certs, cert_and}
 use Rattle.qs_base.specs.Results.{bind}
-use Rattle.qs_entail.specs.Building.{Failure, is_plain}
+use Rattle.qs_entail.specs.Building.{Stop, is_plain}
 use Rattle.qs_entail.specs.Pushing.{Known, with_polynomials, at_first, push, push_list}
 use Rattle.qs_entail.specs.Facts.{condition, different_sides, added}
-use Rattle.qs_entail.specs.Faults.{Fault, step, node, part, members_of, member_of, member_count, summands_of, summand_count, guarded_of, definition, branch, unfolded, contradiction, arithmetic_holds, count_certs}
+use Rattle.qs_entail.specs.Faults.{CertFault, step, node, part, members_of, member_of, member_count, summands_of, summand_count, guarded_of, definition, branch, unfolded, contradiction, arithmetic_holds, count_certs}
 
 -- ---- the conditions and the count of polynomials that hypotheses push
 
@@ -57,7 +57,7 @@ outline_list (c ∷ cs) o = outline_list cs (outline c o)
 
 -- ---- the conditions without polynomials of a node
 
-abbrev pub is_given : {A : Type 0} → Result A Failure → Bool
+abbrev pub is_given : {A : Type 0} → Result A Stop → Bool
 is_given (Ok a) = true
 is_given (Err failure) = false
 
@@ -85,7 +85,7 @@ fact_stands (bits_bound t) o = true
 fact_stands (bits_half t w) o = are_counted w o.count
 fact_stands (bits_rise t u w) o = are_counted w o.count
 
-abbrev pub has_count : ℕ → Result ℕ Failure → Bool
+abbrev pub has_count : ℕ → Result ℕ Stop → Bool
 has_count n (Ok m) = n == m
 has_count n (Err failure) = false
 
@@ -124,12 +124,12 @@ abbrev pub outlined : Known → Outline
 outlined k = record { conditions = k.conditions; count = length k.polynomials }
 
 -- a node: its conditions without polynomials, and then the rest
-abbrev pub begun : CertTree → List Define → Outline → AssertionTree → AssertionTree → Option Fault → Option Fault
+abbrev pub begun : CertTree → List Define → Outline → AssertionTree → AssertionTree → Option CertFault → Option CertFault
 begun c ds o p q rest = if stands c ds o p q then rest else Some (step [] (rule_of c))
 
 abbrev mutual
   -- the first fault of the polynomials and the parts of a node whose other conditions hold
-  pub rest : CertTree → List Define → Known → AssertionTree → AssertionTree → Option Fault
+  pub rest : CertTree → List Define → Known → AssertionTree → AssertionTree → Option CertFault
   rest same ds k p q = None
   rest (via r c d) ds k p q =
       option_or (part 0 (begun c ds (outlined k) p r (rest c ds k p r))) (part 1 (begun d ds (outlined k) r q (rest d ds k r q)))
@@ -153,13 +153,13 @@ abbrev mutual
   rest (fact f c) ds k p q =
       node rules.Fact (added f k) (λ ps. part 0 (begun c ds (outlined (with_polynomials ps k)) p q (rest c ds (with_polynomials ps k) p q)))
 
-  pub faults_all : CertTrees → ℕ → List Define → Known → AssertionTree → AssertionTrees → Option Fault
+  pub faults_all : CertTrees → ℕ → List Define → Known → AssertionTree → AssertionTrees → Option CertFault
   faults_all no_certs i ds k p members = None
   faults_all (cert_and c cs) i ds k p no_assertions = None
   faults_all (cert_and c cs) i ds k p (assertion_and q others) =
       option_or (part i (begun c ds (outlined k) p q (rest c ds k p q))) (faults_all cs (suc i) ds k p others)
 
-  pub faults_parts : CertTrees → ℕ → List Define → Known → AssertionTrees → AssertionTrees → Option Fault
+  pub faults_parts : CertTrees → ℕ → List Define → Known → AssertionTrees → AssertionTrees → Option CertFault
   faults_parts no_certs i ds k left right = None
   faults_parts (cert_and c cs) i ds k no_assertions right = None
   faults_parts (cert_and c cs) i ds k (assertion_and p ps) no_assertions = None
@@ -167,7 +167,7 @@ abbrev mutual
       option_or (part i (begun c ds (outlined k) p q (rest c ds k p q))) (faults_parts cs (suc i) ds k ps qs)
 
 -- the first fault of a certificate that P is at least Q, under what is known
-abbrev pub fault : CertTree → List Define → Known → AssertionTree → AssertionTree → Option Fault
+abbrev pub fault : CertTree → List Define → Known → AssertionTree → AssertionTree → Option CertFault
 fault c ds k p q = begun c ds (outlined k) p q (rest c ds k p q)
 
 -- ---- the verdict
@@ -181,11 +181,11 @@ abbrev pub root_stands : List CondTree → List Define → AssertionTree → Ass
 root_stands hypotheses ds p q c = stands c ds (outline_list hypotheses outlined_first) p q
 
 -- the first fault of a root whose other conditions hold, and of its parts
-abbrev pub rest_under : List CondTree → List Define → AssertionTree → AssertionTree → CertTree → Option Fault
+abbrev pub rest_under : List CondTree → List Define → AssertionTree → AssertionTree → CertTree → Option CertFault
 rest_under hypotheses ds p q c = node (rule_of c) (push_list hypotheses at_first) (λ k. rest c ds k p q)
 
 -- The first fault, or none where the certificate shows under the hypotheses that P is at least Q. The root is
 -- a node that pushes the hypotheses.
-abbrev pub verdict : List CondTree → List Define → AssertionTree → AssertionTree → CertTree → Option Fault
+abbrev pub verdict : List CondTree → List Define → AssertionTree → AssertionTree → CertTree → Option CertFault
 verdict hypotheses ds p q c =
     begun c ds (outline_list hypotheses outlined_first) p q (rest_under hypotheses ds p q c)

@@ -12,9 +12,9 @@ use Rattle.qs_entail.specs.Answers.{fault_of}
 use Rattle.qs_assert.specs.Trees.{AssertionTree}
 use Rattle.qs_assert.specs.declared.define.Define.{Define}
 use Rattle.qs_base.specs.Results.{bind}
-use Rattle.qs_entail.specs.Building.{Failure}
+use Rattle.qs_entail.specs.Building as building
 use Rattle.qs_entail.specs.Extending.{known_first}
-use Rattle.qs_entail.specs.Faults.{Fault, step, limit, definition, unfolded}
+use Rattle.qs_entail.specs.Faults.{CertFault, step, limit, definition, unfolded}
 use Rattle.qs_entail.specs.Pushing.{Known}
 use Rattle.qs_entail.specs.View.{known_view}
 
@@ -53,7 +53,7 @@ settled rule (Err stop) = Err (failure_of rule stop)
 
 -- The answer is the verdict: without a fault the walk is again where it was, else its path goes on to the
 -- fault's place. Want of memory says nothing.
-abbrev pub Says : Place → Place → Result (Unit {0}) Failed → Option Fault → Type 0
+abbrev pub Says : Place → Place → Result (Unit {0}) Failed → Option CertFault → Type 0
 Says old new (Ok u) None = new ≡ old
 Says old new (Ok u) (Some f) = ⊥
 Says old new (Err failures.NoMemory) verdict = Unit {0}
@@ -76,7 +76,7 @@ abbrev pub unfolded_both : List ℕ → AssertionTree → AssertionTree → Asse
 unfolded_both n body p q = record { left = unfolded n body p; right = unfolded n body q }
 
 -- the two, each name n replaced by the body of its first definition
-abbrev pub both_unfolded : List Define → List ℕ → AssertionTree → AssertionTree → Result Pair Failure
+abbrev pub both_unfolded : List Define → List ℕ → AssertionTree → AssertionTree → Result Pair building.Stop
 both_unfolded ds n p q = bind (definition ds n) (λ body. Ok (unfolded_both n body p q))
 
 -- the part with the first branches, and the one with the second

@@ -16,10 +16,10 @@ use crate::known::Known;
 use crate::parts::{Sides, different_sides};
 use crate::stop::Stop;
 use crate::sums::{
-    bits_of, div_of, greatest, least, less, less_negated, negation, num_of, one, small, sum, two,
-    wraps_of, wrapu_of,
+    INTS_BELOW_ZERO, bits_of, div_of, greatest, least, less, less_negated, negation, num_of, one,
+    small, sum, two, wraps_of, wrapu_of,
 };
-use qs_assert::{Cond, Term, Var};
+use qs_assert::{Cond, NumberType, Term, Var};
 use qs_base::FnId;
 use qs_poly::{Atom, Poly};
 use std::alloc::Global;
@@ -136,7 +136,7 @@ fn wrapu_is(
     ensures { Adds (wrapu_is t.now (items_view v.now) (items_view w.now)) known.now result }
 {
     let p = term_polynomial(alloc, t)?;
-    let last = small(alloc, 4_294_967_295)?;
+    let last = small(alloc, greatest(NumberType::Unsigned))?;
     let room = difference(alloc, &last, &p)?;
     let totals = two_combinations(alloc, v, w, &known.polynomials)?;
     let wrapped = wrapu_of(alloc, &p)?;
@@ -158,9 +158,9 @@ fn wraps_is(
     ensures { Adds (wraps_is t.now (items_view v.now) (items_view w.now)) known.now result }
 {
     let p = term_polynomial(alloc, t)?;
-    let offset = small(alloc, 2_147_483_648)?;
+    let offset = small(alloc, INTS_BELOW_ZERO)?;
     let above = sum(alloc, &p, &offset)?;
-    let last = small(alloc, 2_147_483_647)?;
+    let last = small(alloc, greatest(NumberType::Int))?;
     let room = difference(alloc, &last, &p)?;
     let totals = two_combinations(alloc, v, w, &known.polynomials)?;
     let wrapped = wraps_of(alloc, &p)?;
@@ -177,7 +177,7 @@ fn wrapu_bounds(alloc: Global, t: &Term) -> Result<Vec<Poly>, Stop>
 {
     let p = term_polynomial(alloc, t)?;
     let wrapped = wrapu_of(alloc, &p)?;
-    let last = small(alloc, 4_294_967_295)?;
+    let last = small(alloc, greatest(NumberType::Unsigned))?;
     let room = difference(alloc, &last, &wrapped)?;
     two(alloc, wrapped, room)
 }
@@ -187,9 +187,9 @@ fn wraps_bounds(alloc: Global, t: &Term) -> Result<Vec<Poly>, Stop>
 {
     let p = term_polynomial(alloc, t)?;
     let wrapped = wraps_of(alloc, &p)?;
-    let offset = small(alloc, 2_147_483_648)?;
+    let offset = small(alloc, INTS_BELOW_ZERO)?;
     let above = sum(alloc, &wrapped, &offset)?;
-    let last = small(alloc, 2_147_483_647)?;
+    let last = small(alloc, greatest(NumberType::Int))?;
     let room = difference(alloc, &last, &wrapped)?;
     two(alloc, above, room)
 }

@@ -13,13 +13,16 @@ use qs_assert::NumberType;
 use qs_poly::{Atom, Poly};
 use std::alloc::Global;
 
+/// How many numbers of type int are below 0 (C11 6.2.5).
+pub const INTS_BELOW_ZERO: i64 = 2_147_483_648;
+
 /// The least number of a type (C11 6.2.5).
 pub fn least(number: NumberType) -> i64
     ensures value { result ≡ facts.least number }
     ensures small { unsigned_abs result ≤ 2 ^ 56 }
 {
     match number {
-        NumberType::Int => -2_147_483_648,
+        NumberType::Int => -INTS_BELOW_ZERO,
         NumberType::Unsigned => 0,
         NumberType::Char => 0,
     }
@@ -31,7 +34,7 @@ pub fn greatest(number: NumberType) -> i64
     ensures small { unsigned_abs result ≤ 2 ^ 56 }
 {
     match number {
-        NumberType::Int => 2_147_483_647,
+        NumberType::Int => INTS_BELOW_ZERO - 1,
         NumberType::Unsigned => 4_294_967_295,
         NumberType::Char => 255,
     }

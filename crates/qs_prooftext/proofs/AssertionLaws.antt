@@ -4,6 +4,7 @@ use Rattle.std.proofs.lemmas.List.{append-nil, reverse-append, length-replicate,
 use Rattle.std.specs.Option.{option_to_list}
 use Rattle.std.specs.Borrow.{Bor}
 use Rattle.std.specs.Result.{IsErr, IsErrAnd}
+use Rattle.std.proofs.lemmas.Bool.{eqb-true}
 use Rattle.qs_base.specs.Results.{bind}
 use Rattle.qs_memory.specs.Partial.{◌>>=◌}
 use Rattle.qs_assert.specs.Listing.{inner_term, assertion_nodes}
@@ -68,14 +69,11 @@ headed_kind Name n = refl
 pub no_head_flat : (g : Setting) (k : Sort) (at : ℕ) (ss : Sexps) → HasNoHead ss → flat g k (list at ss) ≡ Err (UnknownForm at)
 no_head_flat g k at ss n = ap (λ (a : Answer (Of (kind_of k))). bind a (λ v. Ok (nodes_of k v))) (no_head g (kind_of k) at ss (headed_kind k (count ss)) n)
 
-is_eq : (n m : ℕ) → (n == m) ≡ true → n ≡ m
-is_eq n m h = grind (arith, h)
-
 sorts_count : (parts : Parts) (n : ℕ) → fit parts n ≡ true → length (sorts parts n) ≡ n
-sorts_count Zero n h = sym (is_eq n 0 h)
-sorts_count (One a) n h = sym (is_eq n 1 h)
-sorts_count (Two a b) n h = sym (is_eq n 2 h)
-sorts_count (Three a b c) n h = sym (is_eq n 3 h)
+sorts_count Zero n h = sym (eqb-true n 0 h)
+sorts_count (One a) n h = sym (eqb-true n 1 h)
+sorts_count (Two a b) n h = sym (eqb-true n 2 h)
+sorts_count (Three a b c) n h = sym (eqb-true n 3 h)
 sorts_count (Many a) n h = length-replicate n a
 
 if_fitting : (row : Row) (row2 : Row) (n : ℕ) (b : Bool) → fit row.parts n ≡ b → (if b then Some row else None) ≡ Some row2 → fit row2.parts n ≡ true

@@ -1,5 +1,6 @@
 -- Certificates are read by their heads.
 use Rattle.std.proofs.Common.{arith, ◌≡◌, ◌≤◌, ◌⊎◌, inl, inr, ℕ, ◌+◌, ◌==◌, Bool, true, false, List, ◌++◌, length, if◌then◌else◌, Option, Some, None, Ok, Err, refl, sym, ap, ◌∙◌}
+use Rattle.std.proofs.lemmas.Bool.{eqb-true, eq-eqb}
 use Rattle.qs_base.specs.Results.{bind}
 use Rattle.qs_entail.specs.Certificates as certificates
 use Rattle.qs_entail.specs.Certificates.{CertTree, FactTree}
@@ -22,7 +23,7 @@ use Rattle.qs_prooftext.specs.Meanings.{Answer, means, takes}
 use Rattle.qs_prooftext.specs.RuleWords.{rule_words, fact_words, rule_takes, rule_leaves, fact_leaves}
 use Rattle.qs_prooftext.specs.Settings.{Setting, look_up}
 use Rattle.qs_prooftext.proofs.HeadLaws.{firsts_same, own_all, own_one, own_two}
-use Rattle.qs_prooftext.proofs.ShapeLaws.{is_eq, is_so_many, is_not_so_many, taken_by, made_arity, head_arity, leaves_and, no_leaves, by_row, by_head, none_row, one_row, two_row, any_row, leaf_row, leaf_one_row, leaf_two_row, leaves_one_row, three_one_row, then_one, then_two, then_three}
+use Rattle.qs_prooftext.proofs.ShapeLaws.{is_not_so_many, taken_by, made_arity, head_arity, leaves_and, no_leaves, by_row, by_head, none_row, one_row, two_row, any_row, leaf_row, leaf_one_row, leaf_two_row, leaves_one_row, three_one_row, then_one, then_two, then_three}
 
 -- ---- the heads are found alike
 
@@ -52,19 +53,19 @@ rules_found w =
 
 -- a list with as many parts as its rule takes is what its head and the certificates behind make
 rule_reads : (g : Setting) (rule : Rule) (ss : Sexps) → rule_takes rule (count ss) ≡ true → by_row g (rule_row rule) ss ≡ by_head a_certificate planted g (head_means g rule (count ss) ss) (rule_leaves rule) ss
-rule_reads g rules.Same ss h = none_row a_certificate planted g ss certificates.same heads.same (is_eq (count ss) 0 h) refl
-rule_reads g rules.Via ss h = leaf_two_row a_certificate an_assertion planted g ss certificates.via heads.via (is_eq (count ss) 3 h) (λ v c d. refl)
-rule_reads g rules.Pick ss h = leaf_one_row a_certificate an_index planted g ss certificates.pick heads.pick (is_eq (count ss) 2 h) (λ v c. refl)
+rule_reads g rules.Same ss h = none_row a_certificate planted g ss certificates.same heads.same (eqb-true (count ss) 0 h) refl
+rule_reads g rules.Via ss h = leaf_two_row a_certificate an_assertion planted g ss certificates.via heads.via (eqb-true (count ss) 3 h) (λ v c d. refl)
+rule_reads g rules.Pick ss h = leaf_one_row a_certificate an_index planted g ss certificates.pick heads.pick (eqb-true (count ss) 2 h) (λ v c. refl)
 rule_reads g rules.All ss h =
     any_row a_certificate planted g ss (λ cs. certificates.all (certs_of cs)) (heads.all (count ss)) (λ vs e. ap (λ (ds : List CertTree). certificates.all (certs_of ds)) (sym (firsts_same certificates.same (count ss) vs e)))
 rule_reads g rules.Parts ss h =
     any_row a_certificate planted g ss (λ cs. certificates.parts (certs_of cs)) (heads.parts (count ss)) (λ vs e. ap (λ (ds : List CertTree). certificates.parts (certs_of ds)) (sym (firsts_same certificates.same (count ss) vs e)))
-rule_reads g rules.Assume ss h = one_row a_certificate planted g ss certificates.assume heads.assume (is_eq (count ss) 1 h) (λ v. refl)
-rule_reads g rules.Drop ss h = two_row a_certificate planted g ss certificates.drop heads.drop (is_eq (count ss) 2 h) (λ u v. refl)
-rule_reads g rules.Split ss h = leaf_two_row a_certificate a_condition planted g ss certificates.split heads.split (is_eq (count ss) 3 h) (λ v c d. refl)
-rule_reads g rules.Contradict ss h = leaf_row a_certificate a_combination planted g ss certificates.contradict heads.contradict (is_eq (count ss) 1 h) (λ v. refl)
-rule_reads g rules.Arithmetic ss h = leaf_row a_certificate a_combination planted g ss certificates.arithmetic heads.arithmetic (is_eq (count ss) 1 h) (λ v. refl)
-rule_reads g rules.ByDefinition ss h = leaf_one_row a_certificate a_name planted g ss certificates.by_definition heads.by_definition (is_eq (count ss) 2 h) (λ v c. refl)
+rule_reads g rules.Assume ss h = one_row a_certificate planted g ss certificates.assume heads.assume (eqb-true (count ss) 1 h) (λ v. refl)
+rule_reads g rules.Drop ss h = two_row a_certificate planted g ss certificates.drop heads.drop (eqb-true (count ss) 2 h) (λ u v. refl)
+rule_reads g rules.Split ss h = leaf_two_row a_certificate a_condition planted g ss certificates.split heads.split (eqb-true (count ss) 3 h) (λ v c d. refl)
+rule_reads g rules.Contradict ss h = leaf_row a_certificate a_combination planted g ss certificates.contradict heads.contradict (eqb-true (count ss) 1 h) (λ v. refl)
+rule_reads g rules.Arithmetic ss h = leaf_row a_certificate a_combination planted g ss certificates.arithmetic heads.arithmetic (eqb-true (count ss) 1 h) (λ v. refl)
+rule_reads g rules.ByDefinition ss h = leaf_one_row a_certificate a_name planted g ss certificates.by_definition heads.by_definition (eqb-true (count ss) 2 h) (λ v c. refl)
 
 rule_takes_so : (rule : Rule) (n : ℕ) → takes (rule_row rule) n ≡ rule_takes rule n
 rule_takes_so rules.Same n = refl
@@ -151,7 +152,7 @@ few_leaves facts.BitsRise = omega arith
 fact_listed : (g : Setting) (at n leaves : ℕ) (word : FactWord) (ss : Sexps) → n ≡ count ss → leaves ≡ fact_leaves word → n ≡ leaves + 1 → listed g at (Some (fact_row word)) ss ≡ by_head a_certificate planted g (fact_head g word ss) (fact_leaves word) ss
 fact_listed g at n leaves word ss c l h =
     let e : count ss ≡ fact_leaves word + 1 = sym c ∙ (h ∙ ap (λ (m : ℕ). m + 1) l) in
-    taken_by g at (fact_row word) ss true (fact_takes_so word (count ss) ∙ is_so_many (count ss) (fact_leaves word + 1) e) ∙ fact_reads g word ss e
+    taken_by g at (fact_row word) ss true (fact_takes_so word (count ss) ∙ eq-eqb (count ss) (fact_leaves word + 1) e) ∙ fact_reads g word ss e
 
 pub fact_fails : (g : Setting) (at n leaves : ℕ) (word : FactWord) (ss : Sexps) → n ≡ count ss → leaves ≡ fact_leaves word → (n ≡ leaves + 1 → ⊥) → listed g at (Some (fact_row word)) ss ≡ Err (UnknownForm at)
 fact_fails g at n leaves word ss c l h =
@@ -160,17 +161,17 @@ fact_fails g at n leaves word ss c l h =
 -- ---- the heads of lists
 
 rule_fits : (g : Setting) (rule : Rule) (n : ℕ) (ss : Sexps) (h : HeadTree) → rule_takes rule n ≡ true → head_means g rule n ss ≡ Ok h → rule_leaves rule + arity h ≡ n
-rule_fits g rules.Same n ss h t e = no_leaves n (arity h) (head_arity arity heads.same h 0 refl e ∙ sym (is_eq n 0 t))
-rule_fits g rules.Via n ss h t e = leaves_and 1 n 2 (arity h) (made_arity arity (first_means g an_assertion ss) heads.via h 2 (λ a. refl) e) (is_eq n 3 t)
-rule_fits g rules.Pick n ss h t e = leaves_and 1 n 1 (arity h) (made_arity arity (first_means g an_index ss) heads.pick h 1 (λ a. refl) e) (is_eq n 2 t)
+rule_fits g rules.Same n ss h t e = no_leaves n (arity h) (head_arity arity heads.same h 0 refl e ∙ sym (eqb-true n 0 t))
+rule_fits g rules.Via n ss h t e = leaves_and 1 n 2 (arity h) (made_arity arity (first_means g an_assertion ss) heads.via h 2 (λ a. refl) e) (eqb-true n 3 t)
+rule_fits g rules.Pick n ss h t e = leaves_and 1 n 1 (arity h) (made_arity arity (first_means g an_index ss) heads.pick h 1 (λ a. refl) e) (eqb-true n 2 t)
 rule_fits g rules.All n ss h t e = no_leaves n (arity h) (head_arity arity (heads.all n) h n refl e)
 rule_fits g rules.Parts n ss h t e = no_leaves n (arity h) (head_arity arity (heads.parts n) h n refl e)
-rule_fits g rules.Assume n ss h t e = no_leaves n (arity h) (head_arity arity heads.assume h 1 refl e ∙ sym (is_eq n 1 t))
-rule_fits g rules.Drop n ss h t e = no_leaves n (arity h) (head_arity arity heads.drop h 2 refl e ∙ sym (is_eq n 2 t))
-rule_fits g rules.Split n ss h t e = leaves_and 1 n 2 (arity h) (made_arity arity (first_means g a_condition ss) heads.split h 2 (λ a. refl) e) (is_eq n 3 t)
-rule_fits g rules.Contradict n ss h t e = leaves_and 1 n 0 (arity h) (made_arity arity (first_means g a_combination ss) heads.contradict h 0 (λ a. refl) e) (is_eq n 1 t)
-rule_fits g rules.Arithmetic n ss h t e = leaves_and 1 n 0 (arity h) (made_arity arity (first_means g a_combination ss) heads.arithmetic h 0 (λ a. refl) e) (is_eq n 1 t)
-rule_fits g rules.ByDefinition n ss h t e = leaves_and 1 n 1 (arity h) (made_arity arity (first_means g a_name ss) heads.by_definition h 1 (λ a. refl) e) (is_eq n 2 t)
+rule_fits g rules.Assume n ss h t e = no_leaves n (arity h) (head_arity arity heads.assume h 1 refl e ∙ sym (eqb-true n 1 t))
+rule_fits g rules.Drop n ss h t e = no_leaves n (arity h) (head_arity arity heads.drop h 2 refl e ∙ sym (eqb-true n 2 t))
+rule_fits g rules.Split n ss h t e = leaves_and 1 n 2 (arity h) (made_arity arity (first_means g a_condition ss) heads.split h 2 (λ a. refl) e) (eqb-true n 3 t)
+rule_fits g rules.Contradict n ss h t e = leaves_and 1 n 0 (arity h) (made_arity arity (first_means g a_combination ss) heads.contradict h 0 (λ a. refl) e) (eqb-true n 1 t)
+rule_fits g rules.Arithmetic n ss h t e = leaves_and 1 n 0 (arity h) (made_arity arity (first_means g a_combination ss) heads.arithmetic h 0 (λ a. refl) e) (eqb-true n 1 t)
+rule_fits g rules.ByDefinition n ss h t e = leaves_and 1 n 1 (arity h) (made_arity arity (first_means g a_name ss) heads.by_definition h 1 (λ a. refl) e) (eqb-true n 2 t)
 
 -- a list with a rule, whose head was read
 pub rule_has : (g : Setting) (at n leaves : ℕ) (rule : Rule) (ss : Sexps) (h : HeadTree) → n ≡ count ss → leaves ≡ rule_leaves rule → rule_takes rule n ≡ true → head_means g rule n ss ≡ Ok h → HasHead a_certificate cert_shape g (listed g at (Some (rule_row rule)) ss) ss h leaves

@@ -1,5 +1,6 @@
 -- Derivations are read by their heads.
 use Rattle.std.proofs.Common.{◌≡◌, ◌⊎◌, inl, inr, ℕ, ◌+◌, Bool, true, false, List, ◌++◌, length, if◌then◌else◌, Option, Some, None, Ok, Err, refl, sym, ap, ◌∙◌}
+use Rattle.std.proofs.lemmas.Bool.{eqb-true}
 use Rattle.qs_base.specs.Results.{bind}
 use Rattle.qs_assert.specs.Trees.{AssertionTree}
 use Rattle.qs_entail.specs.Certificates.{CertTree}
@@ -21,7 +22,7 @@ use Rattle.qs_prooftext.specs.Meanings.{Answer, means, takes}
 use Rattle.qs_prooftext.specs.Settings.{Setting, look_up}
 use Rattle.qs_prooftext.specs.StatementWords.{statement_words, statement_takes, statement_leaves}
 use Rattle.qs_prooftext.proofs.HeadLaws.{firsts_same, own_all, own_one, own_two}
-use Rattle.qs_prooftext.proofs.ShapeLaws.{is_eq, taken_by, made_arity, head_arity, leaves_and, no_leaves, by_row, by_head, none_row, two_row, any_row, leaves_row, leaves_one_row, leaves_two_row, pair_means, then_two}
+use Rattle.qs_prooftext.proofs.ShapeLaws.{taken_by, made_arity, head_arity, leaves_and, no_leaves, by_row, by_head, none_row, two_row, any_row, leaves_row, leaves_one_row, leaves_two_row, pair_means, then_two}
 
 -- ---- the heads are found alike
 
@@ -47,19 +48,19 @@ reason_head g ss head = then_two (first_means g an_assertion ss) (first_means g 
 
 -- a list with as many parts as its statement takes is what its head and the derivations behind make
 statement_reads : (g : Setting) (t : Statement) (ss : Sexps) → statement_takes t (count ss) ≡ true → by_row g (statement_row t) ss ≡ by_head a_derivation planted g (statement_means g t (count ss) ss) (statement_leaves t) ss
-statement_reads g statements.Leaf ss h = none_row a_derivation planted g ss derivations.leaf heads.leaf (is_eq (count ss) 0 h) refl
+statement_reads g statements.Leaf ss h = none_row a_derivation planted g ss derivations.leaf heads.leaf (eqb-true (count ss) 0 h) refl
 statement_reads g statements.Sequence ss h =
     any_row a_derivation planted g ss (λ ds. derivations.sequence (derivations_of ds)) (heads.sequence (count ss)) (λ vs e. ap (λ (ds : List DerivationTree). derivations.sequence (derivations_of ds)) (sym (firsts_same derivations.leaf (count ss) vs e)))
 statement_reads g statements.Conditional ss h =
-    two_row a_derivation planted g ss derivations.conditional heads.conditional (is_eq (count ss) 2 h) (λ u v. refl)
+    two_row a_derivation planted g ss derivations.conditional heads.conditional (eqb-true (count ss) 2 h) (λ u v. refl)
 statement_reads g statements.Loop ss h =
-    leaves_two_row a_derivation an_assertion a_certificate planted g ss derivations.loop (λ a c. heads.loop (a, c)) (is_eq (count ss) 4 h) (λ a c d e. refl) ∙ ap (λ (x : Answer HeadTree). by_head a_derivation planted g x 2 ss) (sym (reason_head g ss heads.loop))
+    leaves_two_row a_derivation an_assertion a_certificate planted g ss derivations.loop (λ a c. heads.loop (a, c)) (eqb-true (count ss) 4 h) (λ a c d e. refl) ∙ ap (λ (x : Answer HeadTree). by_head a_derivation planted g x 2 ss) (sym (reason_head g ss heads.loop))
 statement_reads g statements.Call ss h =
-    leaves_row a_derivation an_assertion a_certificate planted g ss derivations.call (λ a c. heads.call (a, c)) (is_eq (count ss) 2 h) (λ a c. refl) ∙ ap (λ (x : Answer HeadTree). by_head a_derivation planted g x 2 ss) (sym (reason_head g ss heads.call))
+    leaves_row a_derivation an_assertion a_certificate planted g ss derivations.call (λ a c. heads.call (a, c)) (eqb-true (count ss) 2 h) (λ a c. refl) ∙ ap (λ (x : Answer HeadTree). by_head a_derivation planted g x 2 ss) (sym (reason_head g ss heads.call))
 statement_reads g statements.BalancedCall ss h =
-    none_row a_derivation planted g ss derivations.balanced_call heads.balanced_call (is_eq (count ss) 0 h) refl
+    none_row a_derivation planted g ss derivations.balanced_call heads.balanced_call (eqb-true (count ss) 0 h) refl
 statement_reads g statements.Consequence ss h =
-    leaves_one_row a_derivation an_assertion a_certificate planted g ss derivations.consequence (λ a c. heads.consequence (a, c)) (is_eq (count ss) 3 h) (λ a c d. refl) ∙ ap (λ (x : Answer HeadTree). by_head a_derivation planted g x 2 ss) (sym (reason_head g ss heads.consequence))
+    leaves_one_row a_derivation an_assertion a_certificate planted g ss derivations.consequence (λ a c. heads.consequence (a, c)) (eqb-true (count ss) 3 h) (λ a c d. refl) ∙ ap (λ (x : Answer HeadTree). by_head a_derivation planted g x 2 ss) (sym (reason_head g ss heads.consequence))
 
 statement_takes_so : (t : Statement) (n : ℕ) → takes (statement_row t) n ≡ statement_takes t n
 statement_takes_so statements.Leaf n = refl
@@ -76,13 +77,13 @@ statement_listed g at n t ss c h =
     taken_by g at (statement_row t) ss true (statement_takes_so t (count ss) ∙ e) ∙ (statement_reads g t ss e ∙ (λ i. by_head a_derivation planted g (statement_means g t (sym c i) ss) (statement_leaves t) ss))
 
 statement_fits : (g : Setting) (t : Statement) (n : ℕ) (ss : Sexps) (h : HeadTree) → statement_takes t n ≡ true → statement_means g t n ss ≡ Ok h → statement_leaves t + arity h ≡ n
-statement_fits g statements.Leaf n ss h t e = no_leaves n (arity h) (head_arity arity heads.leaf h 0 refl e ∙ sym (is_eq n 0 t))
+statement_fits g statements.Leaf n ss h t e = no_leaves n (arity h) (head_arity arity heads.leaf h 0 refl e ∙ sym (eqb-true n 0 t))
 statement_fits g statements.Sequence n ss h t e = no_leaves n (arity h) (head_arity arity (heads.sequence n) h n refl e)
-statement_fits g statements.Conditional n ss h t e = no_leaves n (arity h) (head_arity arity heads.conditional h 2 refl e ∙ sym (is_eq n 2 t))
-statement_fits g statements.Loop n ss h t e = leaves_and 2 n 2 (arity h) (made_arity arity (reason_means g ss) heads.loop h 2 (λ r. refl) e) (is_eq n 4 t)
-statement_fits g statements.Call n ss h t e = leaves_and 2 n 0 (arity h) (made_arity arity (reason_means g ss) heads.call h 0 (λ r. refl) e) (is_eq n 2 t)
-statement_fits g statements.BalancedCall n ss h t e = no_leaves n (arity h) (head_arity arity heads.balanced_call h 0 refl e ∙ sym (is_eq n 0 t))
-statement_fits g statements.Consequence n ss h t e = leaves_and 2 n 1 (arity h) (made_arity arity (reason_means g ss) heads.consequence h 1 (λ r. refl) e) (is_eq n 3 t)
+statement_fits g statements.Conditional n ss h t e = no_leaves n (arity h) (head_arity arity heads.conditional h 2 refl e ∙ sym (eqb-true n 2 t))
+statement_fits g statements.Loop n ss h t e = leaves_and 2 n 2 (arity h) (made_arity arity (reason_means g ss) heads.loop h 2 (λ r. refl) e) (eqb-true n 4 t)
+statement_fits g statements.Call n ss h t e = leaves_and 2 n 0 (arity h) (made_arity arity (reason_means g ss) heads.call h 0 (λ r. refl) e) (eqb-true n 2 t)
+statement_fits g statements.BalancedCall n ss h t e = no_leaves n (arity h) (head_arity arity heads.balanced_call h 0 refl e ∙ sym (eqb-true n 0 t))
+statement_fits g statements.Consequence n ss h t e = leaves_and 2 n 1 (arity h) (made_arity arity (reason_means g ss) heads.consequence h 1 (λ r. refl) e) (eqb-true n 3 t)
 
 pub statement_fails : (g : Setting) (at n : ℕ) (t : Statement) (ss : Sexps) → n ≡ count ss → statement_takes t n ≡ false → listed g at (Some (statement_row t)) ss ≡ Err (UnknownForm at)
 statement_fails g at n t ss c h =

@@ -5,6 +5,7 @@ use Rattle.std.specs.List.{slice_get, list_any, list_all, find}
 use Rattle.std.proofs.Math.Path.{fun_ext}
 use Rattle.std.proofs.lemmas.List.{append-nil}
 use Rattle.std.proofs.lemmas.Slice.Eq.{bytes_eq-Decides}
+use Rattle.std.proofs.lemmas.Bool.{or_parts, not-true}
 use Rattle.qs_base.specs.Names.{is_name}
 use Rattle.qs_base.specs.Results.{bind}
 use Rattle.qs_assert.specs.declared.define.Define.{Define}
@@ -28,7 +29,7 @@ use Rattle.qs_prooftext.specs.Settings.{functions_of, in_definition, in_entry, l
 use Rattle.qs_prooftext.specs.Writable.{IsWritable, definition_stands, entry_stands, entry_stands_in, parts_stand}
 use Rattle.qs_prooftext.specs.Writing.{Words, HasOwnWords, assertion_form, certificate_form, derivation_form, define_form, entry_form, file_forms, forms_of, headed, words_in, words_of_entry}
 use Rattle.qs_prooftext.proofs.Placed.{place, parts_in, first_in, others_in, placed, all_placed, all_placed_back}
-use Rattle.qs_prooftext.proofs.WordLaws.{definition_agrees, entry_agrees, looked_up_at, names_at, not_false, some_is, text_self, texts_differ}
+use Rattle.qs_prooftext.proofs.WordLaws.{definition_agrees, entry_agrees, looked_up_at, names_at, some_is, text_self, texts_differ}
 use Rattle.qs_prooftext.proofs.WrittenMeans.{left, right, one_part, four_parts, assertion_back, definition_back}
 use Rattle.qs_prooftext.proofs.WrittenDerivations.{certificate_back, derivation_back}
 
@@ -50,22 +51,18 @@ earlier_differ : (xs : List (List ℕ)) (x : List ℕ) (ys : List (List ℕ)) �
 earlier_differ [] x ys d = refl
 earlier_differ (y ∷ xs) x ys d =
     let two = both (list_all (λ z. not (bytes_eq y z)) (xs ++ x ∷ ys)) (differ bytes_eq (xs ++ x ∷ ys)) d in
-    λ i. text_swap y x (not_false (bytes_eq y x) (in_all (λ z. not (bytes_eq y z)) xs x ys two.0)) i || earlier_differ xs x ys two.1 i
+    λ i. text_swap y x (not-true (bytes_eq y x) (in_all (λ z. not (bytes_eq y z)) xs x ys two.0)) i || earlier_differ xs x ys two.1 i
 
 no_entry : (done : List EntryTree) (e : EntryTree) (todo : List EntryTree) → differ ◌==◌ (map (λ (x : EntryTree). x.function) (done ++ e ∷ todo)) ≡ true → is_some (find (is_entry_of e.function) done) ≡ false
 no_entry [] e todo d = refl
 no_entry (x ∷ done) e todo d =
     let two = both (list_all (λ z. not (x.function == z)) (map (λ (y : EntryTree). y.function) (done ++ e ∷ todo))) _ d in
-    ap (λ (b : Bool). is_some (if b then Some x else find (is_entry_of e.function) done)) (not_false (x.function == e.function) (in_functions x.function done e todo two.0))
+    ap (λ (b : Bool). is_some (if b then Some x else find (is_entry_of e.function) done)) (not-true (x.function == e.function) (in_functions x.function done e todo two.0))
     ∙ no_entry done e todo two.1
   where
     in_functions : (f : ℕ) (xs : List EntryTree) (y : EntryTree) (ys : List EntryTree) → list_all (λ z. not (f == z)) (map (λ (z : EntryTree). z.function) (xs ++ y ∷ ys)) ≡ true → not (f == y.function) ≡ true
     in_functions f [] y ys h = (both (not (f == y.function)) _ h).0
     in_functions f (z ∷ xs) y ys h = in_functions f xs y ys (both (not (f == z.function)) _ h).1
-
-none_of_two : (a b : Bool) → (a || b) ≡ false → (a ≡ false) × (b ≡ false)
-none_of_two true b h = cc
-none_of_two false b h = (refl, h)
 
 names_append : (xs ys : List Define) → map (λ (d : Define). d.name) (xs ++ ys) ≡ map (λ (d : Define). d.name) xs ++ map (λ (d : Define). d.name) ys
 names_append [] ys = refl
@@ -100,7 +97,7 @@ defines_back : (u : CoreUnitTree) (o : ℕ → Bool) (all : List Define) → dif
 defines_back u o all n once [] done e closed stand at others due k =
     ap (λ (ds : List Define). tops_mean (sofar u o ds []) (all_placed at (forms_of others))) (sym (append-nil done) ∙ e) ∙ k at
 defines_back u o all n once (d ∷ todo) done e closed stand at others due k =
-    let two = none_of_two (is_open_name u o d.name) _ closed in
+    let two = or_parts (is_open_name u o d.name) _ closed in
     let stands = both (definition_stands (in_definition u) d.body) _ stand in
     let apart : differ bytes_eq (map (λ (x : Define). x.name) done ++ d.name ∷ map (λ (x : Define). x.name) todo) ≡ true =
     ap (differ bytes_eq) (sym (names_append done (d ∷ todo)) ∙ ap (map (λ (x : Define). x.name)) e) ∙ once in

@@ -2,6 +2,7 @@
 use Rattle.std.proofs.Common.{arith, ◌≡◌, ℕ, suc, ◌+◌, ◌==◌, nat_le, Bool, true, false, List, [], ◌∷◌, ◌++◌, length, replicate, if◌then◌else◌, Option, Some, None, Ok, Err, refl, sym, ap, ◌∙◌, append_assoc}
 use Rattle.std.proofs.lemmas.List.{append-nil}
 use Rattle.std.specs.Option.{option_to_list}
+use Rattle.std.proofs.lemmas.Bool.{eqb-true}
 use Rattle.qs_base.specs.Results.{bind}
 use Rattle.qs_assert.specs.declared.node.Node.{Node}
 use Rattle.qs_sexpr.specs.Trees.{Sexps, no_parts, part_and, count}
@@ -116,9 +117,6 @@ fitted : (g : Setting) (at : ℕ) (row : CodeRow) (parts : Sexps) (b : Bool) →
 fitted g at row parts true = refl
 fitted g at row parts false = refl
 
-is_eq : (n m : ℕ) → (n == m) ≡ true → n ≡ m
-is_eq n m h = grind (arith, h)
-
 pub none_row : (g : Setting) (k : Sort) (at : ℕ) (made : Of (kind_of k)) (node : Option Node) (parts : Sexps) → nodes_of k made ≡ option_to_list node ++ [] → spec_flat g k at (Some (none made)) parts ≡ code_flat g at (Some (record { node = node; parts = Zero })) parts
 none_row g k at made node parts h =
     guarded (count parts == 0) (Ok made) _ (λ v. Ok (nodes_of k v)) (UnknownForm at) (λ e. ap (λ (xs : List Node). Ok xs) h) ∙ fitted g at (record { node = node; parts = Zero }) parts (count parts == 0)
@@ -131,7 +129,7 @@ one_inner g k a made node (part_and p (part_and q ps)) e h = absurd (omega (arit
 
 pub one_row : (g : Setting) (k a : Sort) (at : ℕ) (made : Of (kind_of a) → Of (kind_of k)) (node : Option Node) (parts : Sexps) → ((x : Of (kind_of a)) → nodes_of k (made x) ≡ option_to_list node ++ (nodes_of a x ++ [])) → spec_flat g k at (Some (one (kind_of a) made)) parts ≡ code_flat g at (Some (record { node = node; parts = One a })) parts
 one_row g k a at made node parts h =
-    guarded (count parts == 1) _ _ (λ v. Ok (nodes_of k v)) (UnknownForm at) (λ e. one_inner g k a made node parts (is_eq (count parts) 1 e) h) ∙ fitted g at (record { node = node; parts = One a }) parts (count parts == 1)
+    guarded (count parts == 1) _ _ (λ v. Ok (nodes_of k v)) (UnknownForm at) (λ e. one_inner g k a made node parts (eqb-true (count parts) 1 e) h) ∙ fitted g at (record { node = node; parts = One a }) parts (count parts == 1)
 
 two_inner : (g : Setting) (k a b : Sort) (made : Of (kind_of a) → Of (kind_of b) → Of (kind_of k)) (node : Option Node) (parts : Sexps) → count parts ≡ 2 → ((x : Of (kind_of a)) (y : Of (kind_of b)) → each_means g (kind_of a ∷ kind_of b ∷ []) parts ≡ Ok (x, (y, tt)) → nodes_of k (made x y) ≡ option_to_list node ++ (nodes_of a x ++ (nodes_of b y ++ []))) → bind (bind (each_means g (kind_of a ∷ kind_of b ∷ []) parts) (λ v. Ok (made v.0 v.1.0))) (λ v. Ok (nodes_of k v)) ≡ joined (Ok (option_to_list node)) (flats g (a ∷ b ∷ []) parts)
 two_inner g k a b made node no_parts e h = absurd (omega (arith, e))
@@ -142,7 +140,7 @@ two_inner g k a b made node (part_and p (part_and q (part_and r ps))) e h = absu
 
 pub two_row : (g : Setting) (k a b : Sort) (at : ℕ) (made : Of (kind_of a) → Of (kind_of b) → Of (kind_of k)) (node : Option Node) (parts : Sexps) → (count parts ≡ 2 → (x : Of (kind_of a)) (y : Of (kind_of b)) → each_means g (kind_of a ∷ kind_of b ∷ []) parts ≡ Ok (x, (y, tt)) → nodes_of k (made x y) ≡ option_to_list node ++ (nodes_of a x ++ (nodes_of b y ++ []))) → spec_flat g k at (Some (two (kind_of a) (kind_of b) made)) parts ≡ code_flat g at (Some (record { node = node; parts = Two a b })) parts
 two_row g k a b at made node parts h =
-    guarded (count parts == 2) _ _ (λ v. Ok (nodes_of k v)) (UnknownForm at) (λ e. two_inner g k a b made node parts (is_eq (count parts) 2 e) (h (is_eq (count parts) 2 e))) ∙ fitted g at (record { node = node; parts = Two a b }) parts (count parts == 2)
+    guarded (count parts == 2) _ _ (λ v. Ok (nodes_of k v)) (UnknownForm at) (λ e. two_inner g k a b made node parts (eqb-true (count parts) 2 e) (h (eqb-true (count parts) 2 e))) ∙ fitted g at (record { node = node; parts = Two a b }) parts (count parts == 2)
 
 three_inner : (g : Setting) (k a b c : Sort) (made : Of (kind_of a) → Of (kind_of b) → Of (kind_of c) → Of (kind_of k)) (node : Option Node) (parts : Sexps) → count parts ≡ 3 → ((x : Of (kind_of a)) (y : Of (kind_of b)) (z : Of (kind_of c)) → nodes_of k (made x y z) ≡ option_to_list node ++ (nodes_of a x ++ (nodes_of b y ++ (nodes_of c z ++ [])))) → bind (bind (each_means g (kind_of a ∷ kind_of b ∷ kind_of c ∷ []) parts) (λ v. Ok (made v.0 v.1.0 v.1.1.0))) (λ v. Ok (nodes_of k v)) ≡ joined (Ok (option_to_list node)) (flats g (a ∷ b ∷ c ∷ []) parts)
 three_inner g k a b c made node no_parts e h = absurd (omega (arith, e))
@@ -154,7 +152,7 @@ three_inner g k a b c made node (part_and p (part_and q (part_and r (part_and s 
 
 pub three_row : (g : Setting) (k a b c : Sort) (at : ℕ) (made : Of (kind_of a) → Of (kind_of b) → Of (kind_of c) → Of (kind_of k)) (node : Option Node) (parts : Sexps) → ((x : Of (kind_of a)) (y : Of (kind_of b)) (z : Of (kind_of c)) → nodes_of k (made x y z) ≡ option_to_list node ++ (nodes_of a x ++ (nodes_of b y ++ (nodes_of c z ++ [])))) → spec_flat g k at (Some (three (kind_of a) (kind_of b) (kind_of c) made)) parts ≡ code_flat g at (Some (record { node = node; parts = Three a b c })) parts
 three_row g k a b c at made node parts h =
-    guarded (count parts == 3) _ _ (λ v. Ok (nodes_of k v)) (UnknownForm at) (λ e. three_inner g k a b c made node parts (is_eq (count parts) 3 e) h) ∙ fitted g at (record { node = node; parts = Three a b c }) parts (count parts == 3)
+    guarded (count parts == 3) _ _ (λ v. Ok (nodes_of k v)) (UnknownForm at) (λ e. three_inner g k a b c made node parts (eqb-true (count parts) 3 e) h) ∙ fitted g at (record { node = node; parts = Three a b c }) parts (count parts == 3)
 
 pub many_row : (g : Setting) (k a : Sort) (at : ℕ) (made : List (Of (kind_of a)) → Of (kind_of k)) (node : Option Node) (parts : Sexps) → ((vs : List (Of (kind_of a))) → length vs ≡ count parts → nodes_of k (made vs) ≡ option_to_list node ++ nodes_of_all a vs) → spec_flat g k at (Some (many (kind_of a) made)) parts ≡ code_flat g at (Some (record { node = node; parts = Many a })) parts
 many_row g k a at made node parts h =

@@ -1,7 +1,7 @@
 -- The functions for which a file has lists, as they are marked.
 use Rattle.std.proofs.Common.{arith, ◌≡◌, ◌≢◌, ℕ, zero, suc, ◌+◌, ◌<◌, ◌==◌, Bool, true, false, if◌then◌else◌, List, [], ◌∷◌, length, map, get_or, set, Option, Some, None, refl, sym, ap, ◌∙◌, subst}
 use Rattle.std.specs.Prelude.{bytes_eq, not, option_map, ◌||◌}
-use Rattle.std.specs.List.{slice_get, list_all}
+use Rattle.std.specs.List.{list_all}
 use Rattle.std.proofs.Math.Bool.{or-false}
 use Rattle.std.proofs.lemmas.Bool.{and_parts}
 use Rattle.std.proofs.lemmas.List.{get_or-set_same, get_or-set_other, length-set}
@@ -20,6 +20,7 @@ use Rattle.qs_core.proofs.FitLaws.{unit_parts}
 use Rattle.qs_sexpr.specs.Parts.{Splits}
 use Rattle.qs_sexpr.specs.Trees.{Sexp, Sexps, no_parts, part_and}
 use Rattle.qs_sexpr.specs.declared.node.Node.{Node}
+use Rattle.qs_triples.proofs.FunctionNames.{name_at, all_at, count_names}
 use Rattle.qs_prooftext.specs.Answers.{StandAll, Stands}
 use Rattle.qs_prooftext.specs.Contexts.{function_rows}
 use Rattle.qs_prooftext.specs.Listed.{ListsLeft, Marks}
@@ -53,11 +54,6 @@ another n m w is apart = by (bytes_eq m w) refl
         let second : m ≡ w = (bytes_eq-Decides m w).0 e in
         absurd (let same : bytes_eq n m ≡ true = (bytes_eq-Decides n m).1 (first ∙ sym second) in let t : not true ≡ true = ap not (sym same) ∙ apart in cc)
 
-all_at : (test : List ℕ → Bool) (names : List (List ℕ)) (i : ℕ) → list_all test names ≡ true → i < length names → test (get_or names i []) ≡ true
-all_at test [] i all b = absurd (omega (arith, b))
-all_at test (n ∷ names) zero all b = (and_parts (test n) (list_all test names) all).0
-all_at test (n ∷ names) (suc i) all b = all_at test names i (and_parts (test n) (list_all test names) all).1 (omega (arith, b))
-
 name_found : (w : List ℕ) (i : ℕ) (names : List (List ℕ)) (f : ℕ) → differ bytes_eq names ≡ true → f < length names → bytes_eq (get_or names f []) w ≡ is_found (look_up w (numbered i names)) (i + f)
 name_found w i [] f d b = absurd (omega (arith, b))
 name_found w i (n ∷ names) zero d b = by (bytes_eq n w)
@@ -76,15 +72,6 @@ name_found w i (n ∷ names) (suc f) d b = by (bytes_eq n w) refl (name_found w 
     by false e more =
         let at : i + 1 + f ≡ i + suc f = omega arith in
         more ∙ ap (is_found (look_up w (numbered (i + 1) names))) at
-
-name_at : (fs : List CoreFunctionTree) (f : ℕ) → f < length fs → name_in (slice_get fs f) ≡ get_or (map (λ (f : CoreFunctionTree). f.name) fs) f []
-name_at [] f b = absurd (omega (arith, b))
-name_at (x ∷ fs) zero b = refl
-name_at (x ∷ fs) (suc f) b = name_at fs f (omega (arith, b))
-
-count_names : (fs : List CoreFunctionTree) → length (map (λ (f : CoreFunctionTree). f.name) fs) ≡ length fs
-count_names [] = refl
-count_names (f ∷ fs) = ap suc (count_names fs)
 
 zero_before : (f : ℕ) → 0 + f ≡ f
 zero_before f = omega arith

@@ -6,6 +6,7 @@ use Rattle.std.proofs.lemmas.Bool.Decides.{nat_tests}
 use Rattle.std.proofs.lemmas.Fmt.{decimal_injective}
 use Rattle.std.proofs.lemmas.List.{append-nil}
 use Rattle.std.proofs.lemmas.Slice.Eq.{bytes_eq-Decides}
+use Rattle.std.proofs.lemmas.Bool.{not-true}
 use Rattle.qs_base.specs.Bytes.{is_letter, is_word_byte}
 use Rattle.qs_base.specs.Keywords.{is_keyword}
 use Rattle.qs_base.specs.Names.{is_name, is_word}
@@ -21,7 +22,7 @@ use Rattle.qs_triples.specs.Mentions.{has_placed_parameter}
 use Rattle.qs_triples.specs.Valuations.{if_number}
 use Rattle.qs_prooftext.specs.Settings.{typed, with_word, variable_words, temporary_words}
 use Rattle.qs_prooftext.specs.Writing.{HasOwnWords, HasShortNumbers, has_short_numbers, is_short}
-use Rattle.qs_prooftext.proofs.WordLaws.{Rows, words, not_false, texts_differ}
+use Rattle.qs_prooftext.proofs.WordLaws.{Rows, words, texts_differ}
 
 -- ---- names have no `#`
 
@@ -115,7 +116,7 @@ others_text v (w ∷ vs) n h m i d =
     let m2 = both (is_named w) (list_all is_named vs) m in
     let i2 = both (is_short w) (list_all is_short vs) i in
     let d2 = both (not (same_variable v w)) _ d in
-    λ j. not (other_text v w n m2.0 h i2.0 (not_false (same_variable v w) d2.0) j) && others_text v vs n h m2.1 i2.1 d2.1 j
+    λ j. not (other_text v w n m2.0 h i2.0 (not-true (same_variable v w) d2.0) j) && others_text v vs n h m2.1 i2.1 d2.1 j
 
 -- ---- rows
 

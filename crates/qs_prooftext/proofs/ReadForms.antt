@@ -1,7 +1,7 @@
 -- What a list or atom means is written as it stands, and can be written.
 use Rattle.std.proofs.Common.{arith, ◌≡◌, ℕ, zero, suc, ℤ, pos, negsuc, ◌==◌, nat_le, Bool, true, false, if◌then◌else◌, List, [], ◌∷◌, length, map, Option, Some, None, Ok, Err, refl, sym, ap, ◌∙◌, subst}
 use Rattle.std.specs.Prelude.{option_map}
-use Rattle.std.proofs.lemmas.Bool.{and_from}
+use Rattle.std.proofs.lemmas.Bool.{and_from, eqb-true}
 use Rattle.qs_base.specs.Results.{bind}
 use Rattle.qs_memory.specs.Partial.{◌>>=◌}
 use Rattle.qs_assert.specs.declared.variable.Var.{Var}
@@ -139,9 +139,6 @@ pub bound : {A B : Type 0} (x : Answer A) (f : A → Answer B) (b : B) → bind 
 bound (Ok a) f b e = (a, refl, e)
 bound (Err x) f b e = cc
 
-is_eq : (n m : ℕ) → (n == m) ≡ true → n ≡ m
-is_eq n m e = grind (arith, e)
-
 none_erased : (ss : Sexps) → count ss ≡ 0 → all_erased ss ≡ []
 none_erased no_parts e = refl
 none_erased (part_and s ss) e = absurd (omega (arith, e))
@@ -173,25 +170,25 @@ record PartsRead (g h : Setting) (w : Words) (ss : Sexps) : Type 0 where
 row_good : (g h : Setting) (w : Words) (k : Kind) (word : List ℕ) (row : Row k) (ss : Sexps) (v : Of k) → PartsRead g h w ss → RowGood h w k word row → takes row (count ss) ≡ true → row_means row (λ ks. each_means g ks ss) (λ a. all_mean g a ss) ≡ Ok v → Good h w k v (headed word (all_erased ss))
 row_good g h w k word (none made) ss v parts good takes e =
     let same : made ≡ v = cc in
-    moved h w k made v _ _ same (in_list word [] (all_erased ss) (sym (none_erased ss (is_eq (count ss) 0 takes)))) good
+    moved h w k made v _ _ same (in_list word [] (all_erased ss) (sym (none_erased ss (eqb-true (count ss) 0 takes)))) good
 row_good g h w k word (one a made) ss v parts good takes e =
     let t = bound (each_means g (a ∷ []) ss) (λ v. Ok (made v.0)) v e in
-    let p = parts.each (a ∷ []) t.0 (sym (is_eq (count ss) 1 takes)) t.1 in
+    let p = parts.each (a ∷ []) t.0 (sym (eqb-true (count ss) 1 takes)) t.1 in
     let same : made t.0.0 ≡ v = (let f = t.2 in cc) in
     moved h w k (made t.0.0) v _ _ same (in_list word _ (all_erased ss) p.forms) (good t.0.0 p.stand.0)
 row_good g h w k word (two a b made) ss v parts good takes e =
     let t = bound (each_means g (a ∷ b ∷ []) ss) (λ v. Ok (made v.0 v.1.0)) v e in
-    let p = parts.each (a ∷ b ∷ []) t.0 (sym (is_eq (count ss) 2 takes)) t.1 in
+    let p = parts.each (a ∷ b ∷ []) t.0 (sym (eqb-true (count ss) 2 takes)) t.1 in
     let same : made t.0.0 t.0.1.0 ≡ v = (let f = t.2 in cc) in
     moved h w k (made t.0.0 t.0.1.0) v _ _ same (in_list word _ (all_erased ss) p.forms) (good t.0.0 t.0.1.0 p.stand.0 p.stand.1.0)
 row_good g h w k word (three a b c made) ss v parts good takes e =
     let t = bound (each_means g (a ∷ b ∷ c ∷ []) ss) (λ v. Ok (made v.0 v.1.0 v.1.1.0)) v e in
-    let p = parts.each (a ∷ b ∷ c ∷ []) t.0 (sym (is_eq (count ss) 3 takes)) t.1 in
+    let p = parts.each (a ∷ b ∷ c ∷ []) t.0 (sym (eqb-true (count ss) 3 takes)) t.1 in
     let same : made t.0.0 t.0.1.0 t.0.1.1.0 ≡ v = (let f = t.2 in cc) in
     moved h w k (made t.0.0 t.0.1.0 t.0.1.1.0) v _ _ same (in_list word _ (all_erased ss) p.forms) (good t.0.0 t.0.1.0 t.0.1.1.0 p.stand.0 p.stand.1.0 p.stand.1.1.0)
 row_good g h w k word (four a b c d made) ss v parts good takes e =
     let t = bound (each_means g (a ∷ b ∷ c ∷ d ∷ []) ss) (λ v. Ok (made v.0 v.1.0 v.1.1.0 v.1.1.1.0)) v e in
-    let p = parts.each (a ∷ b ∷ c ∷ d ∷ []) t.0 (sym (is_eq (count ss) 4 takes)) t.1 in
+    let p = parts.each (a ∷ b ∷ c ∷ d ∷ []) t.0 (sym (eqb-true (count ss) 4 takes)) t.1 in
     let same : made t.0.0 t.0.1.0 t.0.1.1.0 t.0.1.1.1.0 ≡ v = (let f = t.2 in cc) in
     moved h w k (made t.0.0 t.0.1.0 t.0.1.1.0 t.0.1.1.1.0) v _ _ same (in_list word _ (all_erased ss) p.forms) (good t.0.0 t.0.1.0 t.0.1.1.0 t.0.1.1.1.0 p.stand.0 p.stand.1.0 p.stand.1.1.0 p.stand.1.1.1.0)
 row_good g h w k word (many a made) ss v parts good takes e =
@@ -244,7 +241,7 @@ item_good g h w at ss v parts e = by (count ss == 2) refl e
     pair : (b : Bool) → (count ss == 2) ≡ b → (if b then bind (each_means g (a_natural ∷ an_index ∷ []) ss) (λ v. Ok (certificates.once v.0 v.1.0)) else Err (UnknownForm at)) ≡ Ok v → Good h w an_item v (list_form (forms_of (all_erased ss)))
     pair true is f =
         let t = bound (each_means g (a_natural ∷ an_index ∷ []) ss) (λ v. Ok (certificates.once v.0 v.1.0)) v f in
-        let p = parts.each (a_natural ∷ an_index ∷ []) t.0 (sym (is_eq (count ss) 2 is)) t.1 in
+        let p = parts.each (a_natural ∷ an_index ∷ []) t.0 (sym (eqb-true (count ss) 2 is)) t.1 in
         let same : certificates.once t.0.0 t.0.1.0 ≡ v = (let f = t.2 in cc) in
         record { form = ap item_form (sym same) ∙ ap (λ (fs : List Form). list_form (forms_of fs)) p.forms; stands = refl }
     pair false is f = cc
@@ -252,7 +249,7 @@ item_good g h w at ss v parts e = by (count ss == 2) refl e
     triple : (b : Bool) → (count ss == 3) ≡ b → (if b then bind (each_means g (a_natural ∷ an_index ∷ an_index ∷ []) ss) (λ v. Ok (certificates.twice v.0 v.1.0 v.1.1.0)) else Err (UnknownForm at)) ≡ Ok v → Good h w an_item v (list_form (forms_of (all_erased ss)))
     triple true is f =
         let t = bound (each_means g (a_natural ∷ an_index ∷ an_index ∷ []) ss) (λ v. Ok (certificates.twice v.0 v.1.0 v.1.1.0)) v f in
-        let p = parts.each (a_natural ∷ an_index ∷ an_index ∷ []) t.0 (sym (is_eq (count ss) 3 is)) t.1 in
+        let p = parts.each (a_natural ∷ an_index ∷ an_index ∷ []) t.0 (sym (eqb-true (count ss) 3 is)) t.1 in
         let same : certificates.twice t.0.0 t.0.1.0 t.0.1.1.0 ≡ v = (let f = t.2 in cc) in
         record { form = ap item_form (sym same) ∙ ap (λ (fs : List Form). list_form (forms_of fs)) p.forms; stands = refl }
     triple false is f = cc

@@ -1,5 +1,5 @@
 -- Lists with a head and so many leaves: what their rows make of their parts, and what their heads make of the trees behind the leaves.
-use Rattle.std.proofs.Common.{arith, ◌≡◌, ℕ, ◌+◌, ◌==◌, Bool, true, false, if◌then◌else◌, List, [], ◌∷◌, length, Some, Ok, Err, refl, sym, ap, ◌∙◌}
+use Rattle.std.proofs.Common.{arith, ◌≡◌, ℕ, ◌+◌, ◌==◌, Bool, false, if◌then◌else◌, List, [], ◌∷◌, length, Some, Ok, Err, refl, sym, ap, ◌∙◌}
 use Rattle.qs_base.specs.Results.{bind}
 use Rattle.qs_sexpr.specs.Trees.{Sexp, Sexps, no_parts, part_and, count}
 use Rattle.qs_prooftext.specs.declared.fault.TextFault.TheVariants.{UnknownForm}
@@ -87,12 +87,6 @@ s_three_one (Ok v) (Ok u) (Ok r) (Err f) made head pl e = refl
 s_three_one {C = C} (Ok v) (Ok u) (Ok r) (Ok w) made head pl e = ap (λ (c : C). Ok c) (e v u r w)
 
 -- ---- so many parts
-
-pub is_eq : (n m : ℕ) → (n == m) ≡ true → n ≡ m
-is_eq n m h = grind (arith, h)
-
-pub is_so_many : (n m : ℕ) → n ≡ m → (n == m) ≡ true
-is_so_many n m e = grind (arith, e)
 
 pub is_not_so_many : (n m l : ℕ) → l ≡ n → (l ≡ m → ⊥) → (n == m) ≡ false
 is_not_so_many n m l c e = grind (arith, c, e)

@@ -4,6 +4,7 @@ use Rattle.std.specs.Prelude.{bytes_eq, option_map}
 use Rattle.std.specs.List.{slice_get, list_any, list_all}
 use Rattle.std.proofs.lemmas.List.Folds.{list_any-append}
 use Rattle.std.proofs.lemmas.Slice.Eq.{bytes_eq-Decides}
+use Rattle.std.proofs.lemmas.Bool.{not-true}
 use Rattle.qs_memory.specs.declared.scalar.Scalar.{Scalar}
 use Rattle.qs_memory.specs.Partial.{◌>>=◌}
 use Rattle.qs_assert.specs.declared.variable.NumberType.{NumberType}
@@ -42,10 +43,6 @@ texts_differ xs ys apart = by (bytes_eq xs ys) refl
     by : (b : Bool) → bytes_eq xs ys ≡ b → bytes_eq xs ys ≡ false
     by true e = absurd (apart ((bytes_eq-Decides xs ys).0 e))
     by false e = e
-
-pub not_false : (b : Bool) → not b ≡ true → b ≡ false
-not_false true h = cc
-not_false false h = refl
 
 other_way : (x y : Var) → same_variable y x ≡ false → same_variable x y ≡ false
 other_way x y e = by (same_variable x y) refl
@@ -105,7 +102,7 @@ behind_first x row rows e h = sym (ap (λ (b : Bool). b || list_any (same_variab
 apart_by : (word : List ℕ) (x : Var) (row : List ℕ × Var) (rows : Rows) (b : Bool) → same_variable row.1 x ≡ b → list_all (λ y. not (bytes_eq word y)) (words (row ∷ rows)) ≡ true
     → (b ≡ false → bytes_eq word (word_for x rows) ≡ false) → bytes_eq word (word_for x (row ∷ rows)) ≡ false
 apart_by word x row rows true e a h =
-    ap (λ (t : Bool). bytes_eq word (if t then row.0 else word_for x rows)) e ∙ not_false (bytes_eq word row.0) (both (not (bytes_eq word row.0)) _ a).0
+    ap (λ (t : Bool). bytes_eq word (if t then row.0 else word_for x rows)) e ∙ not-true (bytes_eq word row.0) (both (not (bytes_eq word row.0)) _ a).0
 apart_by word x row rows false e a h = ap (λ (t : Bool). bytes_eq word (if t then row.0 else word_for x rows)) e ∙ h refl
 
 apart : (word : List ℕ) (x : Var) (rows : Rows) → list_all (λ y. not (bytes_eq word y)) (words rows) ≡ true → list_any (same_variable x) (variables rows) ≡ true → bytes_eq word (word_for x rows) ≡ false
@@ -313,7 +310,7 @@ none_before : (name other : List ℕ) (names : List (List ℕ)) (i : ℕ) → li
 none_before name other [] i a s = cc
 none_before name other (x ∷ names) zero a s =
     let first = (both (not (bytes_eq other x)) _ a).0 in
-    ap (bytes_eq other) (sym (some_is x name s)) ∙ not_false (bytes_eq other x) first
+    ap (bytes_eq other) (sym (some_is x name s)) ∙ not-true (bytes_eq other x) first
 none_before name other (x ∷ names) (suc i) a s = none_before name other names i (both (not (bytes_eq other x)) _ a).1 s
 
 looked_up : (from i : ℕ) (name : List ℕ) (names : List (List ℕ)) → differ bytes_eq names ≡ true → slice_get names i ≡ Some name → look_up name (numbered from names) ≡ Some (from + i)

@@ -10,6 +10,7 @@ use Rattle.qs_assert.specs.declared.node.AssertionNode.TheVariants as assertion_
 use Rattle.qs_assert.specs.declared.variable.Var.{Var}
 use Rattle.qs_sexpr.specs.Trees.{Sexp, symbol, list, Sexps, part_and, count}
 use Rattle.qs_sexpr.specs.declared.node.Node.{Node}
+use Rattle.qs_prooftext.specs.declared.assertions.Headed.{Headed}
 use Rattle.qs_prooftext.specs.declared.context.Context.{Context}
 use Rattle.qs_prooftext.specs.declared.fault.TextFault.{TextFault}
 use Rattle.qs_prooftext.specs.declared.fault.TextFault.TheVariants as faults
@@ -72,14 +73,13 @@ GivesOpened g due parts todo todo_now out out_now (Err fault) = (due ≡ Err fau
 abbrev pub HasParts : ℕ → Sexps → Type 0
 HasParts n parts = n ≡ count parts + 1
 
--- the list at this place with this head, so many parts and these nodes behind its head is opened
+-- the list with this place, head, count of parts and nodes behind its head is opened
 abbrev pub Opens :
-    Context → Sort → (at : ℕ) → (word : List ℕ) → (parts : ℕ) → (others : List Node)
-    → (todo todo_now : Vec Sort Global) → (out out_now : Vec AssertNode Global) → Result (Unit {0}) TextFault
-    → Type 0
-Opens c sort at word n others todo todo_now out out_now result =
-    (place : ℕ) (parts : Sexps) → StandAll c.text.now others parts → HasParts n parts
-    → GivesOpened (setting_of c) (flat (setting_of c) sort (list at (part_and (symbol place word) parts)))
+    Context → Sort → Headed → (todo todo_now : Vec Sort Global) → (out out_now : Vec AssertNode Global)
+    → Result (Unit {0}) TextFault → Type 0
+Opens c sort l todo todo_now out out_now result =
+    (place : ℕ) (parts : Sexps) → StandAll c.text.now l.others.now parts → HasParts l.count parts
+    → GivesOpened (setting_of c) (flat (setting_of c) sort (list l.at (part_and (symbol place l.word.now) parts)))
     parts todo.items todo_now.items out.items out_now.items result
 
 -- ---- the nodes of atoms

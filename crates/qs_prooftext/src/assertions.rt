@@ -159,30 +159,39 @@ fn put_sorts(todo: &mut Vec<Sort>, parts: Parts, count: usize) -> Result<(), NoM
     Ok(())
 }
 
-/// Puts the node of the list at this place with this head, and the sorts of its other parts.
+/// A list as its node and its head tell of it.
+#[derive(Clone, Copy)]
+pub struct Headed<'a> {
+    /// where it stands
+    pub at: u32,
+    /// its head
+    pub word: &'a [u8],
+    /// how many parts it has, the head among them
+    pub count: usize,
+    /// the nodes of the other parts
+    pub others: &'a [qs_sexpr::Node],
+}
+
+/// Puts the node of the list, and the sorts of the parts behind its head.
 #[tactic(auto, using(crate::proofs::AssertionLaws::openings))]
 fn open_list(
     context: Context<'_>,
     sort: Sort,
-    at: u32,
-    word: &[u8],
-    count: usize,
-    others: &[qs_sexpr::Node],
+    list: Headed<'_>,
     todo: &mut Vec<Sort>,
     out: &mut Vec<Node>,
 ) -> Result<(), TextFault>
-    ensures { Opens context.entry sort at word.now count others.now
-        todo.old todo.new out.old out.new result }
+    ensures { Opens context.entry sort list.entry todo.old todo.new out.old out.new result }
 {
-    let behind = count.saturating_sub(1);
-    let divisor = divisor_in(context.text, others);
-    match row_of_list(context.result, sort, at, behind, divisor, word) {
+    let behind = list.count.saturating_sub(1);
+    let divisor = divisor_in(context.text, list.others);
+    match row_of_list(context.result, sort, list.at, behind, divisor, list.word) {
         Some(row) => {
             put_node(out, row.node)?;
             put_sorts(todo, row.parts, behind)?;
             Ok(())
         }
-        None => Err(TextFault::UnknownForm(at)),
+        None => Err(TextFault::UnknownForm(list.at)),
     }
 }
 
@@ -221,7 +230,13 @@ fn next<'a>(
             let Some((word, others)) = head_of(context.text, parts) else {
                 return Err(TextFault::UnknownForm(at));
             };
-            open_list(context, sort, at, word, count, others, todo, out)?;
+            let list = Headed {
+                at,
+                word,
+                count,
+                others,
+            };
+            open_list(context, sort, list, todo, out)?;
             Ok(behind(rest, 2))
         }
     }

@@ -13,7 +13,7 @@ use Rattle.qs_entail.specs.Faults as certificates
 use Rattle.qs_core.specs.Trees as core
 use Rattle.qs_core.specs.Trees.{CoreExprTree, CoreStmtTree, CoreStmts, CoreFunctionTree}
 use Rattle.qs_triples.specs.Derivations.{SpecTree}
-use Rattle.qs_triples.specs.Rules.{DerivationFault, Answer, part, unless, unless_of, by_verdict, of_sequence, of_branch, of_loop, CallSite, of_call, Known, of_spec}
+use Rattle.qs_triples.specs.Rules.{DerivFault, Answer, part, unless, unless_of, by_verdict, of_sequence, of_branch, of_loop, CallSite, of_call, Known, of_spec}
 
 -- an answer that is this assertion
 abbrev pub Gives : Answer → AssertionTree → Type 0
@@ -30,7 +30,7 @@ pub part_ok : (i : ℕ) (r : Answer) (a : AssertionTree) → Gives (part i r) a 
 part_ok i (Ok b) a h = h
 part_ok i (Err fault) a h = cc
 
-pub require_ok : (t : Bool) (fault : DerivationFault) (r : Answer) (a : AssertionTree) → Gives (require t fault r) a → (t ≡ true) × Gives r a
+pub require_ok : (t : Bool) (fault : DerivFault) (r : Answer) (a : AssertionTree) → Gives (require t fault r) a → (t ≡ true) × Gives r a
 require_ok true fault r a h = (refl, h)
 require_ok false fault r a h = cc
 
@@ -41,7 +41,7 @@ unless_of_ok g (Some x) r a h = cc
 pub unless_ok : (o : Option Var) (r : Answer) (a : AssertionTree) → Gives (unless o r) a → (o ≡ None) × Gives r a
 unless_ok o r a h = unless_of_ok None o r a h
 
-pub by_verdict_ok : (v : Option certificates.Fault) (r a : AssertionTree) → Gives (by_verdict v r) a → (v ≡ None) × (r ≡ a)
+pub by_verdict_ok : (v : Option certificates.CertFault) (r a : AssertionTree) → Gives (by_verdict v r) a → (v ≡ None) × (r ≡ a)
 by_verdict_ok None r a h = (refl, ok_same r a h)
 by_verdict_ok (Some fault) r a h = cc
 
@@ -94,11 +94,11 @@ spec_ok g (Some f) (Some spec) rule a h = record { known = record { function = f
 
 -- ---- no fault
 
-pub or_none : (o p : Option DerivationFault) → option_or o p ≡ None → (o ≡ None) × (p ≡ None)
+pub or_none : (o p : Option DerivFault) → option_or o p ≡ None → (o ≡ None) × (p ≡ None)
 or_none None p h = (refl, h)
 or_none (Some fault) p h = cc
 
-pub fault_or_none : (r : Answer) (next : AssertionTree → Option DerivationFault) → fault_or (λ fault. fault) r next ≡ None → (a : AssertionTree) × (Gives r a × (next a ≡ None))
+pub fault_or_none : (r : Answer) (next : AssertionTree → Option DerivFault) → fault_or (λ fault. fault) r next ≡ None → (a : AssertionTree) × (Gives r a × (next a ≡ None))
 fault_or_none (Ok a) next h = (a, (refl, h))
 fault_or_none (Err fault) next h = cc
 

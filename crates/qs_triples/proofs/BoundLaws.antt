@@ -25,7 +25,7 @@ use Rattle.qs_triples.proofs.PathLaws.{stmts_stay}
 
 -- ---- entries
 
-first_there : (es : List EntryTree) (g : ℕ) → length (filter (is_entry_of g) es) ≡ 1 → (e : EntryTree) × (find (is_entry_of g) es ≡ Some e)
+pub first_there : (es : List EntryTree) (g : ℕ) → length (filter (is_entry_of g) es) ≡ 1 → (e : EntryTree) × (find (is_entry_of g) es ≡ Some e)
 first_there [] g h = cc
 first_there (d ∷ es) g h = by (is_entry_of g d) refl (first_there es g)
   where

@@ -2,6 +2,7 @@
 use Rattle.std.proofs.Common.{◌≡◌, ℕ, zero, suc, Bool, true, false, if◌then◌else◌, List, [], ◌∷◌, map, Option, Some, None, ◌⊎◌, inl, inr, ⊎_elim, refl, sym, ap, ◌∙◌}
 use Rattle.std.specs.Prelude.{◌||◌, is_none, ℤ}
 use Rattle.std.specs.List.{slice_get}
+use Rattle.std.proofs.lemmas.Bool.{or_parts}
 use Rattle.qs_memory.specs.Partial.{◌>>=◌}
 use Rattle.qs_memory.specs.Values.{Value, integer}
 use Rattle.qs_memory.specs.Memory.{Memory}
@@ -119,19 +120,15 @@ balanced_at_call cost ds g es vs spec even none result =
     by x (kinds.Old i) kind plain = cc
     by x kinds.Returned kind plain = cc
 
--- ---- an expression with a term reads neither the memory nor the temporary that a call's result goes to
+-- ---- an expression with a term reads or_parts the memory nor the temporary that a call's result goes to
 
 abbrev pub IsApart : (destination : Option ℕ) → CoreExprTree → Type 0
 IsApart None e = Unit {0}
 IsApart (Some k) e = mentions k e ≡ false
 
-neither : (a b : Bool) → (a || b) ≡ false → (a ≡ false) × (b ≡ false)
-neither true b h = cc
-neither false b h = (refl, h)
-
 apart_parts : (x : Option ℕ) (op : BinaryOperation) (a b : CoreExprTree) → IsApart x (binary op a b) → IsApart x a × IsApart x b
 apart_parts None op a b h = (tt, tt)
-apart_parts (Some k) op a b h = neither (mentions k a) (mentions k b) h
+apart_parts (Some k) op a b h = or_parts (mentions k a) (mentions k b) h
 
 apart_of_unary : (x : Option ℕ) (op : UnaryOperation) (a : CoreExprTree) → IsApart x (unary op a) → IsApart x a
 apart_of_unary None op a h = tt
@@ -143,8 +140,8 @@ apart_of_conversion (Some k) s a h = h
 
 pub apart_at : (x : Option ℕ) (k : ℕ) (es : List CoreExprTree) (i : ℕ) (e : CoreExprTree) → any_mentions k es ≡ false → slice_get es i ≡ Some e → mentions k e ≡ false
 apart_at x k [] i e h is = cc
-apart_at x k (a ∷ es) zero e h is = ap (mentions k) (sym (some_same a e is)) ∙ (neither (mentions k a) (any_mentions k es) h).0
-apart_at x k (a ∷ es) (suc i) e h is = apart_at x k es i e (neither (mentions k a) (any_mentions k es) h).1 is
+apart_at x k (a ∷ es) zero e h is = ap (mentions k) (sym (some_same a e is)) ∙ (or_parts (mentions k a) (any_mentions k es) h).0
+apart_at x k (a ∷ es) (suc i) e h is = apart_at x k es i e (or_parts (mentions k a) (any_mentions k es) h).1 is
 
 landed_variable : (x : Option ℕ) (l : Locals) (v : Value) (y : ℕ) → (landed x l v).variables y ≡ l.variables y
 landed_variable None l v y = refl

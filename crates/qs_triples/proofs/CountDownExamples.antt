@@ -20,7 +20,7 @@ use Rattle.qs_entail.specs.View.{certs_of}
 use Rattle.qs_core.specs.Trees as core
 use Rattle.qs_core.specs.Trees.{CoreExprTree, CoreFunctionTree, CoreUnitTree, stmts_of}
 use Rattle.qs_triples.specs.Derivations.{DerivationTree, leaf, sequence, conditional, loop, call, balanced_call, consequence, no_derivations, derivation_and, SpecTree, EntryTree, ProofsTree}
-use Rattle.qs_triples.specs.Rules.{in_precondition, in_postcondition, at_node, DerivationFault, shape, mentions, certificate, no_spec, entry, bad_order}
+use Rattle.qs_triples.specs.Rules.{in_precondition, in_postcondition, at_node, DerivFault, shape, mentions, certificate, no_spec, entry, bad_order}
 use Rattle.qs_triples.specs.Entries.{entry_fault}
 use Rattle.qs_triples.specs.Mentions.{in_body}
 
@@ -131,7 +131,7 @@ of_main = record {
 abbrev proofs : ProofsTree
 proofs = record { defines = []; functions = with_entry (by_cases counted) body ∷ of_main ∷ [] }
 
-abbrev fault_of : EntryTree → Option DerivationFault
+abbrev fault_of : EntryTree → Option DerivFault
 fault_of e = entry_fault unit proofs e
 
 -- ---- right
@@ -159,7 +159,7 @@ a_false_step = refl
 
 -- ---- wrong nodes
 
-abbrev faulty : DerivationTree → Option DerivationFault
+abbrev faulty : DerivationTree → Option DerivFault
 faulty d = fault_of (with_entry (by_cases counted) d)
 
 a_call_is_no_leaf : faulty (three_parts either_way leaf leaf) ≡ Some (shape (1 ∷ []))
@@ -191,7 +191,7 @@ the_first_branch_is_first = refl
 -- ---- consequences
 
 -- of what the return needs
-abbrev at_return : DerivationTree → Option DerivationFault
+abbrev at_return : DerivationTree → Option DerivFault
 at_return d = faulty (three_parts either_way balanced_call d)
 
 the_same_again : at_return (consequence (costs (of (kinds.Old 0))) same leaf) ≡ None
@@ -293,7 +293,7 @@ a_result_without_destination = refl
 
 -- ---- specifications
 
-abbrev with_spec_of_f : AssertionTree → AssertionTree → Option DerivationFault
+abbrev with_spec_of_f : AssertionTree → AssertionTree → Option DerivFault
 with_spec_of_f p q = fault_of (record { function = 0; spec = record { pre = p; post = q }; entry = same; body = body })
 
 a_pre_with_an_old_value : with_spec_of_f (costs (of (kinds.Old 0))) (natural 0) ≡ Some (mentions in_precondition None (unsigned_variable (kinds.Old 0)))

@@ -20,7 +20,7 @@ use Rattle.qs_entail.specs.View.{certs_of}
 use Rattle.qs_core.specs.Trees as core
 use Rattle.qs_core.specs.Trees.{CoreExprTree, CoreFunctionTree, CoreUnitTree, stmts_of}
 use Rattle.qs_triples.specs.Derivations.{DerivationTree, leaf, sequence, conditional, balanced_call, no_derivations, derivation_and, EntryTree, ProofsTree}
-use Rattle.qs_triples.specs.Rules.{DerivationFault, shape, entry}
+use Rattle.qs_triples.specs.Rules.{DerivFault, shape, entry}
 use Rattle.qs_triples.specs.Entries.{entry_fault}
 
 -- ---- the unit
@@ -116,7 +116,7 @@ two_parts d e = sequence (derivation_and d (derivation_and e no_derivations))
 abbrev proofs : ProofsTree
 proofs = record { defines = []; functions = with same leaf ∷ [] }
 
-abbrev fault_of : EntryTree → Option DerivationFault
+abbrev fault_of : EntryTree → Option DerivFault
 fault_of e = entry_fault unit proofs e
 
 -- ---- right

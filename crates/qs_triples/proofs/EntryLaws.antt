@@ -19,7 +19,8 @@ use Rattle.qs_core.specs.TreeOf.{core_stmt, core_stmts}
 use Rattle.qs_core.specs.Trees.{stmts_of, CoreFunctionTree, CoreUnitTree}
 use Rattle.qs_triples.specs.Derivations.{EntryTree, ProofsTree, entry_of}
 use Rattle.qs_triples.specs.Entries.{is_return, ends_in_return, order_told, fault_in, fault_of_known, entry_fault, fault_of_entry, function_fault, HasDerivedEntry}
-use Rattle.qs_triples.specs.Rules.{DerivationFault, Answer, shape, mentions, at_node, certificate, no_spec, entry}
+use Rattle.qs_triples.specs.Rules as rules
+use Rattle.qs_triples.specs.Rules.{Answer, shape, mentions, at_node, certificate, no_spec, entry}
 use Rattle.qs_triples.specs.Told.{callee_view, fault_at, FailsAs, IsDue, IsOfCertificate, Tells}
 use Rattle.qs_triples.specs.Checking.{WasDue}
 use Rattle.qs_triples.specs.declared.failure.Cause.{Cause}
@@ -32,37 +33,37 @@ use Rattle.qs_triples.specs.declared.fault.DerivFault.TheVariants as faults
 
 -- ---- the first fault
 
-of_first : (there : certificates.Fault → DerivationFault) (fault : CertFault) (a b : Option DerivationFault) → IsOfCertificate there fault a → IsOfCertificate there fault (option_or a b)
+of_first : (there : certificates.CertFault → rules.DerivFault) (fault : CertFault) (a b : Option rules.DerivFault) → IsOfCertificate there fault a → IsOfCertificate there fault (option_or a b)
 of_first there certs.NoMemory a b h = absurd h
-of_first there (certs.Step path rule) a b h = ap (λ (o : Option DerivationFault). option_or o b) h
-of_first there (certs.Limit path l) a b h = ap (λ (o : Option DerivationFault). option_or o b) h
+of_first there (certs.Step path rule) a b h = ap (λ (o : Option rules.DerivFault). option_or o b) h
+of_first there (certs.Limit path l) a b h = ap (λ (o : Option rules.DerivFault). option_or o b) h
 
 -- the first question's fault comes before those of the others
-pub due_first : (fault : DerivFault) (a b : Option DerivationFault) → IsDue fault a → IsDue fault (option_or a b)
+pub due_first : (fault : DerivFault) (a b : Option rules.DerivFault) → IsDue fault a → IsDue fault (option_or a b)
 due_first faults.NoMemory a b h = tt
-due_first (faults.Shape path) a b h = ap (λ (o : Option DerivationFault). option_or o b) h
-due_first (faults.Mentions place g x) a b h = ap (λ (o : Option DerivationFault). option_or o b) h
+due_first (faults.Shape path) a b h = ap (λ (o : Option rules.DerivFault). option_or o b) h
+due_first (faults.Mentions place g x) a b h = ap (λ (o : Option rules.DerivFault). option_or o b) h
 due_first (faults.Cert path fault) a b h = of_first (certificate path.items) fault a b h
-due_first (faults.NoSpec path g) a b h = ap (λ (o : Option DerivationFault). option_or o b) h
+due_first (faults.NoSpec path g) a b h = ap (λ (o : Option rules.DerivFault). option_or o b) h
 due_first (faults.Entry fault) a b h = of_first entry fault a b h
-due_first (faults.BadOrder d) a b h = ap (λ (o : Option DerivationFault). option_or o b) h
+due_first (faults.BadOrder d) a b h = ap (λ (o : Option rules.DerivFault). option_or o b) h
 
 -- without one, the others decide
-pub tells_next : (result : Result (Unit {0}) DerivFault) (a b : Option DerivationFault) → a ≡ None → Tells result b → Tells result (option_or a b)
-tells_next result a b e h = subst (λ (o : Option DerivationFault). Tells result (option_or o b)) (sym e) h
+pub tells_next : (result : Result (Unit {0}) DerivFault) (a b : Option rules.DerivFault) → a ≡ None → Tells result b → Tells result (option_or a b)
+tells_next result a b e h = subst (λ (o : Option rules.DerivFault). Tells result (option_or o b)) (sym e) h
 
 -- a definition that is out of order comes before all others
-pub order_stops : (misplaced first : Option ℕ) (d : ℕ) (b : Option DerivationFault) → misplaced ≡ first → misplaced ≡ Some d → IsDue (faults.BadOrder d) (option_or (order_told first) b)
+pub order_stops : (misplaced first : Option ℕ) (d : ℕ) (b : Option rules.DerivFault) → misplaced ≡ first → misplaced ≡ Some d → IsDue (faults.BadOrder d) (option_or (order_told first) b)
 order_stops misplaced first d b same is = due_first (faults.BadOrder d) (order_told first) b (ap order_told (sym same ∙ is))
 
-pub order_passed : (result : Result (Unit {0}) DerivFault) (misplaced first : Option ℕ) (b : Option DerivationFault) → misplaced ≡ first → misplaced ≡ None → Tells result b → Tells result (option_or (order_told first) b)
+pub order_passed : (result : Result (Unit {0}) DerivFault) (misplaced first : Option ℕ) (b : Option rules.DerivFault) → misplaced ≡ first → misplaced ≡ None → Tells result b → Tells result (option_or (order_told first) b)
 order_passed result misplaced first b same is h = tells_next result (order_told first) b (ap order_told (sym same ∙ is)) h
 
 -- the body's fault comes before that of the certificate
-pub due_of_body : (answer : Answer) (fault due : DerivationFault) (others : AssertionTree → Option DerivationFault) → answer ≡ Err fault → fault ≡ due → fault_or (λ f. f) answer others ≡ Some due
+pub due_of_body : (answer : Answer) (fault due : rules.DerivFault) (others : AssertionTree → Option rules.DerivFault) → answer ≡ Err fault → fault ≡ due → fault_or (λ f. f) answer others ≡ Some due
 due_of_body answer fault due others h e = ap (λ (r : Answer). fault_or (λ f. f) r others) h ∙ ap Some e
 
-pub tells_behind : (result : Result (Unit {0}) DerivFault) (answer : Answer) (needed : AssertionTree) (others : AssertionTree → Option DerivationFault) → answer ≡ Ok needed → Tells result (others needed) → Tells result (fault_or (λ f. f) answer others)
+pub tells_behind : (result : Result (Unit {0}) DerivFault) (answer : Answer) (needed : AssertionTree) (others : AssertionTree → Option rules.DerivFault) → answer ≡ Ok needed → Tells result (others needed) → Tells result (fault_or (λ f. f) answer others)
 tells_behind result answer needed others e h = subst (λ (r : Answer). Tells result (fault_or (λ f. f) r others)) (sym e) h
 
 -- ---- the end of a body
@@ -99,7 +100,7 @@ tells_derived (Err fault) u proofs f h = tt
 -- ---- the fault of a walk that failed
 
 -- the path is turned round
-at_path : (failure : Failure) (path now : Vec ℕ Global) (cause : Cause) (due : DerivationFault) → failure ≡ failures.Fault path cause → fault_at (reverse path.items) cause ≡ due → (answer : Answer) (others : AssertionTree → Option DerivationFault) → FailsAs failure answer → fault_or (λ f. f) answer others ≡ Some due
+at_path : (failure : Failure) (path now : Vec ℕ Global) (cause : Cause) (due : rules.DerivFault) → failure ≡ failures.Fault path cause → fault_at (reverse path.items) cause ≡ due → (answer : Answer) (others : AssertionTree → Option rules.DerivFault) → FailsAs failure answer → fault_or (λ f. f) answer others ≡ Some due
 at_path failure path now cause due e k answer others h =
     due_of_body answer (fault_at (reverse path.items) cause) due others (subst (λ (x : Failure). FailsAs x answer) e h) k
 

@@ -20,7 +20,7 @@ use Rattle.qs_entail.specs.View.{certs_of}
 use Rattle.qs_core.specs.Trees as core
 use Rattle.qs_core.specs.Trees.{CoreExprTree, CoreFunctionTree, CoreUnitTree, stmts_of}
 use Rattle.qs_triples.specs.Derivations.{DerivationTree, leaf, sequence, conditional, balanced_call, no_derivations, derivation_and, EntryTree, ProofsTree}
-use Rattle.qs_triples.specs.Rules.{DerivationFault, entry}
+use Rattle.qs_triples.specs.Rules.{DerivFault, entry}
 use Rattle.qs_triples.specs.Entries.{entry_fault}
 
 -- ---- the unit
@@ -129,7 +129,7 @@ of_main = record {
 abbrev proofs : ProofsTree
 proofs = record { defines = []; functions = of_parity 0 10 ∷ of_parity 1 11 ∷ of_main ∷ [] }
 
-abbrev fault_of : EntryTree → Option DerivationFault
+abbrev fault_of : EntryTree → Option DerivFault
 fault_of e = entry_fault unit proofs e
 
 -- ---- right

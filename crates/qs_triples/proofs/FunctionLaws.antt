@@ -3,6 +3,7 @@ use Rattle.std.proofs.Common.{◌≡◌, ℕ, suc, ◌+◌, ◌==◌, Bool, true
 use Rattle.std.specs.Prelude.{cond}
 use Rattle.std.specs.List.{slice_get, find}
 use Rattle.std.proofs.lemmas.Option.{slice_get-map}
+use Rattle.std.proofs.lemmas.Bool.{eqb-true}
 use Rattle.qs_memory.specs.Values.{Value}
 use Rattle.qs_memory.specs.Memory.{Memory, make, release}
 use Rattle.qs_memory.proofs.BlockLaws.{after_make, blocks_are_fresh}
@@ -42,7 +43,7 @@ use Rattle.qs_triples.specs.Entries.{function_posts, scope_of, mentions_fault, o
 use Rattle.qs_triples.proofs.Answers.{Gives, or_none, fault_or_none}
 use Rattle.qs_triples.proofs.Bounds.{IsBelow, below_more, below_at, returned, entering}
 use Rattle.qs_triples.proofs.Names.{seen, shown}
-use Rattle.qs_triples.proofs.ValuationLaws.{in_range, number_equal, mentioned_alone}
+use Rattle.qs_triples.proofs.ValuationLaws.{in_range, mentioned_alone}
 use Rattle.qs_triples.proofs.MomentLaws.{entry_locals, entry_below, returned_later}
 use Rattle.qs_triples.proofs.RuleLaws.{at_valuation, KeepsSpec, AllKeepSpecs, AreEnough, sound}
 
@@ -53,7 +54,7 @@ found_entry [] g e h = cc
 found_entry (d ∷ es) g e h = by (d.function == g) refl h (found_entry es g e)
   where
     by : (b : Bool) → (d.function == g) ≡ b → cond b (Some d) (find (is_entry_of g) es) ≡ Some e → (find (is_entry_of g) es ≡ Some e → e.function ≡ g) → e.function ≡ g
-    by true same h others = sym (ap (λ (e : EntryTree). e.function) (some_same d e h)) ∙ number_equal d.function g same
+    by true same h others = sym (ap (λ (e : EntryTree). e.function) (some_same d e h)) ∙ eqb-true d.function g same
     by false same h others = others h
 
 pub entry_is_of : (proofs : ProofsTree) (g : ℕ) (e : EntryTree) → entry_of proofs g ≡ Some e → e.function ≡ g
@@ -76,7 +77,7 @@ mention_none : (place : Place) (o : Option Var) → mentions_fault place o ≡ N
 mention_none place None h = refl
 mention_none place (Some x) h = cc
 
-entry_none : (o : Option certificates.Fault) → entry_told o ≡ None → o ≡ None
+entry_none : (o : Option certificates.CertFault) → entry_told o ≡ None → o ≡ None
 entry_none None h = refl
 entry_none (Some fault) h = cc
 

@@ -1,5 +1,6 @@
 pub mod Modulo
 pub mod Names
+pub mod FunctionNames
 pub mod Bounds
 pub mod Answers
 pub mod ValuationLaws

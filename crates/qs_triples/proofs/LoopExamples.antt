@@ -23,7 +23,7 @@ use Rattle.qs_core.specs.declared.numbers.Target.TheVariants as targets
 use Rattle.qs_core.specs.Trees as core
 use Rattle.qs_core.specs.Trees.{CoreExprTree, CoreStmtTree, CoreVariableTree, CoreFunctionTree, CoreUnitTree, stmts_of}
 use Rattle.qs_triples.specs.Derivations.{DerivationTree, leaf, sequence, conditional, loop, call, balanced_call, consequence, DerivationTrees, no_derivations, derivation_and, SpecTree, EntryTree, ProofsTree}
-use Rattle.qs_triples.specs.Rules.{in_postcondition, at_node, DerivationFault, shape, mentions, certificate, entry}
+use Rattle.qs_triples.specs.Rules.{in_postcondition, at_node, DerivFault, shape, mentions, certificate, entry}
 use Rattle.qs_triples.specs.Entries.{entry_fault}
 
 abbrev int_variable : VarKind → Var
@@ -145,7 +145,7 @@ main_with a d = record {
   body = sequence (listed (leaf ∷ leaf ∷ d ∷ leaf ∷ leaf ∷ []));
 }
 
-abbrev fault_of : EntryTree → Option DerivationFault
+abbrev fault_of : EntryTree → Option DerivFault
 fault_of e = entry_fault unit proofs e
 
 main_is_derived : fault_of (main_with (cost 0) (loop (cost 0) same body_derivation step_derivation)) ≡ None
@@ -213,7 +213,7 @@ the_other_argument_behind = refl
 
 -- ---- the end of a body
 
-abbrev k_and : AssertionTree → Option DerivationFault
+abbrev k_and : AssertionTree → Option DerivFault
 k_and post = fault_of (record { function = 3; spec = record { pre = natural 0; post = post }; entry = same; body = leaf })
 
 -- the end of k's body is met, where there is no result

@@ -4,6 +4,7 @@ use Rattle.std.specs.Prelude.{ℤ, pos, negsuc, ◌+ℤ◌, ◌-ℤ◌, ◌*ℤ�
 use Rattle.std.proofs.lemmas.Int.{ints}
 use Rattle.std.proofs.lemmas.Bool.Decides.{nat_tests}
 use Rattle.std.proofs.Math.IntN.{*ℤ_comm}
+use Rattle.qs_entail.proofs.Numbers.{unsigned_least, unsigned_greatest}
 use Rattle.qs_base.specs.Words.{signed}
 use Rattle.qs_poly.proofs.Ring.{mul_add, mul_assoc}
 use Rattle.qs_assert.specs.Values.{wrapped_unsigned, wrapped_signed}
@@ -20,22 +21,14 @@ unsigned_like : (z : ℤ) → Like (wrapped_unsigned z) z
 unsigned_like (pos n) = record { times = negsuc (n / 4294967296) +ℤ pos 1; is = omega (arith, ints) }
 unsigned_like (negsuc n) = record { times = pos (n / 4294967296 + 1); is = omega (arith, ints) }
 
-unsigned_low : (z : ℤ) → pos 0 ≤ℤ wrapped_unsigned z
-unsigned_low (pos n) = omega (arith, ints)
-unsigned_low (negsuc n) = omega (arith, ints)
-
-unsigned_high : (z : ℤ) → wrapped_unsigned z ≤ℤ pos 4294967295
-unsigned_high (pos n) = omega (arith, ints)
-unsigned_high (negsuc n) = omega (arith, ints)
-
 pub unsigned_same : (a b : ℤ) → Like a b → wrapped_unsigned a ≡ wrapped_unsigned b
 unsigned_same a b l =
     let i = unsigned_like a in
     let j = unsigned_like b in
-    let al = unsigned_low a in
-    let ah = unsigned_high a in
-    let bl = unsigned_low b in
-    let bh = unsigned_high b in
+    let al = unsigned_least a in
+    let ah = unsigned_greatest a in
+    let bl = unsigned_least b in
+    let bh = unsigned_greatest b in
     let le = l.is in
     let ie = i.is in
     let je = j.is in

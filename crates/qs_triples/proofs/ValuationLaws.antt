@@ -3,6 +3,7 @@ use Rattle.std.proofs.Common.{◌≡◌, ℕ, ◌%◌, ◌==◌, Bool, true, fal
 use Rattle.std.specs.Prelude.{ℤ, pos, negsuc, ◌-ℤ◌, ◌≤ℤ◌, ◌&&◌, not, is_none, nat_lt}
 use Rattle.std.proofs.lemmas.Int.{ints}
 use Rattle.std.proofs.lemmas.Bool.Decides.{nat_tests}
+use Rattle.std.proofs.lemmas.Bool.{eqb-true}
 use Rattle.qs_base.specs.Words.{signed}
 use Rattle.qs_memory.specs.Values.{Value, integer, address}
 use Rattle.qs_events.specs.Weights.{Costs}
@@ -66,13 +67,10 @@ in_range cost ds f v = record { from_least = λ x. (number_at_in f v x).0; to_gr
 
 -- ---- kinds and types
 
-pub number_equal : (x y : ℕ) → (x == y) ≡ true → x ≡ y
-number_equal x y h = grind (arith, nat_tests, h)
-
 pub kind_equal : (k j : VarKind) → same_kind k j ≡ true → k ≡ j
-kind_equal (kinds.Plain x) (kinds.Plain y) h = ap kinds.Plain (number_equal x y h)
-kind_equal (kinds.Temporary x) (kinds.Temporary y) h = ap kinds.Temporary (number_equal x y h)
-kind_equal (kinds.Old x) (kinds.Old y) h = ap kinds.Old (number_equal x y h)
+kind_equal (kinds.Plain x) (kinds.Plain y) h = ap kinds.Plain (eqb-true x y h)
+kind_equal (kinds.Temporary x) (kinds.Temporary y) h = ap kinds.Temporary (eqb-true x y h)
+kind_equal (kinds.Old x) (kinds.Old y) h = ap kinds.Old (eqb-true x y h)
 kind_equal kinds.Returned kinds.Returned h = refl
 kind_equal _ _ h = cc
 

@@ -22,7 +22,7 @@ use Rattle.qs_core.specs.CallGraph.{HasCall}
 use Rattle.qs_triples.specs.Derivations.{EntryTree, ProofsTree, entry_of, entries_of, spec_of}
 use Rattle.qs_triples.specs.Valuations.{value_at_entry}
 use Rattle.qs_triples.specs.Mentions.{in_pre, in_post, first_other, first_of, as_plain}
-use Rattle.qs_triples.specs.Rules.{Place, in_precondition, in_postcondition, DerivationFault, shape, mentions, entry, bad_order, Posts, Scope, pre}
+use Rattle.qs_triples.specs.Rules.{Place, in_precondition, in_postcondition, DerivFault, shape, mentions, entry, bad_order, Posts, Scope, pre}
 
 -- ---- derived entries
 
@@ -53,15 +53,15 @@ abbrev pub scope_of : CoreUnitTree → ProofsTree → CoreFunctionTree → Scope
 scope_of u proofs f =
     record { function = f; functions = u.functions; specs = spec_of proofs; defines = proofs.defines }
 
-abbrev pub mentions_fault : Place → Option Var → Option DerivationFault
+abbrev pub mentions_fault : Place → Option Var → Option DerivFault
 mentions_fault place None = None
 mentions_fault place (Some x) = Some (mentions place None x)
 
-abbrev pub order_told : Option ℕ → Option DerivationFault
+abbrev pub order_told : Option ℕ → Option DerivFault
 order_told None = None
 order_told (Some d) = Some (bad_order d)
 
-abbrev pub entry_told : Option certificates.Fault → Option DerivationFault
+abbrev pub entry_told : Option certificates.CertFault → Option DerivFault
 entry_told None = None
 entry_told (Some fault) = Some (entry fault)
 
@@ -69,7 +69,7 @@ entry_told (Some fault) = Some (entry fault)
 abbrev pub result_at_end : CoreFunctionTree → (post : AssertionTree) → Option Var
 result_at_end f post = elim (ends_in_return f.body) [ true ↦ None | false ↦ first_of kinds.Returned post ]
 
-abbrev pub fault_in : CoreUnitTree → ProofsTree → CoreFunctionTree → EntryTree → Option DerivationFault
+abbrev pub fault_in : CoreUnitTree → ProofsTree → CoreFunctionTree → EntryTree → Option DerivFault
 fault_in u proofs f e =
     option_or (order_told (order_fault proofs.defines))
     (option_or (mentions_fault in_precondition (first_other f (in_pre f) e.spec.pre))
@@ -79,25 +79,25 @@ fault_in u proofs f e =
     (pre e.body (scope_of u proofs f) (core.seq f.body) (function_posts e.spec.post))
     (λ p. entry_told (verdict [] proofs.defines e.spec.pre (assertion_image as_plain p) e.entry))))))
 
-abbrev pub fault_of_known : CoreUnitTree → ProofsTree → Option CoreFunctionTree → EntryTree → Option DerivationFault
+abbrev pub fault_of_known : CoreUnitTree → ProofsTree → Option CoreFunctionTree → EntryTree → Option DerivFault
 fault_of_known u proofs (Some f) e = fault_in u proofs f e
 -- never asked
 fault_of_known u proofs None e = Some (shape [])
 
 -- the first fault of an entry, in the order of search
-abbrev pub entry_fault : CoreUnitTree → ProofsTree → EntryTree → Option DerivationFault
+abbrev pub entry_fault : CoreUnitTree → ProofsTree → EntryTree → Option DerivFault
 entry_fault u proofs e = fault_of_known u proofs (slice_get u.functions e.function) e
 
 abbrev pub IsDerived : CoreUnitTree → ProofsTree → EntryTree → Type 0
 IsDerived u proofs e = entry_fault u proofs e ≡ None
 
 -- the first fault of the first entry of a function
-abbrev pub fault_of_entry : CoreUnitTree → ProofsTree → Option EntryTree → Option DerivationFault
+abbrev pub fault_of_entry : CoreUnitTree → ProofsTree → Option EntryTree → Option DerivFault
 fault_of_entry u proofs (Some e) = entry_fault u proofs e
 -- never asked
 fault_of_entry u proofs None = Some (shape [])
 
-abbrev pub function_fault : CoreUnitTree → ProofsTree → (function : ℕ) → Option DerivationFault
+abbrev pub function_fault : CoreUnitTree → ProofsTree → (function : ℕ) → Option DerivFault
 function_fault u proofs f = fault_of_entry u proofs (entry_of proofs f)
 
 pub record HasDerivedEntry (u : CoreUnitTree) (proofs : ProofsTree) (function : ℕ) : Type 0 where

@@ -34,23 +34,23 @@ pub data Place : Type 0 where
   in_postcondition : Place
   at_node : (path : List ℕ) → Place
 
-pub data DerivationFault : Type 0 where
+pub data DerivFault : Type 0 where
   -- a node that isn't one for its statement
-  shape : (path : List ℕ) → DerivationFault
+  shape : (path : List ℕ) → DerivFault
   -- a variable that may not be mentioned there; or one of the function that is called there, that is needed and has no
   -- term
-  mentions : Place → (callee : Option ℕ) → Var → DerivationFault
+  mentions : Place → (callee : Option ℕ) → Var → DerivFault
   -- a certificate that doesn't show what it is to show
-  certificate : (path : List ℕ) → certificates.Fault → DerivationFault
+  certificate : (path : List ℕ) → certificates.CertFault → DerivFault
   -- a call of a function without a specification
-  no_spec : (path : List ℕ) → (callee : ℕ) → DerivationFault
+  no_spec : (path : List ℕ) → (callee : ℕ) → DerivFault
   -- the certificate that the precondition is enough
-  entry : certificates.Fault → DerivationFault
+  entry : certificates.CertFault → DerivFault
   -- a definition with a name that isn't defined earlier
-  bad_order : (definition : ℕ) → DerivationFault
+  bad_order : (definition : ℕ) → DerivFault
 
 abbrev pub Answer : Type 0
-Answer = Result AssertionTree DerivationFault
+Answer = Result AssertionTree DerivFault
 
 -- ---- places
 
@@ -62,7 +62,7 @@ place_below i in_precondition = in_precondition
 place_below i in_postcondition = in_postcondition
 place_below i (at_node path) = at_node (i ∷ path)
 
-abbrev pub fault_below : ℕ → DerivationFault → DerivationFault
+abbrev pub fault_below : ℕ → DerivFault → DerivFault
 fault_below i (shape path) = shape (i ∷ path)
 fault_below i (mentions place g x) = mentions (place_below i place) g x
 fault_below i (certificate path fault) = certificate (i ∷ path) fault
@@ -85,7 +85,7 @@ unless_of g (Some x) next = Err (mentions here g x)
 abbrev pub unless : Option Var → Answer → Answer
 unless found next = unless_of None found next
 
-abbrev pub by_verdict : Option certificates.Fault → AssertionTree → Answer
+abbrev pub by_verdict : Option certificates.CertFault → AssertionTree → Answer
 by_verdict None r = Ok r
 by_verdict (Some fault) r = Err (certificate [] fault)
 

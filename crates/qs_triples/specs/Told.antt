@@ -7,7 +7,8 @@ use Rattle.qs_core.specs.Trees.{CoreFunctionTree}
 use Rattle.qs_entail.specs.declared.fault.CertFault.{CertFault}
 use Rattle.qs_entail.specs.declared.fault.CertFault.TheVariants as certs
 use Rattle.qs_entail.specs.Answers.{fault_of}
-use Rattle.qs_entail.specs.Faults.{Fault, step, limit}
+use Rattle.qs_entail.specs.Faults as certificates
+use Rattle.qs_entail.specs.Faults.{step, limit}
 use Rattle.qs_triples.specs.declared.failure.Cause.{Cause}
 use Rattle.qs_triples.specs.declared.failure.Cause.TheVariants as causes
 use Rattle.qs_triples.specs.declared.fault.DerivFault.{DerivFault}
@@ -18,7 +19,7 @@ use Rattle.qs_triples.specs.declared.failure.Failure.{Failure}
 use Rattle.qs_triples.specs.declared.failure.Failure.TheVariants as failures
 use Rattle.qs_triples.specs.Entries.{mentions_fault, result_at_end}
 use Rattle.qs_triples.specs.Rules as rules
-use Rattle.qs_triples.specs.Rules.{unless_of, DerivationFault, Answer, shape, mentions, in_precondition, in_postcondition, at_node, certificate, no_spec, entry, bad_order}
+use Rattle.qs_triples.specs.Rules.{unless_of, Answer, shape, mentions, in_precondition, in_postcondition, at_node, certificate, no_spec, entry, bad_order}
 
 -- the number of the function that is called, if the variable is one of its own
 abbrev pub callee_view : Option FnId → Option ℕ
@@ -28,7 +29,7 @@ callee_view (Some g) = Some g.0
 -- ---- in the walk over a body
 
 -- a fault at a path
-abbrev pub fault_at : List ℕ → Cause → DerivationFault
+abbrev pub fault_at : List ℕ → Cause → rules.DerivFault
 fault_at path causes.Shape = shape path
 fault_at path (causes.Mentions g x) = mentions (at_node path) (callee_view g) x
 fault_at path (causes.Step inner rule) = certificate path (step inner.items rule)
@@ -74,13 +75,13 @@ place_view places.Postcondition = in_postcondition
 place_view (places.Node path) = at_node path.items
 
 -- the fault of a certificate there; want of memory is told apart from it
-abbrev pub IsOfCertificate : (Fault → DerivationFault) → CertFault → Option DerivationFault → Type 0
+abbrev pub IsOfCertificate : (certificates.CertFault → rules.DerivFault) → CertFault → Option rules.DerivFault → Type 0
 IsOfCertificate there certs.NoMemory due = ⊥
 IsOfCertificate there (certs.Step path rule) due = due ≡ Some (there (step path.items rule))
 IsOfCertificate there (certs.Limit path l) due = due ≡ Some (there (limit path.items (fault_of l)))
 
 -- the fault that is told is the one that is due, want of memory aside
-abbrev pub IsDue : DerivFault → Option DerivationFault → Type 0
+abbrev pub IsDue : DerivFault → Option rules.DerivFault → Type 0
 IsDue faults.NoMemory due = Unit {0}
 IsDue (faults.Shape path) due = due ≡ Some (shape path.items)
 IsDue (faults.Mentions place g x) due = due ≡ Some (mentions (place_view place) (callee_view g) x)
@@ -90,7 +91,7 @@ IsDue (faults.Entry fault) due = IsOfCertificate entry fault due
 IsDue (faults.BadOrder d) due = due ≡ Some (bad_order d)
 
 -- there is no fault, or the first one is told
-abbrev pub Tells : Result (Unit {0}) DerivFault → Option DerivationFault → Type 0
+abbrev pub Tells : Result (Unit {0}) DerivFault → Option rules.DerivFault → Type 0
 Tells (Ok u) due = due ≡ None
 Tells (Err fault) due = IsDue fault due
 

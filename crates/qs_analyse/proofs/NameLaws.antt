@@ -4,7 +4,7 @@ use Rattle.std.specs.Prelude.{bytes_eq, not}
 use Rattle.std.specs.List.{list_all}
 use Rattle.std.proofs.lemmas.Bool.{both_ways, and_parts, and_from, eq-eqb, not-true}
 use Rattle.qs_assert.specs.Bounds.{same_name}
-use Rattle.qs_assert.proofs.Same.{name_equal}
+use Rattle.qs_assert.proofs.SamenessLaws.{name_equal}
 use Rattle.qs_core.specs.Fits.{differ, unit_fits}
 use Rattle.qs_core.specs.Trees.{CoreFunctionTree, CoreUnitTree}
 use Rattle.qs_core.specs.FunctionNames.{function_name, name_in}

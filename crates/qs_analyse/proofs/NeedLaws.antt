@@ -12,7 +12,7 @@ use Rattle.qs_assert.specs.declared.node.Node.{Node}
 use Rattle.qs_assert.specs.declared.node.Node.TheVariants.{Term, Condition, Assertion}
 use Rattle.qs_assert.specs.Listing.{assertion_nodes}
 use Rattle.qs_assert.specs.Variables.{variables, all_variables, head_variables, node_variables}
-use Rattle.qs_assert.proofs.Variabled.{listed, assertion_listed}
+use Rattle.qs_assert.proofs.VariableLaws.{listed, assertion_listed}
 use Rattle.std.proofs.lemmas.List.Folds.{list_any-append}
 use Rattle.qs_entail.specs.Meaning.{AtLeast}
 use Rattle.qs_triples.specs.Filled.{for_call, for_calls, has_variables}

@@ -14,7 +14,7 @@ use Rattle.qs_assert.specs.declared.variable.Var.{Var}
 use Rattle.qs_assert.specs.declared.variable.VarKind.TheVariants as kinds
 use Rattle.qs_assert.specs.Order.{IsInOrder}
 use Rattle.qs_assert.specs.Trees.{TermTree, AssertionTree, cost, total, greatest, AssertionTrees, no_assertions, assertion_and, assertions_of}
-use Rattle.qs_assert.proofs.Same.{assertion_self}
+use Rattle.qs_assert.proofs.SamenessLaws.{assertion_self}
 use Rattle.qs_core.specs.CallGraph.{callee, callees, all_callees, called_by, is_member}
 use Rattle.qs_core.specs.Trees as core
 use Rattle.qs_core.specs.Trees.{CoreExprTree, CoreStmtTree, CoreStmts, no_stmts, stmt_and, stmts_of, CoreFunctionTree, CoreUnitTree}

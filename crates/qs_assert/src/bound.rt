@@ -23,7 +23,7 @@ fn reckon(
 }
 
 /// Adds the value of a definition, unless its name has one.
-#[tactic(auto, using(crate::proofs::Tabled::amount_kept))]
+#[tactic(auto, using(crate::proofs::TableLaws::amount_kept))]
 fn add(
     alloc: Global,
     define: &Define,

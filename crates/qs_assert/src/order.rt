@@ -8,7 +8,7 @@ use crate::{Assertion, AssertionNode, Define, Node};
 use qs_base::Name;
 
 // Sought from both ends, as a definition mostly names the one before it or one of the first.
-#[tactic(auto, using(crate::proofs::Ordered::before_behind, crate::proofs::Ordered::neither_end))]
+#[tactic(auto, using(crate::proofs::OrderLaws::before_behind, crate::proofs::OrderLaws::neither_end))]
 fn is_among(defines: &[Define], name: &Name) -> bool
     ensures { result ≡ is_among defines.now name.now }
 {

@@ -34,7 +34,7 @@ use Rattle.qs_build.specs.Limits.{Passes}
 use Rattle.qs_build.specs.declared.fault.BuildFault.{BuildFault}
 use Rattle.qs_build.specs.declared.fault.BuildFault.TheVariants.{NoMemory, TooManyFunctions, NamesTooLong, TooManyParameters, FrameTooLarge, DataTooLarge, CodeTooLong}
 use Rattle.qs_build.proofs.UnsignedLaws.{set_holds, set_small}
-use Rattle.qs_build.proofs.Fitting.{IsMain, is_main, function_found, first_memory, emittable}
+use Rattle.qs_build.proofs.FitLaws.{IsMain, is_main, function_found, first_memory, emittable}
 use Rattle.qs_build.proofs.SizeLaws.{data_fits, data_few, function_count, within_sizes}
 use Rattle.qs_build.proofs.WellFormed.{well_formed}
 use Rattle.qs_build.proofs.DoesAsCore.{images_do_as_core}

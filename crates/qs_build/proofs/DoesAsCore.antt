@@ -17,14 +17,14 @@ use Rattle.qs_machine.specs.Run.{machine, least_stack_pointer}
 use Rattle.qs_lower.proofs.LoweringLaws.{lowering_follows}
 use Rattle.qs_emit.specs.Images.{AreCosts, IsWithinLimits}
 use Rattle.qs_emit.specs.Emitted.{start_run, MayStart, FollowsFrom, Emitted}
-use Rattle.qs_emit.proofs.Whole.{images_follow}
+use Rattle.qs_emit.proofs.ImageLaws.{images_follow}
 use Rattle.qs_build.specs.Follows.{Follows}
 use Rattle.qs_build.specs.Units.{linear, own_slots, start_of, IsWithinSizes, MainReturns}
 use Rattle.qs_build.specs.Built.{IsBuiltFrom}
 use Rattle.qs_build.specs.Agrees.{values_of, runs_of, HasStack}
 use Rattle.qs_build.specs.Laws.{ImagesDoAsCore}
-use Rattle.qs_build.proofs.Through.{agreement_goes_through, accounts_go_through}
-use Rattle.qs_build.proofs.Fitting.{words_small, may_start, returns_integer, first_memory, emittable}
+use Rattle.qs_build.proofs.FollowLaws.{agreement_goes_through, accounts_go_through}
+use Rattle.qs_build.proofs.FitLaws.{words_small, may_start, returns_integer, first_memory, emittable}
 
 module _ (u : CoreUnitTree) (image : Image) (fits : unit_fits u ≡ true) (sizes : IsWithinSizes u) (returns : MainReturns u) (built : IsBuiltFrom u image) (limits : IsWithinLimits image) where
   emitted : Emitted (linear u) (initial_memory u) image

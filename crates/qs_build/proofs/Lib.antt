@@ -1,5 +1,5 @@
-pub mod Through
-pub mod Fitting
+pub mod FollowLaws
+pub mod FitLaws
 pub mod DoesAsCore
 pub mod UnsignedLaws
 pub mod SlotLaws

@@ -42,7 +42,7 @@ use Rattle.qs_build.specs.Limits.{code_words, selection_fault, Passes}
 use Rattle.qs_build.specs.Small.{most_block_bytes, most_values, IsSmall, SmallUnitsPassNoSize}
 use Rattle.qs_build.specs.declared.fault.BuildFault.{BuildFault}
 use Rattle.qs_build.specs.declared.fault.BuildFault.TheVariants.{NoMemory, TooManyFunctions, NamesTooLong, TooManyParameters, FrameTooLarge, DataTooLarge, CodeTooLong}
-use Rattle.qs_build.proofs.Fitting.{slots_accepted, function_found, few_parameters}
+use Rattle.qs_build.proofs.FitLaws.{slots_accepted, function_found, few_parameters}
 
 -- ---- lists
 

@@ -29,14 +29,14 @@ use Rattle.qs_emit.specs.Surroundings.{Surroundings}
 use Rattle.qs_emit.specs.Relation.{Setup, context, entry, place, cost_at, context_at}
 use Rattle.qs_emit.specs.Images.{record_at, no_record, IsWithinLimits}
 use Rattle.qs_emit.specs.Emitted.{AreSurroundings}
-use Rattle.qs_emit.proofs.Beginning.{quiet_room}
+use Rattle.qs_emit.proofs.StartLaws.{quiet_room}
 use Rattle.qs_emit.proofs.SetUp.{set_up}
-use Rattle.qs_emit.proofs.Laid.{plain_laid, has_function}
+use Rattle.qs_emit.proofs.CodePlaces.{plain_laid, has_function}
 use Rattle.qs_emit.proofs.DataBytes.{data_small}
 use Rattle.qs_build.specs.Units.{linear, own_slots, IsWithinSizes}
 use Rattle.qs_build.specs.Built.{IsBuiltFrom}
 use Rattle.qs_build.specs.Limits.{bytes_of_names}
-use Rattle.qs_build.proofs.Fitting.{first_memory, emittable}
+use Rattle.qs_build.proofs.FitLaws.{first_memory, emittable}
 
 -- ---- names
 

@@ -15,7 +15,7 @@ use Rattle.qs_assert.specs.Substitution.{same_variable}
 use Rattle.qs_assert.specs.Trees.{AssertionTree}
 use Rattle.qs_assert.specs.Values.{State, Extended, finite, infinite, plus, value}
 use Rattle.qs_assert.specs.Variables.{variables, mentions}
-use Rattle.qs_assert.proofs.Variabled.{of_its_variables}
+use Rattle.qs_assert.proofs.VariableLaws.{of_its_variables}
 use Rattle.qs_entail.specs.Meaning.{AtLeast}
 use Rattle.qs_core.specs.Fits.{main_name, is_main, unit_fits}
 use Rattle.qs_core.specs.Interfaces.{signature, interface_of, parameter_types, types_of_main}

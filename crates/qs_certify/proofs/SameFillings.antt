@@ -13,7 +13,7 @@ use Rattle.qs_assert.specs.Bounds.{same_name}
 use Rattle.qs_assert.specs.Images.{assertion_image}
 use Rattle.qs_assert.specs.Order.{names_known, is_among, order_fault_behind, IsInOrder}
 use Rattle.qs_assert.specs.Trees.{AssertionTree, infinity}
-use Rattle.qs_assert.proofs.Same.{name_equal}
+use Rattle.qs_assert.proofs.SamenessLaws.{name_equal}
 use Rattle.qs_core.specs.CallGraph.{called_by, is_member}
 use Rattle.qs_core.specs.Fits.{unit_fits}
 use Rattle.qs_core.specs.Trees as core

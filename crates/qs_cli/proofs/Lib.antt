@@ -1,9 +1,9 @@
 pub mod Arguments
 pub mod Digits
 pub mod Forms
-pub mod Once
+pub mod OptionLaws
 pub mod Rules
 pub mod Walk
-pub mod Parsed
+pub mod ParserLaws
 pub mod Shapes
 pub mod Results

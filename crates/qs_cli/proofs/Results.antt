@@ -5,7 +5,7 @@ use Rattle.std.proofs.Math.Path.{fun_ext}
 use Rattle.qs_cli.specs.Words.{Text, Item, Options, items, among, operand, names_of, fits, reading, value_of, Values}
 use Rattle.qs_cli.specs.Parser.{flat}
 use Rattle.qs_cli.proofs.Walk.{is_nil}
-use Rattle.qs_cli.proofs.Parsed.{flat_decides, flat_rows, flat_simple, flat_free, first_of-map}
+use Rattle.qs_cli.proofs.ParserLaws.{flat_decides, flat_rows, flat_simple, flat_free, first_of-map}
 use Rattle.clap.specs.Words.{App, HasMatchesOf, HasKind, IsAmong, Kinds, fault_of, is_simple, is_simple_and_free, kind_of, found_of, first_value, first_of, matches_of}
 use Rattle.clap.proofs.WalkLemmas.{first_value-rows}
 use Rattle.clap.specs.declared.error.Error.{Error}

@@ -6,7 +6,7 @@ use Rattle.std.specs.Option.{option_map_or, is_some}
 use Rattle.std.proofs.lemmas.Slice.Eq.{bytes_eq-Decides}
 use Rattle.qs_cli.specs.Words.{Text, Word, Plain, Assigned, Named, Excluded, word_of, Item, Operand, Setting, put, placed, items_from, operand, key, among, is_known, is_allowed, is_complete, stands, Options, names_of, fits}
 use Rattle.qs_cli.proofs.Forms.{IsPlain, IsLong, Seen, word_seen}
-use Rattle.qs_cli.proofs.Once.{each_once, stands-append, each_once_all}
+use Rattle.qs_cli.proofs.OptionLaws.{each_once, stands-append, each_once_all}
 use Rattle.qs_cli.proofs.Rules.{base, rules, long_known, long_unknown, id_known, id_operand, first_place, second_place, row, has_row-map, used_fresh}
 use Rattle.clap.specs.Kinds.{Kinds, or_else}
 use Rattle.clap.specs.Walk.{Held, Row, Walk, idle, option, walked, nothing_held, settled, settled_rows, has_row, used, finished, with_default, pushed, walk, rows_after}

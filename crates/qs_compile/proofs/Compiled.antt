@@ -41,7 +41,7 @@ use Rattle.std.proofs.lemmas.List.{length-map}
 use Rattle.qs_typing.specs.TypedOf.{typed_tree}
 use Rattle.qs_typing.specs.declared.typed_unit.TypedUnit.{TypedUnit}
 use Rattle.qs_typing.proofs.TypedLaws.{is_read}
-use Rattle.qs_build.proofs.Fitting.{function_found}
+use Rattle.qs_build.proofs.FitLaws.{function_found}
 use Rattle.qs_build.proofs.SmallUnits.{slots_at}
 use Rattle.qs_build.specs.Agrees.{values_of, HasStack, DoesAsCore}
 use Rattle.qs_build.specs.Built.{IsBuiltFrom}

@@ -25,7 +25,7 @@ use Rattle.qs_grammar.proofs.UnitsComplete.{one_reading}
 use Rattle.qs_typing.specs.Refusals.{IsAccepted, IsCause, IsTold, first_refusal}
 use Rattle.qs_typing.specs.declared.checking.TypeFault.{TypeFault}
 use Rattle.qs_typing.specs.declared.checking.TypeFault.TheVariants as type_faults
-use Rattle.qs_typing.proofs.Checked.{nothing_refused}
+use Rattle.qs_typing.proofs.CheckingLaws.{nothing_refused}
 use Rattle.qs_ports.specs.StoreView.{StoreView}
 use Rattle.qs_driver.specs.Limits.{source_limit}
 use Rattle.qs_driver.specs.Files.{WasRead}

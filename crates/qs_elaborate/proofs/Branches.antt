@@ -21,7 +21,7 @@ use Rattle.qs_elaborate.specs.Expressions.{branch_with, truth_core, truth_litera
 use Rattle.qs_elaborate.proofs.Options.{given_and, given_same, and_same, if_same, given_if}
 use Rattle.qs_elaborate.proofs.Lists.{run_list, then_next, run-append, run_one, with-same, Kept, kept_with, kept_then, next_is}
 use Rattle.qs_elaborate.proofs.Values.{converted_is}
-use Rattle.qs_elaborate.proofs.Gives.{Worth, Source, value_ext, locals, context, worth, Gives, pure_gives, like_gives, map_gives, pure_value, GivesValued}
+use Rattle.qs_elaborate.proofs.OperandLaws.{Worth, Source, value_ext, locals, context, worth, Gives, pure_gives, like_gives, map_gives, pure_value, GivesValued}
 
 -- ---- choices
 

@@ -21,7 +21,7 @@ use Rattle.qs_meaning.specs.Expressions.{typed, plain_form}
 use Rattle.qs_meaning.specs.Blanks.{blank_of}
 use Rattle.qs_meaning.specs.Initialisers.{part_offset, Piece, pieces, pieces_from, text_set, assigned_set, piece_set, pieces_set, object_set, local_set}
 use Rattle.qs_meaning.proofs.Options.{never, left, right, nothing, same, Known}
-use Rattle.qs_meaning.proofs.Faultless.{none_left, none_right, unbroken}
+use Rattle.qs_meaning.proofs.FaultlessExpressions.{none_left, none_right, unbroken}
 use Rattle.qs_elaborate.specs.Counts.{is_object, is_fixed, effect_nodes}
 use Rattle.qs_elaborate.specs.ExpressionCounts.{initialiser_expressions, initialisers_expressions}
 use Rattle.qs_elaborate.proofs.CountedLess.{effect_less}

@@ -20,7 +20,7 @@ use Rattle.qs_meaning.specs.Names.{Scope, within, local_lvalue}
 use Rattle.qs_meaning.specs.Expressions.{typed}
 use Rattle.qs_meaning.specs.Statements.{initialised, behind_variable, variable_typed, variables_typed, effect_typed, option_effect, condition_typed, option_condition, start_typed, return_typed, inner, loop_body, in_for, statement_typed, statements_typed, else_typed}
 use Rattle.qs_meaning.proofs.Options.{same}
-use Rattle.qs_meaning.proofs.Faultless.{none_left, none_right, unbroken}
+use Rattle.qs_meaning.proofs.FaultlessExpressions.{none_left, none_right, unbroken}
 use Rattle.qs_elaborate.specs.Counts.{nodes, effect_nodes, option_nodes, statement_nodes, statements_nodes}
 use Rattle.qs_elaborate.specs.ExpressionCounts.{initialiser_expressions, variable_expressions, start_expressions, stmt_expressions, stmts_expressions, else_expressions}
 use Rattle.qs_elaborate.proofs.CountedLess.{nodes_less, effect_less}

@@ -21,7 +21,7 @@ use Rattle.qs_meaning.specs.Names.{Scope, Locals, within, place_among, local_lva
 use Rattle.qs_meaning.specs.Expressions.{typed}
 use Rattle.qs_meaning.specs.Statements.{initialised, behind_variable, variable_typed, variables_typed, effect_typed, option_effect, condition_typed, option_condition, start_typed, return_typed, inner, loop_body, in_for, statement_typed, statements_typed, else_typed}
 use Rattle.qs_meaning.proofs.Options.{never, right, same}
-use Rattle.qs_meaning.proofs.Faultless.{none_left, none_right, unbroken, second_unbroken}
+use Rattle.qs_meaning.proofs.FaultlessExpressions.{none_left, none_right, unbroken, second_unbroken}
 use Rattle.qs_meaning.proofs.Bodies.{not_held_back}
 use Rattle.qs_elaborate.specs.Counts.{nodes, effect_nodes, option_nodes, statement_nodes, statements_nodes}
 use Rattle.qs_elaborate.proofs.CountedTypes.{kept, typed_type, null_value, scalar_value, assignable_value}

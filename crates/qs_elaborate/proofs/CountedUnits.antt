@@ -21,7 +21,7 @@ use Rattle.qs_meaning.specs.Names.{Locals, Scope, within}
 use Rattle.qs_meaning.specs.Statements.{statements_typed}
 use Rattle.qs_meaning.specs.Units.{placed_among, variables_among, locals_of, parameters_in, scalars_of, sizes_of, parameter_typed, parameters_typed, in_body, function_with, function_typed, file_variables_typed, declaration_typed, declarations_typed, name_with_body, functions_in, start_scope, typed_of}
 use Rattle.qs_meaning.proofs.Options.{nothing, same}
-use Rattle.qs_meaning.proofs.Faultless.{none_left, none_right}
+use Rattle.qs_meaning.proofs.FaultlessExpressions.{none_left, none_right}
 use Rattle.qs_elaborate.specs.Counts.{nodes_in}
 use Rattle.qs_elaborate.specs.Names.{names_in}
 use Rattle.qs_elaborate.specs.SizeLaws.{NodesAreOfSource, SourceWordsAreFew}

@@ -8,7 +8,7 @@ use Rattle.qs_elaborate.specs.Acting.{acts}
 use Rattle.qs_elaborate.specs.Lists.{valued}
 use Rattle.qs_elaborate.specs.Parts.{Temporaries, Valued, Location, Located, pure, saved_if, address_saved_if, value_at, value_read}
 use Rattle.qs_elaborate.specs.Expressions.{updated_core, expression_core, lvalue_core, assignment_core}
-use Rattle.qs_elaborate.proofs.Behind.{saved_if_is, pushed_behind, value_behind, temporaries_behind}
+use Rattle.qs_elaborate.proofs.PushedParts.{saved_if_is, pushed_behind, value_behind, temporaries_behind}
 
 pub valued_is : (g : Valued) (ss : List CoreStmtTree) (a : CoreExprTree) (ts : Temporaries) → ss ≡ g.statements → a ≡ g.value → ts ≡ g.temporaries → valued ss a ts ≡ g
 valued_is g ss a ts h k l = ap (λ x. valued x a ts) h ∙ ap (λ x. valued g.statements x ts) k ∙ ap (λ x. valued g.statements g.value x) l

@@ -27,8 +27,8 @@ use Rattle.qs_elaborate.specs.Expressions.{block_of, operation_core, ValuedAll, 
 use Rattle.qs_elaborate.proofs.Options.{given_and, given_same, and_assoc, and_same, and_swap, copy_is}
 use Rattle.qs_elaborate.proofs.Lists.{run_list, then_next, run-append, with-same, kept_same, kept_with, next_is}
 use Rattle.qs_elaborate.proofs.Values.{converted_is, operation_is}
-use Rattle.qs_elaborate.proofs.Quiet.{quiet, quiet_arguments}
-use Rattle.qs_elaborate.proofs.Gives.{Worth, Source, value_ext, locals, context, worth, Gives, Does, pure_gives, like_gives, map_gives, GivesValued, saved_lasts, operands, does_then, does_both, gives_then}
+use Rattle.qs_elaborate.proofs.ActingLaws.{quiet, quiet_arguments}
+use Rattle.qs_elaborate.proofs.OperandLaws.{Worth, Source, value_ext, locals, context, worth, Gives, Does, pure_gives, like_gives, map_gives, GivesValued, saved_lasts, operands, does_then, does_both, gives_then}
 use Rattle.qs_elaborate.proofs.Branches.{converted_gives, and_gives, or_gives, choice_gives}
 use Rattle.qs_elaborate.proofs.Writes.{place_worth, GivesLocated, address_gives, read_gives, write_used, write_done, step_gives, set_writes, update_writes}
 

@@ -9,7 +9,7 @@ use Rattle.std.proofs.Math.Logic.{∥∥₁_elim}
 use mathlib.Core.Bool.{Bool-set}
 use Rattle.qs_base.specs.Names.{is_name}
 use Rattle.qs_syntax.specs.Sameness.{same_bytes}
-use Rattle.qs_syntax.proofs.Exact.{bytes_exact}
+use Rattle.qs_syntax.proofs.SamenessLaws.{bytes_exact}
 use Rattle.qs_syntax.specs.declared.nodes.Node.{Node}
 use Rattle.qs_syntax.specs.Trees.{ParameterTree, Stmts, FunctionTree, DeclTree, structure, forward, function, variables, UnitTree}
 use Rattle.qs_syntax.specs.Nodes.{function_nodes, decl_nodes, unit_nodes}
@@ -37,7 +37,7 @@ use Rattle.qs_meaning.specs.TypedLaws.{IsFileScope}
 use Rattle.qs_meaning.specs.InitialLaws.{texts_are_bytes}
 use Rattle.qs_meaning.specs.FitLaws.{are_different, IsAsRead}
 use Rattle.qs_meaning.proofs.Options.{Known}
-use Rattle.qs_meaning.proofs.Faultless.{none_left, none_right, unbroken, first_unbroken, second_unbroken}
+use Rattle.qs_meaning.proofs.FaultlessExpressions.{none_left, none_right, unbroken, first_unbroken, second_unbroken}
 use Rattle.qs_meaning.proofs.Functions.{all_fine, parameters_declared}
 use Rattle.qs_meaning.proofs.FunctionsTyped.{file_sound, result_known}
 use Rattle.qs_meaning.proofs.UnitsTyped.{declaration_known, start_known, units_typed}
@@ -50,8 +50,8 @@ use Rattle.qs_elaborate.specs.Names.{parameter_name, declared_parameter, stateme
 use Rattle.qs_elaborate.specs.Units.{unit_core}
 use Rattle.qs_elaborate.specs.FitLaws.{IsNamed, AreNamed, is_main_function, has_name, option_has_name, parameter_has_name, body_has_names, declaration_has_names, has_names, HasCore, UnitsHaveCores}
 use Rattle.qs_elaborate.proofs.FitParts.{together}
-use Rattle.qs_elaborate.proofs.FitDeclared.{part_self, part_behind, part_front, part_different, ids}
-use Rattle.qs_elaborate.proofs.FitNamed.{parameters_count, parameters_differ, named_function}
+use Rattle.qs_elaborate.proofs.FitDeclarations.{part_self, part_behind, part_front, part_different, ids}
+use Rattle.qs_elaborate.proofs.FitFunctionNames.{parameters_count, parameters_differ, named_function}
 use Rattle.qs_elaborate.proofs.FitRules.{is_new, parameters_new, main_type_kept, bodies_differ}
 use Rattle.qs_elaborate.proofs.FitMain.{int_result, parameters_promoted, main_given, main_found}
 use Rattle.qs_elaborate.proofs.FitUnits.{core_fits}

@@ -4,8 +4,8 @@ mod OutlineExamples
 mod Options
 mod Lists
 mod Values
-mod Quiet
-mod Gives
+mod ActingLaws
+mod OperandLaws
 mod Branches
 mod Writes
 mod Expressions
@@ -19,8 +19,8 @@ mod FitStatements
 mod FitData
 mod FitUnits
 mod FitNames
-mod FitDeclared
-pub mod FitNamed
+mod FitDeclarations
+pub mod FitFunctionNames
 pub mod SizeFacts
 pub mod SizeParts
 mod SizeValues
@@ -46,11 +46,11 @@ pub mod FitCore
 mod UnitExamples
 mod NumberingExamples
 mod WriteExamples
-mod Unchanged
-mod Behind
+mod UnchangedValues
+mod PushedParts
 mod Steps
 mod PieceRuns
-mod Settled
+mod SettledOperands
 mod NamesByNode
 mod UnitNames
 mod UnitCores

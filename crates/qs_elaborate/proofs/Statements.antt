@@ -15,7 +15,7 @@ use Rattle.qs_elaborate.specs.Expressions.{expression_core, effect_core}
 use Rattle.qs_elaborate.specs.Statements.{tested, guarded, looped, statement_core, statements_core}
 use Rattle.qs_elaborate.proofs.Options.{given_same}
 use Rattle.qs_elaborate.proofs.Lists.{run_list, then_next, run-append, run_one}
-use Rattle.qs_elaborate.proofs.Gives.{Source, locals, context, worth, GivesValued}
+use Rattle.qs_elaborate.proofs.OperandLaws.{Source, locals, context, worth, GivesValued}
 use Rattle.qs_elaborate.proofs.Branches.{chosen, converted_gives}
 use Rattle.qs_elaborate.proofs.Expressions.{expression_gives, effect_does}
 

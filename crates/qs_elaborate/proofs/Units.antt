@@ -20,7 +20,7 @@ use Rattle.qs_elaborate.specs.Units.{named_parameters, end_of_body, body_core, f
 use Rattle.qs_elaborate.specs.Laws.{CoreFollows, MainFollows}
 use Rattle.qs_elaborate.proofs.Data.{memory_kept}
 use Rattle.qs_elaborate.proofs.Lists.{run_list, then_next, run-append, runs_of}
-use Rattle.qs_elaborate.proofs.Gives.{context}
+use Rattle.qs_elaborate.proofs.OperandLaws.{context}
 use Rattle.qs_elaborate.proofs.Statements.{statements_follow}
 
 -- ---- bodies

@@ -22,7 +22,7 @@ use Rattle.qs_elaborate.specs.Expressions as elaborated
 use Rattle.qs_elaborate.proofs.Options.{given_and, given_same, and_assoc, and_same, given_twice, given_swap, given_pair, given_through, pair_twice, pair_shuffle}
 use Rattle.qs_elaborate.proofs.Lists.{run_list, then_next, run-append, with-same, Kept, kept_same, kept_with, kept_then, next_is}
 use Rattle.qs_elaborate.proofs.Values.{literal_is, converted_is, updated_is}
-use Rattle.qs_elaborate.proofs.Gives.{Worth, Source, value_ext, both_worth, both_source, locals, context, worth, Gives, Lasts, Does, like_gives, map_gives, GivesValued, constant_lasts, lasting_first, quiet_second, gives_then}
+use Rattle.qs_elaborate.proofs.OperandLaws.{Worth, Source, value_ext, both_worth, both_source, locals, context, worth, Gives, Lasts, Does, like_gives, map_gives, GivesValued, constant_lasts, lasting_first, quiet_second, gives_then}
 
 pub write_same : (s : Scalar) (p : Place) (y : Value) (k l : Next) → ((v : Environment) (w : World) → k v w ≡ l v w) → (v : Environment) (w : World) → write s p y k v w ≡ write s p y l v w
 write_same s (in_variable x) y k l h v w = h (with_value v x y) w

@@ -35,10 +35,10 @@ use Rattle.qs_emit.specs.Surroundings.{Lay, ground}
 use Rattle.qs_emit.specs.Relation.{Setup, context, function_at, IsAmong}
 use Rattle.qs_emit.proofs.Steps.{Does, Gets, IsFree, does_then, does_is, does_none, op_does, op_imm_does, lui_does, same_on, gets_on}
 use Rattle.qs_emit.proofs.Slots.{parts_sum, parts_behind, reads_free, gets_is, does_get, high_does}
-use Rattle.qs_emit.proofs.Kept.{saved_none}
+use Rattle.qs_emit.proofs.FrameLaws.{saved_none}
 use Rattle.qs_emit.proofs.Values.{member_word, moved_up, low_word}
 use Rattle.qs_emit.proofs.Operands.{holder, IsScratch, argument_scratch, IsThere, there_apart, reads_same, local_stands, data_stands, IsAmid, amid_on, operand_does}
-use Rattle.qs_emit.proofs.Computes.{product_does, Leaves, leaves_on, leaves_operand, leaves_gets}
+use Rattle.qs_emit.proofs.OperationLaws.{product_does, Leaves, leaves_on, leaves_operand, leaves_gets}
 
 -- ---- what an address points to, as words
 

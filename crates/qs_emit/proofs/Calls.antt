@@ -31,14 +31,14 @@ use Rattle.qs_emit.specs.Surroundings.{HasBlocks, Lay, ground}
 use Rattle.qs_emit.specs.Relation.{Setup, context, cost, entry, place, function_at, HasPlace, IsWaiting, HasStack, IsRelated, StandsAt, around}
 use Rattle.qs_emit.proofs.Injection.{value_here, value_there}
 use Rattle.qs_emit.proofs.Steps.{Takes, takes_on, takes_less, HasAt, straight, IsSteady, steady_on, Does, does_is, does_then, does_none, op_imm_does, stepped, takes_step, stirred_bytes, same_stirred}
-use Rattle.qs_emit.proofs.Kept.{related_own, related_to, related_fewer}
+use Rattle.qs_emit.proofs.FrameLaws.{related_own, related_to, related_fewer}
 use Rattle.qs_emit.proofs.Operands.{holder, argument_scratch, saved_apart, IsAmid, amid_gets, put_does}
-use Rattle.qs_emit.proofs.Looping.{link_acts}
-use Rattle.qs_emit.proofs.Laid.{IsCode, plain_laid, HasFunction, has_function, fits_between}
-use Rattle.qs_emit.proofs.Followed.{Reaches, Moved, steady_at, amid_at}
+use Rattle.qs_emit.proofs.LoopSteps.{link_acts}
+use Rattle.qs_emit.proofs.CodePlaces.{IsCode, plain_laid, HasFunction, has_function, fits_between}
+use Rattle.qs_emit.proofs.FollowedSteps.{Reaches, Moved, steady_at, amid_at}
 use Rattle.qs_emit.proofs.Jumps.{distance_back}
 use Rattle.qs_emit.proofs.Parameters.{InRegisters, pass_does, operands_count, Passed, passes}
-use Rattle.qs_emit.proofs.Enters.{IsEntered, enters}
+use Rattle.qs_emit.proofs.EntryLaws.{IsEntered, enters}
 
 -- what a call leaves of a file is in the file
 kept_fewer : (file : File) (p : Place) (v : Value) → kept file p ≡ Some v → file p ≡ Some v

@@ -30,11 +30,11 @@ use Rattle.qs_emit.proofs.Bytes.{number_small}
 use Rattle.qs_emit.proofs.Injection.{load_held, store_holds, stored_other}
 use Rattle.qs_emit.proofs.Steps.{Does, does_with, does_then, does_is, load_does, store_does}
 use Rattle.qs_emit.proofs.Slots.{word_at, byte_at, gets_is}
-use Rattle.qs_emit.proofs.Kept.{SameSaved, related_own}
+use Rattle.qs_emit.proofs.FrameLaws.{SameSaved, related_own}
 use Rattle.qs_emit.proofs.Access.{have_words, may_read_block, may_write_block}
-use Rattle.qs_emit.proofs.Written.{related_written}
+use Rattle.qs_emit.proofs.WriteLaws.{related_written}
 use Rattle.qs_emit.proofs.Operands.{holder, argument_scratch, saved_apart, reads_same, IsAmid, operand_does, holding, gives_does}
-use Rattle.qs_emit.proofs.Computes.{IsOperand, makes_last}
+use Rattle.qs_emit.proofs.OperationLaws.{IsOperand, makes_last}
 use Rattle.qs_emit.proofs.Anchors.{anchor_does}
 
 -- what a load's kind reads is the number of the bytes

@@ -41,13 +41,13 @@ use Rattle.qs_emit.specs.Lies.{StandsFor, SameOwn}
 use Rattle.qs_emit.specs.Surroundings.{Lay, ground}
 use Rattle.qs_emit.specs.Relation.{Setup, context, function_at, place, StandsAt, IsRelated}
 use Rattle.qs_emit.proofs.Steps.{Takes, takes_on, takes_less, takes_none, HasAt, Straight, straight, Does, does_is, IsSteady, steady_on}
-use Rattle.qs_emit.proofs.Kept.{related_own, related_to}
+use Rattle.qs_emit.proofs.FrameLaws.{related_own, related_to}
 use Rattle.qs_emit.proofs.Values.{truth_word, pointers_compared}
 use Rattle.qs_emit.proofs.Operands.{holder, argument_scratch, IsAmid, amid_on, operand_does}
-use Rattle.qs_emit.proofs.Computes.{both_does}
-use Rattle.qs_emit.proofs.Looping.{GoesTo, gone, goes, takes_branch, passes_branch}
-use Rattle.qs_emit.proofs.Laid.{fits_between}
-use Rattle.qs_emit.proofs.Followed.{Onward, steady_at, amid_at}
+use Rattle.qs_emit.proofs.OperationLaws.{both_does}
+use Rattle.qs_emit.proofs.LoopSteps.{GoesTo, gone, goes, takes_branch, passes_branch}
+use Rattle.qs_emit.proofs.CodePlaces.{fits_between}
+use Rattle.qs_emit.proofs.FollowedSteps.{Onward, steady_at, amid_at}
 
 -- the distance between two places, and back
 pub distance_back : (from to : ℕ) → from < 2 ^ 32 → to < 2 ^ 32 → words.add from (words.sub to from) ≡ to

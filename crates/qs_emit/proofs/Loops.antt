@@ -16,9 +16,9 @@ use Rattle.qs_emit.specs.Lies.{AreBytes, IsOwn, SameOwn}
 use Rattle.qs_emit.specs.Relation.{Setup}
 use Rattle.qs_emit.proofs.Injection.{stored_byte, stored_other, value_here}
 use Rattle.qs_emit.proofs.Steps.{Does, does_with, does_then, does_is, op_imm_does, load_does, store_does, MayRead, MayWrite, same_on}
-use Rattle.qs_emit.proofs.Kept.{SameSaved}
+use Rattle.qs_emit.proofs.FrameLaws.{SameSaved}
 use Rattle.qs_emit.proofs.Operands.{argument_scratch, saved_apart}
-use Rattle.qs_emit.proofs.Looping.{loop_does}
+use Rattle.qs_emit.proofs.LoopSteps.{loop_does}
 
 -- ---- a byte or a word at a time
 

@@ -22,7 +22,7 @@ use Rattle.qs_emit.proofs.Injection.{value_there, stored_other}
 use Rattle.qs_emit.proofs.Bytes.{number_same, number_stored}
 use Rattle.qs_emit.proofs.Steps.{Takes, takes_on, HasAt, has_front, has_back, Fits, IsSteady, steady_on, Does, Gets, does_is, does_then, does_none, stepped, takes_step, stirred_bytes, same_stirred, same_none, same_on, load_does, store_does}
 use Rattle.qs_emit.proofs.Slots.{constant_does, reads_free, word_at}
-use Rattle.qs_emit.proofs.Kept.{saved_in_same}
+use Rattle.qs_emit.proofs.FrameLaws.{saved_in_same}
 use Rattle.qs_emit.proofs.Operands.{saved_apart, saved_free}
 
 -- x2 has moved, in so many words of code

@@ -20,7 +20,7 @@ use Rattle.qs_emit.specs.Surroundings.{HasBlocks, Lay, ground}
 use Rattle.qs_emit.specs.Relation.{Setup, context, cost, HasFrame, HasStack, around}
 use Rattle.qs_emit.proofs.Injection.{Later, cell_kept}
 use Rattle.qs_emit.proofs.Steps.{data_below}
-use Rattle.qs_emit.proofs.Kept.{SameSaved, reach_like, stack_onward, placed_inside, SameCells}
+use Rattle.qs_emit.proofs.FrameLaws.{SameSaved, reach_like, stack_onward, placed_inside, SameCells}
 
 -- blocks lie one after the other from an address on; what is between them is the frame's
 abbrev pub owner_in : List ℕ → (number from at : ℕ) → Owner

@@ -29,7 +29,7 @@ use Rattle.qs_emit.specs.Relation.{Setup}
 use Rattle.qs_emit.proofs.Injection.{value_here, stored_other}
 use Rattle.qs_emit.proofs.Steps.{Does, Gets, does_is, does_then, does_none, op_does, store_does, MayRead, MayWrite, gets_on}
 use Rattle.qs_emit.proofs.Slots.{constant_does, gets_is}
-use Rattle.qs_emit.proofs.Kept.{SameSaved, saved_none, saved_on}
+use Rattle.qs_emit.proofs.FrameLaws.{SameSaved, saved_none, saved_on}
 use Rattle.qs_emit.proofs.Values.{same_cell}
 use Rattle.qs_emit.proofs.Operands.{argument_scratch, saved_apart}
 use Rattle.qs_emit.proofs.Loops.{IsAccess, words_are_accesses, bytes_are_accesses, turn_bytes, Filling, fill_loop_does, Copying, copy_loop_does}

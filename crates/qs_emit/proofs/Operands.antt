@@ -40,7 +40,7 @@ use Rattle.qs_emit.proofs.Bytes.{number_small}
 use Rattle.qs_emit.proofs.Injection.{HaveWords, value_here, value_there}
 use Rattle.qs_emit.proofs.Steps.{Does, Gets, Writes, IsFree, does_with, does_then, does_is, does_none, op_imm_does}
 use Rattle.qs_emit.proofs.Slots.{IsInFrame, word_at, reads_free, constant_does, load_from_does, store_to_does, address_does, gets_is}
-use Rattle.qs_emit.proofs.Kept.{SameSaved, used_saved, slot_inside, placed_inside, related_own, related_slot, related_register}
+use Rattle.qs_emit.proofs.FrameLaws.{SameSaved, used_saved, slot_inside, placed_inside, related_own, related_slot, related_register}
 use Rattle.qs_emit.proofs.Access.{have_words, stands_word}
 use Rattle.qs_emit.proofs.Words.{low_byte}
 

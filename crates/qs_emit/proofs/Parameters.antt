@@ -43,10 +43,10 @@ use Rattle.qs_emit.specs.Relation.{Setup, context, function_at}
 use Rattle.qs_emit.proofs.Injection.{value_kept, store_holds, stored_other}
 use Rattle.qs_emit.proofs.Steps.{Does, does_is, does_then, does_none, data_below}
 use Rattle.qs_emit.proofs.Slots.{IsInFrame, reads_free, store_to_does}
-use Rattle.qs_emit.proofs.Kept.{place_cases, place_same}
+use Rattle.qs_emit.proofs.FrameLaws.{place_cases, place_same}
 use Rattle.qs_emit.proofs.Operands.{holder, argument_scratch, saved_apart, IsAmid, into_does, put_does}
 use Rattle.qs_emit.proofs.Fetches.{store_wide, access_aligned, written_amid}
-use Rattle.qs_emit.proofs.Laid.{own_place, has_place}
+use Rattle.qs_emit.proofs.CodePlaces.{own_place, has_place}
 
 -- ---- arguments
 

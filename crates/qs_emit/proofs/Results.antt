@@ -52,11 +52,11 @@ use Rattle.qs_emit.specs.Surroundings.{Lay, ground}
 use Rattle.qs_emit.specs.Relation.{Setup, context, function_at, HasPlace}
 use Rattle.qs_emit.proofs.Steps.{Does, Gets, IsFree, does_then, does_is, does_either, op_does, op_imm_does, same_on}
 use Rattle.qs_emit.proofs.Slots.{constant_does, store_to_does, gets_is}
-use Rattle.qs_emit.proofs.Kept.{used_saved}
+use Rattle.qs_emit.proofs.FrameLaws.{used_saved}
 use Rattle.qs_emit.proofs.Words.{of_test, calculated, compared, compared_is, zero_is, not_zero_is, wrap_signed, over_one, divided, low_byte}
 use Rattle.qs_emit.proofs.Values.{stands_test, stands_is, moved_up, moved_down, difference_word, pointers_compared, truth_word, low_word}
 use Rattle.qs_emit.proofs.Operands.{holder, IsScratch, argument_scratch, saved_free, IsThere, there_apart, reads_same, IsAmid, into_gets, operand_does, Makes, holding, related_stored, related_made, MakesValue, gives_does, in_frame, slot_aligned, slot_fits}
-use Rattle.qs_emit.proofs.Computes.{unary_word, unary_gets, product_does, constant_is, IsOperand, Leaves, leaves_on, leaves_operand, leaves_gets, makes_last, Combines, HasBoth, both_does, arithmetic_does, compare_does}
+use Rattle.qs_emit.proofs.OperationLaws.{unary_word, unary_gets, product_does, constant_is, IsOperand, Leaves, leaves_on, leaves_operand, leaves_gets, makes_last, Combines, HasBoth, both_does, arithmetic_does, compare_does}
 
 module _ (s : Setup) (a : Activation File) (w : Memory) (stack : List (Waiting File)) (l : Lay) (sp : ℕ) where
   abbrev c : Context

@@ -33,11 +33,11 @@ use Rattle.qs_emit.proofs.Injection.{Later, cell_kept}
 use Rattle.qs_emit.proofs.Bytes.{number_same}
 use Rattle.qs_emit.proofs.Steps.{Takes, takes_on, takes_less, HasAt, has_front, has_back, IsSteady, steady_on, Does, does_is, does_then, load_does, same_on}
 use Rattle.qs_emit.proofs.Slots.{word_at}
-use Rattle.qs_emit.proofs.Kept.{SameSaved, saved_none, used_saved, Onward, reach_like, frame_onward, stack_onward}
+use Rattle.qs_emit.proofs.FrameLaws.{SameSaved, saved_none, used_saved, Onward, reach_like, frame_onward, stack_onward}
 use Rattle.qs_emit.proofs.Operands.{IsScratch, saved_apart, IsAmid, amid_gets}
-use Rattle.qs_emit.proofs.Looping.{GoesTo, gone, goes}
-use Rattle.qs_emit.proofs.Laid.{IsCode, plain_laid, HasFunction, fits_between}
-use Rattle.qs_emit.proofs.Followed.{steady_at}
+use Rattle.qs_emit.proofs.LoopSteps.{GoesTo, gone, goes}
+use Rattle.qs_emit.proofs.CodePlaces.{IsCode, plain_laid, HasFunction, fits_between}
+use Rattle.qs_emit.proofs.FollowedSteps.{steady_at}
 use Rattle.qs_emit.proofs.Moves.{StackMoved, stack_moves, restores_do}
 
 -- ---- the memory that is left after a call

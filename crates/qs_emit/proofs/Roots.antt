@@ -18,7 +18,7 @@ use Rattle.qs_emit.specs.Images.{IsFirstMemory, record_at, AreCosts, IsImageOf, 
 use Rattle.qs_emit.specs.Emitted.{AreSurroundings, FunctionsFollow}
 use Rattle.qs_emit.proofs.Costs.{SameStack, tac_run_weighs}
 use Rattle.qs_emit.proofs.SetUp.{set_up}
-use Rattle.qs_emit.proofs.Top.{emitted_code_follows}
+use Rattle.qs_emit.proofs.RootLaws.{emitted_code_follows}
 
 -- ---- the same surroundings but for the metric
 

@@ -31,7 +31,7 @@ use Rattle.qs_select.specs.Units.{selected}
 use Rattle.qs_emit.specs.Relation.{cost_at, function_at, IsEmittable}
 use Rattle.qs_emit.specs.Images.{IsFirstMemory, record_at, AreCosts, function_address, IsImageOf, IsWithinLimits}
 use Rattle.qs_emit.specs.Emitted.{start_run, IsInteger, MayStart, FollowsFrom, Emitted}
-use Rattle.qs_emit.proofs.Whole.{images_follow}
+use Rattle.qs_emit.proofs.ImageLaws.{images_follow}
 
 -- the variable takes 7, and its value is returned
 abbrev pub variable : Address

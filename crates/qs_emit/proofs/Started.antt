@@ -28,12 +28,12 @@ use Rattle.qs_emit.specs.Started.{main_run, IsStart, HasRoom, ExitsBehind, Start
 use Rattle.qs_emit.proofs.Injection.{value_there}
 use Rattle.qs_emit.proofs.Steps.{Takes, IsSteady, stepped, takes_step, stirred_bytes, same_stirred}
 use Rattle.qs_emit.proofs.Slots.{reads_free}
-use Rattle.qs_emit.proofs.Kept.{cell_own, blocks_same}
+use Rattle.qs_emit.proofs.FrameLaws.{cell_own, blocks_same}
 use Rattle.qs_emit.proofs.Operands.{saved_apart}
-use Rattle.qs_emit.proofs.Looping.{link_acts}
-use Rattle.qs_emit.proofs.Laid.{has_function}
+use Rattle.qs_emit.proofs.LoopSteps.{link_acts}
+use Rattle.qs_emit.proofs.CodePlaces.{has_function}
 use Rattle.qs_emit.proofs.Jumps.{distance_back}
-use Rattle.qs_emit.proofs.Top.{emitted_code_follows}
+use Rattle.qs_emit.proofs.RootLaws.{emitted_code_follows}
 
 -- ---- what is seen later
 

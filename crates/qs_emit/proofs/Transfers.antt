@@ -28,7 +28,7 @@ use Rattle.qs_emit.specs.Surroundings.{Lay, ground}
 use Rattle.qs_emit.specs.Relation.{Setup, context, function_at}
 use Rattle.qs_emit.proofs.Injection.{cells_same, cells_held}
 use Rattle.qs_emit.proofs.Steps.{Does, does_is, does_then, does_none, MayRead, MayWrite}
-use Rattle.qs_emit.proofs.Kept.{saved_none, cell_own}
+use Rattle.qs_emit.proofs.FrameLaws.{saved_none, cell_own}
 use Rattle.qs_emit.proofs.Access.{lies_low, may_read_block, may_write_block}
 use Rattle.qs_emit.proofs.Operands.{holder, saved_apart, argument_scratch, IsAmid, amid_on}
 use Rattle.qs_emit.proofs.Anchors.{HasAddress, address_into_does, word_address_aligned}

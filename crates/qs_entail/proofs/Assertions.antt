@@ -15,7 +15,7 @@ use Rattle.qs_poly.proofs.ValueLaws.{number_value, single_value}
 use Rattle.qs_entail.specs.Certificates.{Item, once, twice}
 use Rattle.qs_base.specs.Results.{bind}
 use Rattle.qs_entail.specs.Building.{Stop, limited, term_polynomial, is_plain, all_plain, assertion_polynomial, total_onto, factors_onto, at, item_polynomial, item_polynomials, sum_all, combination, two_combinations, Two}
-use Rattle.qs_entail.proofs.Built.{bind_ok, limited_value, limited_sum_value, limited_product_value, limited_multiple_value, term_polynomial_value}
+use Rattle.qs_entail.proofs.BuildingLaws.{bind_ok, limited_value, limited_sum_value, limited_product_value, limited_multiple_value, term_polynomial_value}
 
 -- an assertion whose value is the number that a polynomial has
 pub record Counts (a : Extended) (z : ℤ) : Type 0 where

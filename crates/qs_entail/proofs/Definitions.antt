@@ -12,8 +12,8 @@ use Rattle.qs_assert.specs.Trees.{TermTree, number, variable, add, sub, mul, div
 use Rattle.qs_assert.specs.Values.{State, wrapped_unsigned, wrapped_signed, bit_length, quotient, natural_part, term_value, sum_of_terms, product_of_terms, holds, all_hold, some_holds, Extended, finite, infinite, or_infinite, value, sum_of, greatest_of, product_of, plus, greater, times}
 use Rattle.qs_entail.specs.Faults.{definition}
 use Rattle.qs_entail.specs.Meaning.{defined_by, InRange}
-use Rattle.qs_entail.proofs.Pushed.{made}
-use Rattle.qs_entail.proofs.Replaced.{pair}
+use Rattle.qs_entail.proofs.PushingLaws.{made}
+use Rattle.qs_entail.proofs.ReplacementLaws.{pair}
 
 abbrev Names : Type 0
 Names = List ℕ → Option Extended

@@ -10,7 +10,7 @@ use Rattle.qs_base.specs.Results.{bind}
 use Rattle.qs_entail.specs.Certificates.{CertTree}
 use Rattle.qs_entail.specs.Building.{Stop, limited, difference, term_polynomial}
 use Rattle.qs_entail.specs.Pushing.{Known, at_first, with_condition, with_polynomials, push_le, push_lt, push_eq, push, push_not, push_all, push_nots, push_list}
-use Rattle.qs_entail.proofs.Built.{bind_ok}
+use Rattle.qs_entail.proofs.BuildingLaws.{bind_ok}
 use Rattle.qs_entail.specs.Verdicts.{takes, outline, outline_not, outline_all, outline_nots, outline_list, outlined, fault, verdict}
 
 -- ---- pushes

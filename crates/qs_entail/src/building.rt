@@ -147,7 +147,7 @@ impl Building {
     }
 
     /// Puts none in place of the first items.
-    #[tactic(auto, using(crate::proofs::Stacked::seen_cut))]
+    #[tactic(auto, using(crate::proofs::StackLaws::seen_cut))]
     fn put_none(&mut self, count: usize) -> Result<(), NoMemory>
         ensures { Steps (none_first count) self.old self.new result }
     {

@@ -52,7 +52,7 @@ fn cost_range(alloc: Global, f: FnId) -> Result<Vec<Poly>, Stop>
 }
 
 /// The condition of this number.
-#[tactic(auto, using(crate::proofs::Each::condition_in, crate::proofs::Each::condition_out))]
+#[tactic(auto, using(crate::proofs::MemberLaws::condition_in, crate::proofs::MemberLaws::condition_out))]
 pub fn condition_at(conditions: &[Cond], i: i64) -> Option<&Cond>
     ensures { FindsAs (λ c. c.now) result (facts.condition conditions.now i) }
 {

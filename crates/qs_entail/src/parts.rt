@@ -73,7 +73,7 @@ fn total_count(nodes: &[Node]) -> Option<usize>
 }
 
 /// How many members an assertion has, if it is the greatest of some.
-#[tactic(auto, using(crate::proofs::Counted::members_are))]
+#[tactic(auto, using(crate::proofs::HeadLaws::members_are))]
 pub fn member_count(a: &AssertionView<'_>) -> Option<usize>
     ensures { faults.member_count a.now ≡ counted result }
 {
@@ -81,7 +81,7 @@ pub fn member_count(a: &AssertionView<'_>) -> Option<usize>
 }
 
 /// How many summands an assertion has, if it is a sum.
-#[tactic(auto, using(crate::proofs::Counted::summands_are))]
+#[tactic(auto, using(crate::proofs::HeadLaws::summands_are))]
 pub fn summand_count(a: &AssertionView<'_>) -> Option<usize>
     ensures { faults.summand_count a.now ≡ counted result }
 {
@@ -89,7 +89,7 @@ pub fn summand_count(a: &AssertionView<'_>) -> Option<usize>
 }
 
 /// Whether an assertion is a guard.
-#[tactic(auto, using(crate::proofs::Counted::guard_given))]
+#[tactic(auto, using(crate::proofs::HeadLaws::guard_given))]
 pub fn is_guard(a: &AssertionView<'_>) -> bool
     ensures { result ≡ is_given (faults.guarded_of a.now) }
 {
@@ -97,7 +97,7 @@ pub fn is_guard(a: &AssertionView<'_>) -> bool
 }
 
 /// Whether a condition says that two terms differ.
-#[tactic(auto, using(crate::proofs::Counted::difference_given))]
+#[tactic(auto, using(crate::proofs::HeadLaws::difference_given))]
 pub fn says_different(c: &Cond) -> bool
     ensures { result ≡ is_given (facts.different_sides c.now) }
 {
@@ -130,7 +130,7 @@ pub fn summands<'a>(a: &AssertionView<'a>) -> Option<AssertionViews<'a>>
 }
 
 /// A member by its number, if there is one.
-#[tactic(auto, using(crate::proofs::Numbered::passed, crate::proofs::Numbered::found, crate::proofs::Numbered::missing))]
+#[tactic(auto, using(crate::proofs::MemberNumbers::passed, crate::proofs::MemberNumbers::found, crate::proofs::MemberNumbers::missing))]
 fn member_numbered<'a>(members: AssertionViews<'a>, number: usize) -> Option<AssertionView<'a>>
     ensures { Finds result (faults.member_at (assertions_of members.entry) (pos number)) }
 {
@@ -144,7 +144,7 @@ fn member_numbered<'a>(members: AssertionViews<'a>, number: usize) -> Option<Ass
 }
 
 /// A member by its number, which may be below 0, if there is one.
-#[tactic(auto, using(crate::proofs::Numbered::negative))]
+#[tactic(auto, using(crate::proofs::MemberNumbers::negative))]
 fn member_at<'a>(members: AssertionViews<'a>, number: i64) -> Option<AssertionView<'a>>
     ensures { Finds result (faults.member_at (assertions_of members.entry) number) }
 {
@@ -155,7 +155,7 @@ fn member_at<'a>(members: AssertionViews<'a>, number: i64) -> Option<AssertionVi
 }
 
 /// A member of a greatest by its number, from 0, if there is one.
-#[tactic(auto, using(crate::proofs::Numbered::among, crate::proofs::Numbered::nowhere))]
+#[tactic(auto, using(crate::proofs::MemberNumbers::among, crate::proofs::MemberNumbers::nowhere))]
 pub fn picked<'a>(p: &AssertionView<'a>, number: i64) -> Option<AssertionView<'a>>
     ensures { Finds result (faults.member_of p.now number) }
 {

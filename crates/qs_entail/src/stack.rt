@@ -55,7 +55,7 @@ pub fn told(built: Built) -> Result<Poly, Stop>
 }
 
 /// Takes the first item off, or a broken one where there is none.
-#[tactic(auto, using(qs_assert::proofs::Mapped::mapped_first, qs_assert::proofs::Mapped::mapped_others))]
+#[tactic(auto, using(qs_assert::proofs::StackViewLaws::mapped_first, qs_assert::proofs::StackViewLaws::mapped_others))]
 pub fn taken(stack: &mut Vec<Built>) -> Built
     ensures value { attempt_of result ≡ first (seen stack.old.items) }
     ensures left { seen stack.new.items ≡ others (seen stack.old.items) }

@@ -19,7 +19,7 @@ use crate::unfolding::defined;
 use qs_assert::{AssertionView, Cond, Define};
 use qs_base::Name;
 
-#[tactic(auto, using(crate::proofs::Counted::numbered, crate::proofs::Counted::none_numbered))]
+#[tactic(auto, using(crate::proofs::HeadLaws::numbered, crate::proofs::HeadLaws::none_numbered))]
 fn has_member(p: &AssertionView<'_>, i: i64) -> bool
     ensures { result ≡ is_given (faults.member_of p.now i) }
 {
@@ -38,21 +38,21 @@ fn is_so_many(wanted: usize, count: Option<usize>) -> bool
     }
 }
 
-#[tactic(auto, using(crate::proofs::Stands::has_so_many))]
+#[tactic(auto, using(crate::proofs::StandingLaws::has_so_many))]
 fn has_members(wanted: usize, q: &AssertionView<'_>) -> bool
     ensures { result ≡ has_count wanted (faults.member_count q.now) }
 {
     is_so_many(wanted, member_count(q))
 }
 
-#[tactic(auto, using(crate::proofs::Stands::has_so_many))]
+#[tactic(auto, using(crate::proofs::StandingLaws::has_so_many))]
 fn has_summands(wanted: usize, q: &AssertionView<'_>) -> bool
     ensures { result ≡ has_count wanted (faults.summand_count q.now) }
 {
     is_so_many(wanted, summand_count(q))
 }
 
-#[tactic(auto, using(crate::proofs::Stands::given_some, crate::proofs::Stands::given_none))]
+#[tactic(auto, using(crate::proofs::StandingLaws::given_some, crate::proofs::StandingLaws::given_none))]
 fn is_defined(defines: &[Define], name: &Name) -> bool
     ensures { result ≡ is_given (definition defines.now name.now) }
 {
@@ -63,7 +63,7 @@ fn is_defined(defines: &[Define], name: &Name) -> bool
 }
 
 /// The condition of this number says that two terms differ.
-#[tactic(auto, using(crate::proofs::Stands::apart_some, crate::proofs::Stands::apart_none))]
+#[tactic(auto, using(crate::proofs::StandingLaws::apart_some, crate::proofs::StandingLaws::apart_none))]
 fn is_apart(conditions: &[Cond], i: i64) -> bool
     ensures { result ≡ is_given (bind (facts.condition conditions.now i) facts.different_sides) }
 {
@@ -123,7 +123,7 @@ pub fn rule_of(certificate: &Certificate) -> Rule
     }
 }
 
-#[tactic(auto, using(crate::proofs::Each::certs_number))]
+#[tactic(auto, using(crate::proofs::MemberLaws::certs_number))]
 fn part_count(parts: &[Certificate]) -> usize
     ensures { result ≡ count_certs (certs_tree parts.now) }
 {

@@ -41,7 +41,7 @@ pub fn greatest(number: NumberType) -> i64
 }
 
 /// A number that passes no limit.
-#[tactic(auto, using(crate::proofs::Small::small_number))]
+#[tactic(auto, using(crate::proofs::SmallNumbers::small_number))]
 pub fn small(alloc: Global, k: i64) -> Result<Poly, Stop>
     requires { unsigned_abs k ≤ 2 ^ 56 }
     ensures { Follows result (Ok (number k)) }
@@ -71,7 +71,7 @@ pub fn less(alloc: Global, p: &Poly, k: u64, q: &Poly, c: u64) -> Result<Poly, S
 }
 
 /// The negation of the polynomial, less k times another, less c.
-#[tactic(auto, using(crate::proofs::Small::negated_err, crate::proofs::Small::negated_ok))]
+#[tactic(auto, using(crate::proofs::SmallNumbers::negated_err, crate::proofs::SmallNumbers::negated_ok))]
 pub fn less_negated(alloc: Global, p: &Poly, k: u64, q: &Poly, c: u64) -> Result<Poly, Stop>
     requires canonical { IsCanonical (lessened p.now k q.now c) }
     ensures { Follows result (limited (multiple (negsuc 0) (lessened p.now k q.now c))) }

@@ -64,7 +64,7 @@ fn root_stands(
 }
 
 /// Walks over the certificate, whose root stands.
-#[tactic(auto, using(crate::proofs::Stands::tells_fault, crate::proofs::Stands::tells_ok))]
+#[tactic(auto, using(crate::proofs::StandingLaws::tells_fault, crate::proofs::StandingLaws::tells_ok))]
 fn walked(
     mut walk: Walk,
     defines: &[Define],
@@ -82,7 +82,7 @@ fn walked(
 }
 
 /// Pushes the hypotheses, and walks over the certificate.
-#[tactic(auto, using(crate::proofs::Stands::tells_stopped, crate::proofs::Stands::tells_given))]
+#[tactic(auto, using(crate::proofs::StandingLaws::tells_stopped, crate::proofs::StandingLaws::tells_given))]
 fn walked_under(
     alloc: Global,
     hypotheses: &[Cond],
@@ -100,7 +100,7 @@ fn walked_under(
     }
 }
 
-#[tactic(auto, using(crate::proofs::Stands::root_stands, crate::proofs::Stands::root_fails))]
+#[tactic(auto, using(crate::proofs::StandingLaws::root_stands, crate::proofs::StandingLaws::root_fails))]
 fn checked(
     alloc: Global,
     hypotheses: &[Cond],

@@ -17,7 +17,7 @@ use Rattle.qs_grammar.specs.Parse.{Stop, Unexpected, Deep, Parse, E, stars, prim
 use Rattle.qs_grammar.specs.ParseDeclarations.{outer_type, given_lengths, lengths, declarator, initialiser, variable, variables, head}
 use Rattle.qs_grammar.specs.ParseStatements.{items, statement, external, externals, unit}
 use Rattle.qs_grammar.proofs.UnitsSound.{reads_whole}
-use Rattle.qs_grammar.proofs.Exact.{no_unit}
+use Rattle.qs_grammar.proofs.FaultPlaces.{no_unit}
 
 -- int
 abbrev pub an_int_token : Terminal

@@ -14,7 +14,7 @@ use Rattle.qs_syntax.specs.Reads.{Conditional, Assignment, place}
 use Rattle.qs_grammar.specs.Heads.{is_punctuator, is_keyword, starts}
 use Rattle.qs_grammar.specs.Parse.{Unexpected, Parse, bind, E, unexpected, deep, deeper, expect, skip_consts, base, type, stars, part}
 use Rattle.qs_grammar.specs.ParseDeclarations.{skip_prefixes, outer_type, given_lengths, is_empty_brackets, lengths_of, behind_open, lengths, named, declarator, after_initialiser, initialisers, begins_initialiser, initialiser, initialised, variable, variables, declared, declaration, declaration_within, declarators, members, groups, with_name, is_void_alone, without_first, parameter, parameters, is_void_head, head}
-use Rattle.qs_grammar.proofs.Counted.{type_some}
+use Rattle.qs_grammar.proofs.NodeCounts.{type_some}
 use Rattle.qs_grammar.proofs.DeclarationsMembers.{sound_members}
 use Rattle.qs_grammar.proofs.ExpressionsLocal.{skip_shrinks, Local-skip, Local-base, Local-type, Local-stars, begins_one_same, part_nothing, Local-part}
 use Rattle.qs_grammar.proofs.Local.{left, extend, Local, bind-left, Local-bind, Local-look, Local-weak, Local-cons, Local-same, Local-turn, Local-ok, Local-unexpected-all, Local-deep-all, Local-deeper, Local-if, Local-starts, Local-place, Local-punctuator, Local-name, cond-left, Local-two, bind_same, bind_nothing, cond_same, expect_takes, leaves_less, Turns, Local-turns, Local-after, after_same, Looks-punctuator, Looks-keyword, sound_takes}

@@ -20,7 +20,7 @@ pub mod DeclarationsParametersComplete
 pub mod StatementsComplete
 pub mod UnitsComplete
 pub mod UnitsExamples
-pub mod Counted
+pub mod NodeCounts
 pub mod Local
 pub mod ExpressionsLocal
 pub mod Grown
@@ -34,6 +34,6 @@ pub mod StatementsGrown
 pub mod DeclarationsViable
 pub mod StatementsViable
 pub mod UnitsViable
-pub mod Exact
+pub mod FaultPlaces
 pub mod BeginsExamples
 mod StopsExamples

@@ -19,7 +19,7 @@ use Rattle.qs_grammar.specs.Parse.{Stop, Parse, bind, E, unexpected, deep, expec
 use Rattle.qs_grammar.specs.ParseDeclarations.{outer_type, declaration_within, declared, declarator, groups, head}
 use Rattle.qs_grammar.specs.ParseStatements.{S, optional, condition, start_of, begins_statement, item, items, after_then, after_if, after_while, expect_while, after_do, after_for, running, plain_statement, keyword_statement, statement_at, statement, is_named, struct_of, forward_of, body_of, function_of, typed, external, is_empty, externals, unit}
 use Rattle.qs_grammar.proofs.HeadsLaws.{keyword_is}
-use Rattle.qs_grammar.proofs.Counted.{type_some}
+use Rattle.qs_grammar.proofs.NodeCounts.{type_some}
 use Rattle.qs_grammar.proofs.DeclarationsSound.{sound_declaration_within}
 use Rattle.qs_grammar.proofs.StatementsSound.{sound_statement}
 use Rattle.qs_grammar.proofs.UnitsSound.{sound_external}

@@ -15,7 +15,7 @@ use Rattle.qs_image.specs.Image.{Image, IsAddress, IsWellFormed, IsImage, words_
 use Rattle.qs_image.specs.Bytes.{word, words_of, records_of, lengths, lengths_of, code_count, byte_count, function_count, names_length, size, behind_header, table_of, behind_table, names_of, behind_names, code_of, data_of, image_from, image_of}
 use Rattle.qs_image.specs.Faults.{are_names, is_address, are_addresses, cost_fault, first_fault}
 use Rattle.qs_image.proofs.Words.{number-word_bytes, words-words_bytes}
-use Rattle.qs_image.proofs.Written.{names_fit}
+use Rattle.qs_image.proofs.WritingLaws.{names_fit}
 use Rattle.qs_image.proofs.Tables.{Fits, table_from, length-table_from, records-table_from, lengths-table_from}
 use Rattle.qs_image.proofs.Checks.{between-holds, address-holds, costs-hold, differ-hold, main-holds}
 use Rattle.qs_image.proofs.Wholes.{Passes, no_fault}

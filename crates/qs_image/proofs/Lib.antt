@@ -5,4 +5,4 @@ pub mod Checks
 pub mod Wholes
 pub mod Images
 pub mod Examples
-pub mod Written
+pub mod WritingLaws

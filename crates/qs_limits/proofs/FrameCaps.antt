@@ -18,7 +18,7 @@ use Rattle.qs_meaning.specs.Units.{placed_among, variables_among, locals_of, par
 use Rattle.qs_meaning.specs.FitLaws.{body_filled, declaration_filled}
 use Rattle.qs_meaning.specs.TypedLaws.{IsFileScope}
 use Rattle.qs_meaning.proofs.Options.{left, right, same}
-use Rattle.qs_meaning.proofs.Faultless.{none_left, none_right}
+use Rattle.qs_meaning.proofs.FaultlessExpressions.{none_left, none_right}
 use Rattle.qs_meaning.proofs.UnitsTyped.{start_known}
 use Rattle.qs_meaning.proofs.FitTypes.{SmallTable}
 use Rattle.qs_meaning.proofs.FitReadings.{read_is_as_read}

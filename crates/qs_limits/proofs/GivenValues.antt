@@ -21,7 +21,7 @@ use Rattle.qs_meaning.specs.Expressions.{typed}
 use Rattle.qs_meaning.specs.Statements.{variables_typed, effect_typed, option_effect, condition_typed, option_condition, start_typed, return_typed, inner, loop_body, in_for, statement_typed, statements_typed, else_typed}
 use Rattle.qs_meaning.specs.Units.{placed_among, variables_among, locals_of, parameters_in, scalars_of, sizes_of, parameters_typed, in_body, function_with, function_typed, file_variables_typed, declaration_typed, declarations_typed, start_scope, typed_of}
 use Rattle.qs_meaning.proofs.Options.{never, left, same}
-use Rattle.qs_meaning.proofs.Faultless.{none_left, none_right, unbroken, first_unbroken, second_unbroken}
+use Rattle.qs_meaning.proofs.FaultlessExpressions.{none_left, none_right, unbroken, first_unbroken, second_unbroken}
 use Rattle.qs_meaning.proofs.FunctionsTyped.{result_known}
 use Rattle.qs_elaborate.proofs.FitRules.{main_type_kept}
 

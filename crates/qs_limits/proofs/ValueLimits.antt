@@ -17,7 +17,7 @@ use Rattle.qs_meaning.specs.Names.{Scope, within}
 use Rattle.qs_meaning.specs.Statements.{statements_typed}
 use Rattle.qs_meaning.specs.Units.{placed_among, plain_among, variables_among, locals_of, parameters_in, scalars_of, sizes_of, parameters_typed, in_body, function_with, function_typed, file_variables_typed, declaration_typed, declarations_typed, start_scope}
 use Rattle.qs_meaning.proofs.Options.{same}
-use Rattle.qs_meaning.proofs.Faultless.{none_left, none_right}
+use Rattle.qs_meaning.proofs.FaultlessExpressions.{none_left, none_right}
 use Rattle.qs_elaborate.specs.Counts.{expressions_in}
 use Rattle.qs_elaborate.specs.ExpressionCounts.{initialiser_expressions, initialisers_expressions, variable_expressions, start_expressions, stmt_expressions, stmts_expressions, else_expressions}
 use Rattle.qs_elaborate.specs.Names.{FunctionNames, names_in}

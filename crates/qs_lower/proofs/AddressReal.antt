@@ -24,7 +24,7 @@ use Rattle.qs_lower.specs.Expressions.{IndexCode, ExprCode, size_of, operand_of,
 use Rattle.qs_lower.proofs.SizeLaws.{one_more, Sized, address_sized}
 use Rattle.qs_lower.proofs.OperandLaws.{gives_pointer_is}
 use Rattle.qs_lower.proofs.AddressLaws.{bind_some, bind_bind, bind_same, pointer_value, further_member, element_same}
-use Rattle.qs_lower.proofs.Real.{Model, Act, Stack, has_left, has_right, kept_all, kept_then, kept_below, Real, moment, IsCode, Agree, BaseReal, Goes}
+use Rattle.qs_lower.proofs.RealisationLaws.{Model, Act, Stack, has_left, has_right, kept_all, kept_then, kept_below, Real, moment, IsCode, Agree, BaseReal, Goes}
 use Rattle.qs_lower.proofs.ValueReal.{none_bind, no_pointer}
 use Rattle.qs_lower.proofs.ValueReal as value_real
 

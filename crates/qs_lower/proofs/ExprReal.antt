@@ -27,7 +27,7 @@ use Rattle.qs_lower.specs.Expressions.{ExprCode, no_code, behind, number_of, by_
 use Rattle.qs_lower.proofs.SizeLaws.{behind_sized, by_test_sized, choice_sized, both, TestSized}
 use Rattle.qs_lower.proofs.OperandLaws.{TruthOrNone, gives_truth_is, truth_again}
 use Rattle.qs_lower.proofs.AddressLaws.{bind_some, bind_bind, bind_same}
-use Rattle.qs_lower.proofs.Real.{Model, Act, Stack, HasAt, has_left, has_right, Kept, KeptBut, kept_then, Real, real_less, moment, IsCode, Agree, free, IntoReal, Goes, by_answer, TestReal}
+use Rattle.qs_lower.proofs.RealisationLaws.{Model, Act, Stack, HasAt, has_left, has_right, Kept, KeptBut, kept_then, Real, real_less, moment, IsCode, Agree, free, IntoReal, Goes, by_answer, TestReal}
 use Rattle.qs_lower.proofs.ValueReal.{none_bind}
 use Rattle.qs_lower.proofs.ValueReal as value_real
 use Rattle.qs_lower.proofs.AddressReal as address_real

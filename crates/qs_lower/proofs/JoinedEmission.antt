@@ -15,7 +15,7 @@ use Rattle.qs_lower.specs.declared.stmt_plans.StmtPlan.{StmtPlan}
 use Rattle.qs_lower.specs.declared.stmt_plans.StmtPlan.TheVariants as plans
 use Rattle.qs_lower.specs.Statements.{StmtCode, Exits, before, falls_of}
 use Rattle.qs_lower.specs.StmtPlans.{stmt_part, joined_before, sizes_before, code_before}
-use Rattle.qs_lower.proofs.Emitting.{emitted_then}
+use Rattle.qs_lower.proofs.EmissionLaws.{emitted_then}
 use Rattle.qs_lower.proofs.PlanTrees.{joined_is, return_is}
 use Rattle.qs_lower.proofs.JoinedLaws.{joined_size, joined_code}
 

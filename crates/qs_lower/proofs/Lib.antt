@@ -4,7 +4,7 @@ pub mod ExactLaws
 pub mod JumpLaws
 pub mod SizeLaws
 pub mod StmtSizeLaws
-pub mod Real
+pub mod RealisationLaws
 pub mod OperandLaws
 pub mod AddressLaws
 pub mod ValueReal
@@ -16,10 +16,10 @@ pub mod FlowReal
 pub mod StmtReal
 pub mod CallReal
 pub mod UnitReal
-pub mod Follow
-pub mod There
+pub mod FollowLaws
+pub mod PresenceLaws
 pub mod LoweringLaws
-pub mod Emitting
+pub mod EmissionLaws
 pub mod PlanLaws
 pub mod StmtPlanLaws
 pub mod JoinedLaws

@@ -14,8 +14,8 @@ use Rattle.qs_lower.specs.Units.{function_code, straight_unit, lower_unit}
 use Rattle.qs_lower.specs.Laws.{LoweringFollows}
 use Rattle.qs_lower.proofs.ExactLaws.{run_exact}
 use Rattle.qs_lower.proofs.JumpLaws.{weight_of}
-use Rattle.qs_lower.proofs.Follow.{told, code_is, context, ParametersThere, same_run, threaded_run}
-use Rattle.qs_lower.proofs.There.{stmts_there, more_there, parameters_there}
+use Rattle.qs_lower.proofs.FollowLaws.{told, code_is, context, ParametersThere, same_run, threaded_run}
+use Rattle.qs_lower.proofs.PresenceLaws.{stmts_there, more_there, parameters_there}
 
 module _ (u : CoreUnitTree) (fits : unit_fits u ≡ true) where
   function_at : (f : ℕ) (g : CoreFunctionTree) → slice_get u.functions f ≡ Some g → function_fits u g ≡ true

@@ -42,7 +42,7 @@ use Rattle.qs_lower.specs.Expressions as lower
 use Rattle.qs_lower.proofs.SizeLaws.{behind_sized, both, one_more, branch_length, pair_length, based_sized, unindexed_sized, indexed_sized, code_length, TestSized, with_test_sized}
 use Rattle.qs_lower.proofs.OperandLaws.{and_left, folded_right, swapped, converted_right, unary_right, gives_truth_is, truth_again, idle_stays, plus_stays}
 use Rattle.qs_lower.proofs.AddressLaws.{bind_some, bind_bind}
-use Rattle.qs_lower.proofs.Real.{Model, Act, Stack, HasAt, has_left, has_right, Kept, kept_all, kept_then, Real, moment, IsCode, Agree, free, SimpleReal, BaseReal, Goes, by_answer, TestReal}
+use Rattle.qs_lower.proofs.RealisationLaws.{Model, Act, Stack, HasAt, has_left, has_right, Kept, kept_all, kept_then, Real, moment, IsCode, Agree, free, SimpleReal, BaseReal, Goes, by_answer, TestReal}
 use Rattle.qs_lower.proofs.ValueReal.{none_bind, negated}
 use Rattle.qs_lower.proofs.ValueReal as value_real
 use Rattle.qs_lower.proofs.AddressReal as address_real

@@ -26,7 +26,7 @@ use Rattle.qs_lower.specs.Statements.{Exits, falls_of, Part, straight, target_of
 use Rattle.qs_lower.proofs.SizeLaws.{both, one_more, code_length}
 use Rattle.qs_lower.proofs.ThreadLaws.{IsPlain}
 use Rattle.qs_lower.proofs.JumpLaws.{Leads}
-use Rattle.qs_lower.proofs.Real.{Model, Comes, BoundedBy, moves, real_comes, comes_alike, comes_less, Act, Stack, HasAt, has_left, has_right, KeptBut, kept_all, kept_then, Real, real_less, real_fault, real_given, CallsReal, moment, IsCode, Agree, free, Goes}
+use Rattle.qs_lower.proofs.RealisationLaws.{Model, Comes, BoundedBy, moves, real_comes, comes_alike, comes_less, Act, Stack, HasAt, has_left, has_right, KeptBut, kept_all, kept_then, Real, real_less, real_fault, real_given, CallsReal, moment, IsCode, Agree, free, Goes}
 use Rattle.qs_lower.proofs.ValueReal as value_real
 use Rattle.qs_lower.proofs.ExprReal as expr
 

@@ -19,7 +19,7 @@ use Rattle.qs_lower.specs.Statements.{Exits, StmtCode, next_falls, to_next, to_b
 use Rattle.qs_lower.specs.Statements as lower
 use Rattle.qs_lower.specs.Units.{free_from, body_code, end_code, function_code}
 use Rattle.qs_lower.proofs.StmtSizeLaws.{StmtSized, stmt_sized, stmts_sized}
-use Rattle.qs_lower.proofs.Real.{Model, moves, real_comes, comes_alike, comes_less, Stack, HasAt, real_fault, CallsReal, moment, IsCode, free}
+use Rattle.qs_lower.proofs.RealisationLaws.{Model, moves, real_comes, comes_alike, comes_less, Stack, HasAt, real_fault, CallsReal, moment, IsCode, free}
 use Rattle.qs_lower.proofs.ValueReal as value_real
 use Rattle.qs_lower.proofs.ExprReal as expr
 use Rattle.qs_lower.proofs.PlainReal as plain

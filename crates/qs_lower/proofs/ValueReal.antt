@@ -36,7 +36,7 @@ use Rattle.qs_lower.proofs.OperandLaws.{known_truth}
 use Rattle.qs_lower.proofs.AddressLaws.{bind_some}
 use Rattle.qs_lower.specs.Threads.{leads_to}
 use Rattle.qs_lower.proofs.ThreadLaws.{IsPlain}
-use Rattle.qs_lower.proofs.Real.{Model, Act, Stack, HasAt, has_left, has_right, Kept, KeptBut, kept_all, kept_below, Real, real_less, real_given, real_jump, real_branch, moves, instruction_is, NoJump, moment, IsCode, Agree, free, IntoReal, SimpleReal, OperandReal, BaseReal, Goes, by_answer, TestReal, KnownReal}
+use Rattle.qs_lower.proofs.RealisationLaws.{Model, Act, Stack, HasAt, has_left, has_right, Kept, KeptBut, kept_all, kept_below, Real, real_less, real_given, real_jump, real_branch, moves, instruction_is, NoJump, moment, IsCode, Agree, free, IntoReal, SimpleReal, OperandReal, BaseReal, Goes, by_answer, TestReal, KnownReal}
 
 pub none_bind : {A B : Type 0} (o : Option A) (f : A → Option B) → o ≡ None → (o >>= f) ≡ None
 none_bind o f h = ap (λ p. p >>= f) h

@@ -199,7 +199,7 @@ fn emit_pair(code: &mut Vec<Instruction>, p: &PlanPair, t: u32) -> Result<(), No
 }
 
 #[cycle(emission)]
-#[tactic(auto, using(crate::proofs::Emitting::number_emitted))]
+#[tactic(auto, using(crate::proofs::EmissionLaws::number_emitted))]
 fn emit_both_number(
     code: &mut Vec<Instruction>,
     p: &PlanPair,
@@ -218,7 +218,7 @@ fn emit_both_number(
 }
 
 #[cycle(emission)]
-#[tactic(auto, using(crate::proofs::Emitting::number_emitted))]
+#[tactic(auto, using(crate::proofs::EmissionLaws::number_emitted))]
 fn emit_either_number(
     code: &mut Vec<Instruction>,
     p: &PlanPair,

@@ -1,6 +1,6 @@
 pub mod Choices
 pub mod Memories
-pub mod Doing
+pub mod StepParts
 pub mod Starts
 pub mod Growth
 pub mod Runs

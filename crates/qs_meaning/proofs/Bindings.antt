@@ -19,7 +19,7 @@ use Rattle.qs_meaning.specs.Expressions.{typed}
 use Rattle.qs_meaning.specs.TypedLaws.{IsReady, are_placed}
 use Rattle.qs_meaning.proofs.Options.{never, left, right, nothing, same, Known}
 use Rattle.qs_meaning.proofs.CompleteTypes.{LaidOut, MembersComplete}
-use Rattle.qs_meaning.proofs.Faultless.{HasTypes, type_of_known}
+use Rattle.qs_meaning.proofs.FaultlessExpressions.{HasTypes, type_of_known}
 use Rattle.qs_meaning.proofs.TypedExpressions.{TypedBy, expression_typed}
 
 -- ---- names

@@ -24,9 +24,9 @@ use Rattle.qs_meaning.specs.Expressions.{typed}
 use Rattle.qs_meaning.specs.Statements.{initialised, variable_typed, variables_typed, effect_typed, option_effect, condition_typed, option_condition, start_typed, return_typed, statement_typed, statements_typed, else_typed}
 use Rattle.qs_meaning.specs.Forms.{address_in}
 use Rattle.qs_meaning.proofs.Options.{never, left, right, all_left, all_right, Known, onward, goes}
-use Rattle.qs_meaning.proofs.Faultless.{HasTypes, none_left, none_right, unbroken, first_unbroken, second_unbroken, type_known, type_of_known}
+use Rattle.qs_meaning.proofs.FaultlessExpressions.{HasTypes, none_left, none_right, unbroken, first_unbroken, second_unbroken, type_known, type_of_known}
 use Rattle.qs_meaning.proofs.Bindings.{IsFine, EntityFine, Sound, has_types, are_taken, typed_known}
-use Rattle.qs_meaning.proofs.Initialising.{sites_taken, sites_left, sites_right, local_set_known}
+use Rattle.qs_meaning.proofs.LocalInitialisers.{sites_taken, sites_left, sites_right, local_set_known}
 
 -- ---- types within the limit are complete
 

@@ -22,7 +22,7 @@ use Rattle.qs_meaning.specs.Forms.{lvalue, result, call, assignment, step, struc
 use Rattle.qs_meaning.specs.Expressions.{typed}
 use Rattle.qs_meaning.proofs.Samples as c
 use Rattle.qs_meaning.proofs.Samples.{e, number, natural, op, address, deref, at, dot, arrow}
-use Rattle.qs_meaning.proofs.Known.{scope, is, u, x, v, h, text_at}
+use Rattle.qs_meaning.proofs.ExampleScopes.{scope, is, u, x, v, h, text_at}
 
 -- ---- words
 

@@ -26,7 +26,7 @@ use Rattle.qs_meaning.specs.Units.{file_variable_typed, file_variables_typed}
 use Rattle.qs_meaning.specs.TypedLaws.{EntityTyped, IsFileScope}
 use Rattle.qs_meaning.proofs.Options.{never, left, right, either, Known, known, onward, goes, went}
 use Rattle.qs_meaning.proofs.CompleteTypes.{part_known, part_there, fits_takes, fits_count, blank_known}
-use Rattle.qs_meaning.proofs.Faultless.{HasTypes, none_left, none_right, unbroken, first_unbroken, second_unbroken, type_of_known}
+use Rattle.qs_meaning.proofs.FaultlessExpressions.{HasTypes, none_left, none_right, unbroken, first_unbroken, second_unbroken, type_of_known}
 use Rattle.qs_meaning.proofs.Bindings.{has_types}
 use Rattle.qs_meaning.proofs.TypedExpressions.{unless}
 use Rattle.qs_meaning.proofs.Bodies.{DeclaredAs, declared_known, lengths_typed, not_held_back}

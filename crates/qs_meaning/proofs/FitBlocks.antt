@@ -36,7 +36,7 @@ use Rattle.qs_meaning.specs.FitLaws.{is_filled, variables_filled, declaration_fi
 use Rattle.qs_meaning.specs.TypedLaws.{IsFileScope}
 use Rattle.qs_meaning.specs.Whole.{AreWhole, TypedDataIsWhole}
 use Rattle.qs_meaning.proofs.Options.{never, left, right, nothing, same}
-use Rattle.qs_meaning.proofs.Faultless.{HasTypes, none_left, none_right, unbroken, second_unbroken, type_of_known}
+use Rattle.qs_meaning.proofs.FaultlessExpressions.{HasTypes, none_left, none_right, unbroken, second_unbroken, type_of_known}
 use Rattle.qs_meaning.proofs.Bindings.{has_types}
 use Rattle.qs_meaning.proofs.Bodies.{not_held_back}
 use Rattle.qs_meaning.proofs.FunctionsTyped.{file_sound}
@@ -44,7 +44,7 @@ use Rattle.qs_meaning.proofs.UnitsTyped.{start_known}
 use Rattle.qs_meaning.proofs.FitConversions.{both}
 use Rattle.qs_meaning.proofs.FitTypes.{SmallTable, size_room, is_least}
 use Rattle.qs_meaning.proofs.FitLeaves.{is_short}
-use Rattle.qs_meaning.proofs.FitDeclared.{SizedType, variable_small}
+use Rattle.qs_meaning.proofs.FitDeclarations.{SizedType, variable_small}
 use Rattle.qs_meaning.proofs.DeclaredSizes.{declared_size}
 use Rattle.qs_meaning.proofs.FitTables.{tag_after, struct_after}
 use Rattle.qs_meaning.proofs.FitSignatures.{file_after, variable_after}

@@ -31,7 +31,7 @@ use Rattle.qs_meaning.specs.Fits.{lvalue_fits, parameters_placed, end_fits, stmt
 use Rattle.qs_meaning.specs.FitLaws.{are_different, statements_filled}
 use Rattle.qs_meaning.specs.TypedLaws.{IsFileScope}
 use Rattle.qs_meaning.proofs.Options.{never, left, right, nothing, same, Known}
-use Rattle.qs_meaning.proofs.Faultless.{none_right, second_unbroken}
+use Rattle.qs_meaning.proofs.FaultlessExpressions.{none_right, second_unbroken}
 use Rattle.qs_meaning.proofs.TypedExpressions.{kept}
 use Rattle.qs_meaning.proofs.Functions.{all_scalar, same_result, same_structs_with}
 use Rattle.qs_meaning.proofs.UnitsTyped.{header_parts, header_unbroken, header_result, header_scalar}

@@ -24,7 +24,7 @@ use Rattle.qs_meaning.specs.InitialValues.{pointer_constant, text_cells, piece_c
 use Rattle.qs_meaning.proofs.Options.{never, left, right, same, went}
 use Rattle.qs_meaning.proofs.Options as options
 use Rattle.qs_meaning.proofs.CompleteTypes.{fits_takes}
-use Rattle.qs_meaning.proofs.Faultless.{HasTypes, none_left, none_right, unbroken, type_of_known}
+use Rattle.qs_meaning.proofs.FaultlessExpressions.{HasTypes, none_left, none_right, unbroken, type_of_known}
 use Rattle.qs_meaning.proofs.FitConversions.{both}
 use Rattle.qs_meaning.proofs.FitTypes.{AllPositive, rounded_above}
 use Rattle.qs_meaning.proofs.FitLayouts.{laid, blank_length, blanks_length}

@@ -37,7 +37,7 @@ use Rattle.qs_meaning.proofs.FitTypes.{is_small, SmallTable, size_room, is_least
 use Rattle.qs_meaning.proofs.FitLeaves.{Places, scalar_signature, EntityFits, AllFit}
 use Rattle.qs_meaning.proofs.FitSmall.{starred_small}
 use Rattle.qs_meaning.proofs.FitInitialisers.{LocalPlace, in_variable, in_block}
-use Rattle.qs_meaning.proofs.FitDeclared.{AllPositive, lengths_positive, object_small}
+use Rattle.qs_meaning.proofs.FitDeclarations.{AllPositive, lengths_positive, object_small}
 use Rattle.qs_meaning.proofs.FitLocals.{In, SmallLocals}
 
 -- ---- names at file scope

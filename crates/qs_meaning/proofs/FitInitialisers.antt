@@ -32,7 +32,7 @@ use Rattle.qs_meaning.specs.Initialisers.{part_offset, Piece, pieces, pieces_fro
 use Rattle.qs_meaning.specs.Fits.{lvalue_fits, effect_fits, object_there, is_size, is_whole_local}
 use Rattle.qs_meaning.proofs.Options.{never, left, right, nothing, same, all_left, all_right}
 use Rattle.qs_meaning.proofs.CompleteTypes.{fits_takes}
-use Rattle.qs_meaning.proofs.Faultless.{HasTypes, none_left, none_right, unbroken, type_of_known}
+use Rattle.qs_meaning.proofs.FaultlessExpressions.{HasTypes, none_left, none_right, unbroken, type_of_known}
 use Rattle.qs_meaning.proofs.FitConversions.{both}
 use Rattle.qs_meaning.proofs.FitForms.{Has, address_there, pointer_object, effect_there, null_value}
 use Rattle.qs_meaning.proofs.FitTypes.{is_small, size_room, is_least, array_length}

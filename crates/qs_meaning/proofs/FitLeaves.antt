@@ -2,7 +2,7 @@
 use Rattle.std.proofs.Common.{◌≡◌, ℕ, ◌+◌, ◌^◌, nat_lt, nat_le, Bool, true, false, ◌&&◌, List, [], ◌∷◌, ◌++◌, map, length, Option, Some, None, refl, subst, if◌then◌else◌}
 use Rattle.std.specs.List.{list_all}
 use Rattle.qs_syntax.specs.Sameness.{same_bytes}
-use Rattle.qs_syntax.proofs.Exact.{bytes_exact}
+use Rattle.qs_syntax.proofs.SamenessLaws.{bytes_exact}
 use Rattle.qs_syntax.specs.Trees.{ExprTree, expr, ShapeTree, Exprs, no_exprs, expr_and}
 use Rattle.qs_syntax.specs.Trees as trees
 use Rattle.qs_calls.specs.declared.callee.Callee.TheVariants.{Function, PutChar, GetChar}
@@ -20,7 +20,7 @@ use Rattle.qs_meaning.specs.Units.{result_scalar}
 use Rattle.qs_meaning.specs.Fits.{lvalue_fits, object_there}
 use Rattle.qs_meaning.specs.FitLaws.{literals_fit, shape_literals_fit, all_literals_fit}
 use Rattle.qs_meaning.proofs.Options.{left, right, all_left, all_right, nothing, same, Known}
-use Rattle.qs_meaning.proofs.Faultless.{HasTypes}
+use Rattle.qs_meaning.proofs.FaultlessExpressions.{HasTypes}
 use Rattle.qs_meaning.proofs.FitConversions.{both}
 use Rattle.qs_meaning.proofs.FitTypes.{is_small}
 

@@ -24,7 +24,7 @@ use Rattle.qs_meaning.specs.FitLaws.{are_different, is_filled, variables_filled,
 use Rattle.qs_meaning.proofs.Options.{never, left, right, same}
 use Rattle.qs_meaning.proofs.FitConversions.{both}
 use Rattle.qs_meaning.proofs.FitTypes.{is_small}
-use Rattle.qs_meaning.proofs.FitDeclared.{variable_small}
+use Rattle.qs_meaning.proofs.FitDeclarations.{variable_small}
 
 -- ---- lists in others, in order
 

@@ -3,7 +3,7 @@ use Rattle.std.proofs.Common.{◌≡◌, ℕ, suc, ◌+◌, ◌==◌, Bool, true
 use Rattle.std.specs.List.{slice_get}
 use Rattle.std.proofs.lemmas.Bool.{eqb-true}
 use Rattle.qs_syntax.specs.Sameness.{same_bytes}
-use Rattle.qs_syntax.proofs.Exact.{bytes_exact}
+use Rattle.qs_syntax.proofs.SamenessLaws.{bytes_exact}
 use Rattle.qs_syntax.specs.declared.types.Base.{Base}
 use Rattle.qs_syntax.specs.Trees.{StructTree, VariableTree, FunctionTree, Stmts, DeclTree, structure, forward, function, variables, UnitTree}
 use Rattle.qs_memory.proofs.Options.{followed}
@@ -27,7 +27,7 @@ use Rattle.qs_meaning.specs.Interfaces.{signature}
 use Rattle.qs_meaning.specs.TypedLaws.{IsFileScope}
 use Rattle.qs_meaning.specs.Units.{parameters_in, function_with, function_typed, file_variables_typed, declaration_typed, declarations_typed, name_with_body, functions_in}
 use Rattle.qs_meaning.proofs.Options.{never, left, right, nothing, same, went, Known}
-use Rattle.qs_meaning.proofs.Faultless.{none_left, none_right, unbroken, first_unbroken}
+use Rattle.qs_meaning.proofs.FaultlessExpressions.{none_left, none_right, unbroken, first_unbroken}
 use Rattle.qs_meaning.proofs.Bindings.{has_types}
 use Rattle.qs_meaning.proofs.Bodies.{lengths_typed, not_held_back}
 use Rattle.qs_meaning.proofs.FunctionsTyped.{file_sound}

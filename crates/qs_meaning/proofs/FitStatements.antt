@@ -32,7 +32,7 @@ use Rattle.qs_meaning.specs.Statements.{initialised, variable_typed, variables_t
 use Rattle.qs_meaning.specs.Fits.{is_null, expr_fits, lvalue_fits, effect_fits, object_there, returned_fits, option_fits, stmt_fits, stmts_fit}
 use Rattle.qs_meaning.specs.FitLaws.{is_filled, variables_filled, start_filled, statement_filled, statements_filled, else_filled}
 use Rattle.qs_meaning.proofs.Options.{never, left, right, same, all_left, all_right}
-use Rattle.qs_meaning.proofs.Faultless.{HasTypes, none_left, none_right, unbroken, second_unbroken, type_of_known}
+use Rattle.qs_meaning.proofs.FaultlessExpressions.{HasTypes, none_left, none_right, unbroken, second_unbroken, type_of_known}
 use Rattle.qs_meaning.proofs.TypedExpressions.{kept}
 use Rattle.qs_meaning.proofs.Bodies.{not_held_back}
 use Rattle.qs_meaning.proofs.FitConversions.{both}
@@ -42,7 +42,7 @@ use Rattle.qs_meaning.proofs.FitLeaves.{is_sure, is_short, places, EntityFits, A
 use Rattle.qs_meaning.proofs.FitSmall.{Place}
 use Rattle.qs_meaning.proofs.FitExpressions.{typed_type, expression_there}
 use Rattle.qs_meaning.proofs.FitInitialisers.{LocalPlace, site_sure, local_there}
-use Rattle.qs_meaning.proofs.FitDeclared.{SizedType, variable_small}
+use Rattle.qs_meaning.proofs.FitDeclarations.{SizedType, variable_small}
 
 module _ (i : Interface) (g : Function) (called : List ℕ → Bool) (there : TextBlock → Bool) (s₀ : Scope) (structs : Structs) (table : SmallTable structs)
     (short : (t : TextBlock) → there t ≡ true → is_short t ≡ true)

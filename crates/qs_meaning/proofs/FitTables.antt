@@ -18,7 +18,7 @@ use Rattle.qs_meaning.specs.FitLaws.{has_declarators, members_filled}
 use Rattle.qs_meaning.specs.Names.{Scope, within}
 use Rattle.qs_meaning.specs.TypedLaws.{IsFileScope}
 use Rattle.qs_meaning.proofs.Options.{never, left, right, nothing, same, went, known}
-use Rattle.qs_meaning.proofs.Faultless.{none_left, none_right, unbroken, first_unbroken, second_unbroken}
+use Rattle.qs_meaning.proofs.FaultlessExpressions.{none_left, none_right, unbroken, first_unbroken, second_unbroken}
 use Rattle.qs_meaning.proofs.TypedExpressions.{kept}
 use Rattle.qs_meaning.proofs.Bindings.{has_types}
 use Rattle.qs_meaning.proofs.Bodies.{declared_known, lengths_typed}
@@ -27,7 +27,7 @@ use Rattle.qs_meaning.proofs.StructTables.{GoesOn, Grown, extents_grow, layout_g
 use Rattle.qs_meaning.proofs.FitConversions.{both}
 use Rattle.qs_meaning.proofs.FitTypes.{is_small, IsRoom, SmallTable, sized_is, room, extents_positive, layouts_positive, rounded_above, ends_behind, laid_as}
 use Rattle.qs_meaning.proofs.FitLayouts.{laid}
-use Rattle.qs_meaning.proofs.FitDeclared.{declared_small}
+use Rattle.qs_meaning.proofs.FitDeclarations.{declared_small}
 
 -- ---- types
 

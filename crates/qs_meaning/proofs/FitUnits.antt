@@ -6,7 +6,7 @@ use Rattle.std.proofs.lemmas.Bool.Decides.{nat_tests}
 use Rattle.std.proofs.lemmas.List.{map-append, length-append, length-map}
 use Rattle.std.proofs.lemmas.List.Folds.{list_all-append}
 use Rattle.qs_syntax.specs.Sameness.{same_bytes}
-use Rattle.qs_syntax.proofs.Exact.{bytes_exact}
+use Rattle.qs_syntax.proofs.SamenessLaws.{bytes_exact}
 use Rattle.qs_syntax.specs.declared.nodes.Node.{Node}
 use Rattle.qs_syntax.specs.declared.types.Base.{Base}
 use Rattle.qs_syntax.specs.Trees.{VariableTree, FunctionTree, Stmts, DeclTree, structure, forward, function, variables, UnitTree}
@@ -37,7 +37,7 @@ use Rattle.qs_meaning.specs.Fits.{function_fits, program_fits}
 use Rattle.qs_meaning.specs.FitLaws.{are_different, is_filled, variables_filled, body_filled, declaration_filled, IsAsRead, TypedUnitsFit}
 use Rattle.qs_meaning.specs.TypedLaws.{IsFileScope}
 use Rattle.qs_meaning.proofs.Options.{never, left, right, nothing, same, all_left, all_right, went, Known}
-use Rattle.qs_meaning.proofs.Faultless.{none_left, none_right}
+use Rattle.qs_meaning.proofs.FaultlessExpressions.{none_left, none_right}
 use Rattle.qs_meaning.proofs.InitialMemory.{placed_below, declarations_count}
 use Rattle.qs_meaning.proofs.UnitsTyped.{header_signature, start_known}
 use Rattle.qs_meaning.proofs.FitConversions.{both}
@@ -45,7 +45,7 @@ use Rattle.qs_meaning.proofs.FitTypes.{is_small, SmallTable}
 use Rattle.qs_meaning.proofs.FitLeaves.{is_short, scalar_signature}
 use Rattle.qs_meaning.proofs.FitSmall.{starred_small}
 use Rattle.qs_meaning.proofs.FitInitialisers.{site_sure}
-use Rattle.qs_meaning.proofs.FitDeclared.{variable_small}
+use Rattle.qs_meaning.proofs.FitDeclarations.{variable_small}
 use Rattle.qs_meaning.proofs.FitLocals.{sub_front, sub_back, sub_same, sub_different, ids}
 use Rattle.qs_meaning.proofs.FitFunctions.{FileFits, AllFile, made}
 use Rattle.qs_meaning.proofs.FitBodies.{function_there}

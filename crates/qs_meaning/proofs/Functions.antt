@@ -19,9 +19,9 @@ use Rattle.qs_meaning.specs.Conversions.{scalar_of}
 use Rattle.qs_meaning.specs.Names.{Locals, Scope, within, place_among}
 use Rattle.qs_meaning.specs.Units.{nodes_of, placed_among, scalars_of, sizes_of, parameter_by, parameter_typed, parameters_typed}
 use Rattle.qs_meaning.proofs.Options.{never, left, right, Known, known, onward}
-use Rattle.qs_meaning.proofs.Faultless.{none_left, none_right, unbroken, first_unbroken, second_unbroken, type_known}
+use Rattle.qs_meaning.proofs.FaultlessExpressions.{none_left, none_right, unbroken, first_unbroken, second_unbroken, type_known}
 use Rattle.qs_meaning.proofs.Bindings.{Sound, has_types}
-use Rattle.qs_meaning.proofs.Initialising.{sites_taken}
+use Rattle.qs_meaning.proofs.LocalInitialisers.{sites_taken}
 use Rattle.qs_meaning.proofs.Bodies.{is_fine_local, locals_fine, is_sized_local, all_sized, lengths_typed}
 
 -- ---- the locals of a function

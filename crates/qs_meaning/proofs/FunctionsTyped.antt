@@ -18,9 +18,9 @@ use Rattle.qs_meaning.specs.Statements.{statements_typed}
 use Rattle.qs_meaning.specs.Units.{nodes_of, placed_among, plain_among, variables_among, locals_of, parameters_in, scalars_of, sizes_of, parameters_typed, in_body, function_with, function_typed}
 use Rattle.qs_meaning.specs.TypedLaws.{EntityTyped, AllTyped, IsFileScope, FunctionsTyped}
 use Rattle.qs_meaning.proofs.Options.{never, right, Known, onward}
-use Rattle.qs_meaning.proofs.Faultless.{none_left, none_right, unbroken, first_unbroken, second_unbroken}
+use Rattle.qs_meaning.proofs.FaultlessExpressions.{none_left, none_right, unbroken, first_unbroken, second_unbroken}
 use Rattle.qs_meaning.proofs.Bindings.{EntityFine, AllFine, Sound}
-use Rattle.qs_meaning.proofs.Initialising.{sites_taken}
+use Rattle.qs_meaning.proofs.LocalInitialisers.{sites_taken}
 use Rattle.qs_meaning.proofs.Bodies.{locals_fine, locals_left, locals_right, all_sized, sized_together, Stands, all_known, body_sized}
 use Rattle.qs_meaning.proofs.Functions.{all_fine, all_taken, scalars_known, scalars_behind, sizes_known, is_scalar_type, all_scalar, parameters_scalar, with_parameters_sound, same_result, same_structs_with, parameters_known, parameters_sized, parameters_declared}
 

@@ -7,7 +7,7 @@ use Rattle.qs_calls.proofs.RelationLaws.{given_related, activate_related, within
 use Rattle.qs_meaning.specs.Typed.{Function}
 use Rattle.qs_meaning.specs.Runs.{frame_of, calls_within, start_world, main_from}
 use Rattle.qs_meaning.specs.Laws.{RunsGrow, MainGrows, CallsFollow}
-use Rattle.qs_meaning.proofs.Related.{TurnsRelated, body_related}
+use Rattle.qs_meaning.proofs.RelationLaws.{TurnsRelated, body_related}
 
 -- ---- growth
 

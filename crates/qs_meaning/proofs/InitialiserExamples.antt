@@ -15,7 +15,7 @@ use Rattle.qs_meaning.specs.Initialisers.{local_set}
 use Rattle.qs_meaning.specs.Units.{typed_of}
 use Rattle.qs_meaning.proofs.Samples as c
 use Rattle.qs_meaning.proofs.Samples.{number, numbers, valued, listed, global, one, many, open_length, struct_s, s_base, text, named, address, main_, eval}
-use Rattle.qs_meaning.proofs.Known.{structs, scope, u, v, text_at}
+use Rattle.qs_meaning.proofs.ExampleScopes.{structs, scope, u, v, text_at}
 
 -- ---- blanks (6.7.9p10)
 

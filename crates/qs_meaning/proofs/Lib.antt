@@ -1,20 +1,20 @@
 pub mod Samples
-mod Known
+mod ExampleScopes
 mod ExpressionTreeExamples
 mod InitialiserExamples
 mod Outcomes
 mod UndefinedExamples
 mod RunExamples
-pub mod Related
+pub mod RelationLaws
 mod Growth
 pub mod Options
 mod CompleteTypes
 mod TypedExpressions
-pub mod Faultless
+pub mod FaultlessExpressions
 pub mod Bindings
 mod ValueExamples
 mod UnitExamples
-mod Initialising
+mod LocalInitialisers
 pub mod Bodies
 pub mod Functions
 pub mod FunctionsTyped
@@ -34,7 +34,7 @@ mod FitSmall
 mod FitExpressions
 mod FitLayouts
 mod FitInitialisers
-mod FitDeclared
+mod FitDeclarations
 mod FitStatements
 pub mod FitLocals
 pub mod FitFunctions

@@ -11,7 +11,7 @@ use Rattle.qs_meaning.specs.Names.{Scope, within}
 use Rattle.qs_meaning.specs.Units.{nodes_of, placed_among, function_typed, file_variables_typed, declaration_typed, declarations_typed, start_scope}
 use Rattle.qs_meaning.specs.TypedLaws.{IsFileScope, UnitsTyped}
 use Rattle.qs_meaning.proofs.Options.{nothing, Known, onward}
-use Rattle.qs_meaning.proofs.Faultless.{none_left, none_right, unbroken, first_unbroken, second_unbroken}
+use Rattle.qs_meaning.proofs.FaultlessExpressions.{none_left, none_right, unbroken, first_unbroken, second_unbroken}
 use Rattle.qs_meaning.proofs.Functions.{all_fine, all_scalar, parameters_scalar, parameters_declared}
 use Rattle.qs_meaning.proofs.FunctionsTyped.{file_sound, result_known, signature_known, after_function_scope, functions_typed}
 use Rattle.qs_meaning.proofs.FileVariables.{file_variables_known}

@@ -18,10 +18,10 @@ use Rattle.qs_grammar.specs.ParseStatements.{unit}
 use Rattle.qs_parser.specs.Answers.{ReadsAs, HasNoReading, IsUnexpected, IsTooDeep, HasFault, Answers, IsDecision}
 use Rattle.qs_parser.specs.declared.syntax_fault.SyntaxFault.{SyntaxFault}
 use Rattle.qs_parser.specs.declared.syntax_fault.SyntaxFault.TheVariants as faults
-use Rattle.qs_grammar.proofs.Counted.{counted_unit}
+use Rattle.qs_grammar.proofs.NodeCounts.{counted_unit}
 use Rattle.qs_grammar.proofs.UnitsSound.{reads_whole}
 use Rattle.qs_grammar.proofs.UnitsComplete.{one_reading}
-use Rattle.qs_grammar.proofs.Exact.{no_unit_at_all, Before, UpTo, unexpected_place, deep_place, front_begins, front_begins_low, low_begins}
+use Rattle.qs_grammar.proofs.FaultPlaces.{no_unit_at_all, Before, UpTo, unexpected_place, deep_place, front_begins, front_begins_low, low_begins}
 
 abbrev Gave : List Terminal → List DeclTree → ℕ → Type 0
 Gave ts ds h = unit 126 ts ≡ Ok ((ds, h), [])

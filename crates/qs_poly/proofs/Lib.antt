@@ -4,9 +4,9 @@ pub mod Coefficients
 pub mod Steps
 pub mod Search
 pub mod Bounds
-pub mod Limited
+pub mod LimitLaws
 pub mod CodeSteps
-pub mod Lessened
+pub mod DifferenceLaws
 pub mod ValueLaws
 pub mod Equality
 pub mod Examples

@@ -1,5 +1,5 @@
 pub mod Sinks
 pub mod Wholes
 pub mod Shelves
-pub mod Shelving
+pub mod ShelfChanges
 pub mod MemoryStores

@@ -14,4 +14,4 @@ pub mod RereadDeclarations
 pub mod RereadStatements
 pub mod RereadUnits
 pub mod PrintedRelabelled
-pub mod Back
+pub mod ReadsBackLaws

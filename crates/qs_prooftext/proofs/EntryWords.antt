@@ -13,7 +13,7 @@ use Rattle.qs_assert.specs.declared.variable.VarKind.{VarKind}
 use Rattle.qs_assert.specs.declared.variable.VarKind.TheVariants as kinds
 use Rattle.qs_assert.specs.declared.variable.Var.{Var}
 use Rattle.qs_assert.specs.Substitution.{same_number_type, same_variable}
-use Rattle.qs_assert.proofs.Same.{variable_equal, variable_self}
+use Rattle.qs_assert.proofs.SamenessLaws.{variable_equal, variable_self}
 use Rattle.qs_core.specs.TermTexts.{temporary_text, variable_name}
 use Rattle.qs_core.specs.Trees.{CoreFunctionTree, CoreUnitTree, CoreVariableTree}
 use Rattle.qs_core.specs.FunctionNames.{function_name}

@@ -28,7 +28,7 @@ use Rattle.qs_prooftext.specs.Reading.{Reading}
 use Rattle.qs_prooftext.specs.Settings.{functions_of, in_definition, in_entry, look_up, words_of}
 use Rattle.qs_prooftext.specs.Writable.{IsWritable, definition_stands, entry_stands, entry_stands_in, parts_stand}
 use Rattle.qs_prooftext.specs.Writing.{Words, HasOwnWords, assertion_form, certificate_form, derivation_form, define_form, entry_form, file_forms, forms_of, headed, words_in, words_of_entry}
-use Rattle.qs_prooftext.proofs.Placed.{place, parts_in, first_in, others_in, placed, all_placed, all_placed_back}
+use Rattle.qs_prooftext.proofs.PlacedForms.{place, parts_in, first_in, others_in, placed, all_placed, all_placed_back}
 use Rattle.qs_prooftext.proofs.WordLaws.{definition_agrees, entry_agrees, looked_up_at, names_at, some_is, text_self, texts_differ}
 use Rattle.qs_prooftext.proofs.WrittenMeans.{left, right, one_part, four_parts, assertion_back, definition_back}
 use Rattle.qs_prooftext.proofs.WrittenDerivations.{certificate_back, derivation_back}

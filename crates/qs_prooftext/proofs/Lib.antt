@@ -1,6 +1,6 @@
 pub mod OneMeaning
 pub mod Examples
-pub mod Placed
+pub mod PlacedForms
 pub mod WrittenMeans
 pub mod WrittenDerivations
 pub mod WordLaws

@@ -1,7 +1,7 @@
 -- Trees taken off a stack.
 use Rattle.std.proofs.Common.{◌≡◌, ℕ, suc, List, [], ◌∷◌, ◌++◌, map, reverse, refl, sym, ap, ◌∙◌, append_assoc}
 use Rattle.std.proofs.lemmas.List.{map-append, reverse-append}
-use Rattle.qs_assert.proofs.Mapped.{mapped_first, mapped_others, mapped_reverse}
+use Rattle.qs_assert.proofs.StackViewLaws.{mapped_first, mapped_others, mapped_reverse}
 use Rattle.qs_assert.specs.Reading.{others}
 use Rattle.qs_assert.specs.Stacks.{first_or}
 use Rattle.qs_prooftext.specs.Planting.{Shape, behind, firsts, plant, plants}

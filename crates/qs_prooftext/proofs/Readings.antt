@@ -4,7 +4,7 @@ use Rattle.qs_core.specs.Fits.{unit_fits}
 use Rattle.qs_core.specs.Trees.{CoreUnitTree}
 use Rattle.qs_sexpr.specs.Layout.{lay_all}
 use Rattle.qs_sexpr.specs.Spelling.{ReadsAs}
-use Rattle.qs_sexpr.proofs.LaidOut.{laid_out_reads}
+use Rattle.qs_sexpr.proofs.LayoutLaws.{laid_out_reads}
 use Rattle.qs_triples.specs.Derivations.{ProofsTree}
 use Rattle.qs_prooftext.specs.Reading.{Reading}
 use Rattle.qs_prooftext.specs.Writable.{IsWritable}

@@ -13,7 +13,7 @@ use Rattle.qs_assert.specs.declared.variable.VarKind.TheVariants as kinds
 use Rattle.qs_assert.specs.declared.variable.Var.{Var}
 use Rattle.qs_assert.specs.Substitution.{same_kind, same_number_type, same_variable}
 use Rattle.qs_assert.specs.Trees.{variable}
-use Rattle.qs_assert.proofs.Same.{variable_equal, variable_self}
+use Rattle.qs_assert.proofs.SamenessLaws.{variable_equal, variable_self}
 use Rattle.qs_entail.specs.Certificates.{range}
 use Rattle.qs_core.proofs.FitLaws.{both}
 use Rattle.qs_core.specs.Fits.{differ}
@@ -29,7 +29,7 @@ use Rattle.qs_prooftext.specs.Meanings.{or_fault, means}
 use Rattle.qs_prooftext.specs.Settings.{look_up, numbered, typed, with_word, variable_words, temporary_words, words_of, old_of, old_variable, functions_of, in_definition, in_entry}
 use Rattle.qs_prooftext.specs.Writable.{as_list, is_meant, old_variables}
 use Rattle.qs_prooftext.specs.Writing.{Words, word_for, variable_form}
-use Rattle.qs_prooftext.proofs.Placed.{place, placed}
+use Rattle.qs_prooftext.proofs.PlacedForms.{place, placed}
 use Rattle.qs_prooftext.proofs.WrittenMeans.{Agree, one_part}
 
 -- ---- tests

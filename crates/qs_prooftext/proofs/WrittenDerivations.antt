@@ -13,7 +13,7 @@ use Rattle.qs_prooftext.specs.Settings.{Setting}
 use Rattle.qs_prooftext.specs.Meanings.{means, all_mean}
 use Rattle.qs_prooftext.specs.Writing.{Words, forms_of, item_form, combination_form, fact_form, certificate_form, certificate_forms, derivation_form, derivation_forms}
 use Rattle.qs_prooftext.specs.Writable.{fact_stands, certificate_stands, certificates_stand, derivation_stands, derivations_stand}
-use Rattle.qs_prooftext.proofs.Placed.{part_in, parts_in, placed, all_placed}
+use Rattle.qs_prooftext.proofs.PlacedForms.{part_in, parts_in, placed, all_placed}
 use Rattle.qs_prooftext.proofs.WrittenMeans.{left, right, one_part, two_parts, three_parts, four_parts, any_parts, next_part, Agree, function_back, term_back, condition_back, assertion_back}
 
 -- ---- combinations

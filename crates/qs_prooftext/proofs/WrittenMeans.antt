@@ -12,7 +12,7 @@ use Rattle.qs_prooftext.specs.Settings.{Setting, look_up}
 use Rattle.qs_prooftext.specs.Meanings.{Answer, or_fault, means, all_mean}
 use Rattle.qs_prooftext.specs.declared.fault.TextFault.TheVariants.{UnknownForm, NoSuchFunction}
 use Rattle.qs_prooftext.specs.Writing.{Words, forms_of, variable_form, term_form, term_forms, condition_form, condition_forms, assertion_form, assertion_forms}
-use Rattle.qs_prooftext.proofs.Placed.{place, others_in, placed, all_placed}
+use Rattle.qs_prooftext.proofs.PlacedForms.{place, others_in, placed, all_placed}
 use Rattle.qs_prooftext.specs.Writable.{is_meant, term_stands, terms_stand, condition_stands, conditions_stand, assertion_stands, assertions_stand, definition_stands, definitions_stand, is_function}
 
 -- ---- tests

@@ -7,7 +7,7 @@ use Rattle.qs_sexpr.specs.Marks.{Mark, opens, closes, word, marks, all_marks, fi
 use Rattle.qs_sexpr.specs.Writing.{Form, symbol_form, number_form, list_form, Forms, no_forms, form_and, size, size_all, size_others}
 use Rattle.qs_sexpr.specs.declared.layout.Layer.{Layer}
 use Rattle.qs_sexpr.specs.declared.layout.Layer.TheVariants.{Top, OnLine, Head, Second, Others}
-use Rattle.qs_sexpr.proofs.LaidOut.{IsOpen, inside_open, behind_open}
+use Rattle.qs_sexpr.proofs.LayoutLaws.{IsOpen, inside_open, behind_open}
 
 -- ---- sizes
 

@@ -10,7 +10,7 @@ use Rattle.qs_sexpr.specs.declared.fault.SexprFault.{SexprFault}
 use Rattle.qs_sexpr.specs.declared.fault.SexprFault.TheVariants as faults
 use Rattle.qs_sexpr.specs.declared.node.Node.{Node}
 use Rattle.qs_sexpr.proofs.ReadingScans.{parts_list, parts_of_list, reading_scanned, fault_scanned}
-use Rattle.qs_sexpr.proofs.Scanned.{Told, scanned_told}
+use Rattle.qs_sexpr.proofs.ScanResults.{Told, scanned_told}
 
 -- ---- what is in an answer
 

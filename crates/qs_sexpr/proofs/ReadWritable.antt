@@ -11,7 +11,7 @@ use Rattle.qs_sexpr.specs.Trees.{Sexps}
 use Rattle.qs_sexpr.specs.Writing.{forms_of_parts, is_symbol, IsInRange, AreWritable}
 use Rattle.qs_sexpr.specs.declared.pieces.Piece.{Piece}
 use Rattle.qs_sexpr.specs.declared.pieces.Piece.TheVariants.{White, Open, Close, Number, Symbol, BadByte}
-use Rattle.qs_sexpr.proofs.Written.{and_right}
+use Rattle.qs_sexpr.proofs.WritingLaws.{and_right}
 
 -- ---- numbers
 

@@ -20,13 +20,13 @@ pub fn each_place()
 {}
 
 /// A text of lists and atoms, with white space between the parts of each list, reads as these.
-#[tactic(auto, using(crate::proofs::Spelled::spelled_reads))]
+#[tactic(auto, using(crate::proofs::SpellingLaws::spelled_reads))]
 pub fn spelled_reads()
     ensures { SpelledReads }
 {}
 
 /// What is laid out for people reads as what was written.
-#[tactic(auto, using(crate::proofs::LaidOut::laid_out_reads))]
+#[tactic(auto, using(crate::proofs::LayoutLaws::laid_out_reads))]
 pub fn written_reads()
     ensures { WrittenReads }
 {}

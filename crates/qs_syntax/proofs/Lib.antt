@@ -4,5 +4,5 @@ pub mod NumberingLoops
 pub mod UnitLaws
 pub mod PunctuatorLaws
 pub mod OperatorLaws
-pub mod Exact
-pub mod ExactUnits
+pub mod SamenessLaws
+pub mod SamenessOfUnits

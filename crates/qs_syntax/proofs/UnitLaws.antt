@@ -13,7 +13,7 @@ use Rattle.qs_syntax.specs.Sameness.{same_unit}
 use Rattle.qs_syntax.specs.Units.{IsNumbered}
 use Rattle.qs_syntax.proofs.RelabelLaws.{unit_numbered_again}
 use Rattle.qs_syntax.proofs.NodeLaws.{unit_length, unit_at, same_tokens, node_at}
-use Rattle.qs_syntax.proofs.ExactUnits.{unit_exact}
+use Rattle.qs_syntax.proofs.SamenessOfUnits.{unit_exact}
 
 pub is_numbered : (ds unnumbered : UnitTree) → ds ≡ numbered_unit unnumbered → IsNumbered ds
 is_numbered ds unnumbered e = ∣ ap numbered_unit e ∙ (unit_numbered_again unnumbered ∙ sym e) ∣₁

@@ -8,7 +8,7 @@ use Rattle.qs_calls.specs.declared.callee.Callee.TheVariants.{Function, PutChar,
 use Rattle.qs_assert.specs.declared.variable.Var.{Var}
 use Rattle.qs_assert.specs.Substitution.{same_variable}
 use Rattle.qs_assert.specs.Trees.{AssertionTree}
-use Rattle.qs_assert.proofs.Same.{variable_equal}
+use Rattle.qs_assert.proofs.SamenessLaws.{variable_equal}
 use Rattle.qs_entail.specs.Faults as certificates
 use Rattle.qs_core.specs.Trees as core
 use Rattle.qs_core.specs.Trees.{CoreExprTree, CoreStmtTree, CoreStmts, CoreFunctionTree}

@@ -29,8 +29,8 @@ use Rattle.qs_assert.specs.Trees.{TermTree, AssertionTree}
 use Rattle.qs_assert.specs.Values.{State, term_value, value}
 use Rattle.qs_assert.specs.Variables.{variables}
 use Rattle.qs_assert.proofs.Agreement.{value_agrees}
-use Rattle.qs_assert.proofs.Same.{assertion_same}
-use Rattle.qs_assert.proofs.Variabled.{of_its_variables}
+use Rattle.qs_assert.proofs.SamenessLaws.{assertion_same}
+use Rattle.qs_assert.proofs.VariableLaws.{of_its_variables}
 use Rattle.qs_core.specs.Trees.{CoreExprTree, literal, null_pointer, variable, temporary, address_of, load, member, unary, binary, conversion, logical_and, logical_or, conditional, CoreFunctionTree}
 use Rattle.qs_core.specs.Expressions.{Locals, type_of}
 use Rattle.qs_core.specs.Expressions as expressions

@@ -25,7 +25,7 @@ use Rattle.qs_assert.specs.Order.{order_fault, IsInOrder}
 use Rattle.qs_assert.specs.Trees.{AssertionTree}
 use Rattle.qs_assert.specs.Values.{Extended, term_value, value}
 use Rattle.qs_assert.proofs.Agreement.{value_agrees}
-use Rattle.qs_assert.proofs.Variabled.{of_its_variables}
+use Rattle.qs_assert.proofs.VariableLaws.{of_its_variables}
 use Rattle.qs_entail.specs.Faults as certificates
 use Rattle.qs_entail.specs.Meaning.{AtLeast}
 use Rattle.qs_entail.specs.Verdicts.{verdict}

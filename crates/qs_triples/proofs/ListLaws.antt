@@ -11,7 +11,7 @@ use Rattle.std.proofs.lemmas.Bool.{eq-eqb}
 use Rattle.qs_triples.specs.declared.derivation.FunctionProof.{FunctionProof}
 use Rattle.qs_triples.specs.TreeOf.{entry_tree}
 use Rattle.qs_triples.specs.Views.{entry_in}
-use Rattle.qs_assert.proofs.Variabled.{listed, assertion_listed}
+use Rattle.qs_assert.proofs.VariableLaws.{listed, assertion_listed}
 
 -- the variables of all nodes
 pub all_listed : (a : AssertionTree) (nodes : List Node) (xs : List Var) (i : ℕ) → length nodes ≤ i → nodes ≡ assertion_nodes a → xs ++ listed (drop i nodes) ≡ listed nodes → xs ≡ variables a

@@ -12,12 +12,12 @@ use Rattle.qs_assert.specs.Substitution.{same_variable}
 use Rattle.qs_assert.specs.Trees.{CondTree, AssertionTree}
 use Rattle.qs_assert.specs.Values.{State, Extended, holds, value}
 use Rattle.qs_assert.specs.Variables.{variables, mentions}
-use Rattle.qs_assert.proofs.Variabled.{of_its_variables}
+use Rattle.qs_assert.proofs.VariableLaws.{of_its_variables}
 use Rattle.qs_entail.specs.Certificates.{CertTree}
 use Rattle.qs_entail.specs.Meaning.{AtLeast, InRange}
 use Rattle.qs_entail.specs.Verdicts.{verdict}
 use Rattle.qs_entail.proofs.Definitions.{only_names}
-use Rattle.qs_entail.proofs.Sound.{certificates_are_sound}
+use Rattle.qs_entail.proofs.Soundness.{certificates_are_sound}
 use Rattle.qs_triples.specs.Valuations.{state_of}
 use Rattle.qs_triples.specs.Entries.{AreClosed}
 

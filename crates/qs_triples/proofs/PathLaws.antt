@@ -23,7 +23,7 @@ use Rattle.qs_assert.specs.Trees.{TermTree, AssertionTree}
 use Rattle.qs_assert.specs.Values.{State, Extended, finite, plus, term_value, value}
 use Rattle.qs_assert.specs.Variables.{variables}
 use Rattle.qs_assert.proofs.Agreement.{value_after}
-use Rattle.qs_assert.proofs.Same.{assertion_self}
+use Rattle.qs_assert.proofs.SamenessLaws.{assertion_self}
 use Rattle.qs_entail.specs.Meaning.{AtLeast}
 use Rattle.qs_entail.proofs.Amounts.{at_least_itself}
 use Rattle.qs_core.specs.Trees as core

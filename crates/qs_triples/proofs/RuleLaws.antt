@@ -34,7 +34,7 @@ use Rattle.qs_assert.specs.Sameness.{same_assertion}
 use Rattle.qs_assert.specs.Simultaneous.{first_without}
 use Rattle.qs_assert.specs.Trees.{TermTree, CondTree, AssertionTree}
 use Rattle.qs_assert.specs.Values.{State, Extended, finite, plus, greater, term_value, holds, value}
-use Rattle.qs_assert.proofs.Same.{assertion_same}
+use Rattle.qs_assert.proofs.SamenessLaws.{assertion_same}
 use Rattle.qs_entail.specs.Certificates.{CertTree}
 use Rattle.qs_entail.specs.Meaning.{AtLeast}
 use Rattle.qs_entail.specs.Verdicts.{verdict}

@@ -20,8 +20,8 @@ use Rattle.qs_assert.specs.Trees.{TermTree, AssertionTree}
 use Rattle.qs_assert.specs.Values.{State, term_value, value}
 use Rattle.qs_assert.specs.Variables.{variables}
 use Rattle.qs_assert.proofs.Agreement.{value_agrees, value_after}
-use Rattle.qs_assert.proofs.Same.{variable_equal}
-use Rattle.qs_assert.proofs.Variabled.{of_its_variables}
+use Rattle.qs_assert.proofs.SamenessLaws.{variable_equal}
+use Rattle.qs_assert.proofs.VariableLaws.{of_its_variables}
 use Rattle.qs_entail.specs.Facts.{least, greatest_of_type}
 use Rattle.qs_entail.specs.Meaning.{InRange}
 use Rattle.qs_core.specs.Trees.{CoreFunctionTree}

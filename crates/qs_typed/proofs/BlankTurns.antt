@@ -11,7 +11,7 @@ use Rattle.qs_types.specs.StructsOf.{member_tree}
 use Rattle.qs_types.specs.TypeOf.{type_tree}
 use Rattle.qs_meaning.specs.Blanks.{Blanks, blank_by, members_blank, struct_blank, blanks_within}
 use Rattle.qs_typed.specs.Behind.{behind}
-use Rattle.qs_typed.proofs.Kept as options
+use Rattle.qs_typed.proofs.KeptAgreement as options
 use Rattle.qs_typed.proofs.Loops.{before_more, drop_past, all_blanks, member_turn}
 
 -- ---- members by their places

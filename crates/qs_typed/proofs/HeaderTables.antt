@@ -15,7 +15,7 @@ use Rattle.qs_meaning.specs.Units.{scalars_of}
 use Rattle.qs_typed.specs.Known.{Header, parameters_of}
 use Rattle.qs_typed.specs.KnownFunctions.{parameters_nodes, locals_at}
 use Rattle.qs_typed.specs.KnownOf.{header_tree, headers_tree}
-use Rattle.qs_typed.proofs.Kept.{nothing}
+use Rattle.qs_typed.proofs.KeptAgreement.{nothing}
 use Rattle.qs_typed.specs.KnownUnits.{header_behind, with_header, headers_behind}
 
 header_missing : (node : ℕ) (hs : List (ℕ × Vec Scalar Global)) → lookup (nat_eq node) hs ≡ None → parameters_of node (headers_tree hs) ≡ None

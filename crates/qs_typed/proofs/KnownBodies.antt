@@ -17,7 +17,7 @@ use Rattle.qs_meaning.specs.Statements.{behind_variable, inner, loop_body, in_fo
 use Rattle.qs_typed.specs.Known.{Known}
 use Rattle.qs_typed.specs.Agrees.{ResultIs, ExpressionAt, OptionAt, InitialiserAt, InitialisersAt, InitialAt, VariablesAt, StartAt, StatementAt, StatementsAt, ElseAt}
 use Rattle.qs_typed.proofs.KnownNodes.{Each, each_left, each_right, StandsIn, at_node, nodes_known}
-use Rattle.qs_typed.proofs.Inside.{Inside, inner_inside, loop_inside, local_inside}
+use Rattle.qs_typed.proofs.InnerScopes.{Inside, inner_inside, loop_inside, local_inside}
 
 -- ---- each node with its type, and with what its name stands for
 

@@ -22,8 +22,8 @@ use Rattle.qs_typed.specs.KnownStatements.{statements_known}
 use Rattle.qs_typed.specs.KnownFunctions.{local_at, locals_at, parameter_known, parameters_known, function_known}
 use Rattle.qs_typed.specs.Agrees.{Keeps, Grown}
 use Rattle.qs_typed.specs.AgreesFunctions.{ParametersAt, LocalsAt, FunctionAt}
-use Rattle.qs_typed.proofs.Kept.{nothing, kept, is_kept, equal_kept}
-use Rattle.qs_typed.proofs.Grown.{size_kept}
+use Rattle.qs_typed.proofs.KeptAgreement.{nothing, kept, is_kept, equal_kept}
+use Rattle.qs_typed.proofs.UnitStructs.{size_kept}
 use Rattle.qs_typed.proofs.TiedStatements.{statements_kept}
 
 -- ---- parameters

@@ -21,10 +21,10 @@ use Rattle.qs_typed.specs.Parts.{between}
 use Rattle.qs_typed.specs.Known.{Known, at_number, known}
 use Rattle.qs_typed.specs.KnownStatements.{text_set_known, assigned_set_known, piece_set_known, pieces_set_known, filled_known, object_set_known, local_set_known, initialised_known, variable_known, variables_known, effect_known, option_effect_known, condition_known, option_condition_known, start_known, return_known, statement_known, statements_known, else_known}
 use Rattle.qs_typed.specs.Agrees.{Keeps, Grown, Agrees, ExpressionAt, OptionAt, InitialiserAt, InitialisersAt, ResultIs, InitialAt, VariableAt, VariablesAt, StartAt, StatementAt, StatementsAt, ElseAt}
-use Rattle.qs_typed.proofs.Kept.{kept, kept_by, is_kept, equal_kept, choice_kept}
-use Rattle.qs_typed.proofs.Kept as options
-use Rattle.qs_typed.proofs.Grown.{size_kept, offset_kept, plain_kept}
-use Rattle.qs_typed.proofs.Tied.{typed_kept}
+use Rattle.qs_typed.proofs.KeptAgreement.{kept, kept_by, is_kept, equal_kept, choice_kept}
+use Rattle.qs_typed.proofs.KeptAgreement as options
+use Rattle.qs_typed.proofs.UnitStructs.{size_kept, offset_kept, plain_kept}
+use Rattle.qs_typed.proofs.TiedExpressions.{typed_kept}
 
 at_kept : (k : Known) (s : Scope) (e : ExprTree) → ExpressionAt k s e → Keeps (typed s e) (known k e)
 at_kept k s e h = typed_kept k s h.0 h.1.0 e h.1.1

@@ -33,8 +33,8 @@ use Rattle.qs_typed.specs.BlockLaws.{UnitBlocksAreTyped}
 use Rattle.qs_typed.specs.Known.{Known, at_number}
 use Rattle.qs_typed.specs.KnownBlocks.{referent_pointer, name_pointer, named_pointer_known, address_constant_known, pointer_constant_known, pointer_cells_known, integer_cells_known, constant_cells_known, piece_cells_known, pieces_over_known, initialised_cells_known, initial_cells_known, variable_block_known, file_variables_known, blocks_known}
 use Rattle.qs_typed.specs.KnownPrograms.{Tables}
-use Rattle.qs_typed.proofs.Kept.{nothing, same, kept, kept_by, is_kept, equal_kept, choice_kept}
-use Rattle.qs_typed.proofs.Later.{grown}
+use Rattle.qs_typed.proofs.KeptAgreement.{nothing, same, kept, kept_by, is_kept, equal_kept, choice_kept}
+use Rattle.qs_typed.proofs.LaterStructs.{grown}
 use Rattle.qs_typed.proofs.TiedStatements.{pieces_kept}
 use Rattle.qs_typed.proofs.KnownNodes.{at_node, nodes_known}
 use Rattle.qs_typed.proofs.KnownBodies.{Stand, left, right, declared_type, no_referent, its_type, its_referent}

@@ -16,9 +16,9 @@ use Rattle.qs_meaning.specs.Units.{result_scalar, in_body}
 use Rattle.qs_typed.specs.Known.{Known, with_tags}
 use Rattle.qs_typed.specs.KnownFunctions.{base_scalar, named_scalar, returns_nothing}
 use Rattle.qs_typed.specs.Agrees.{Keeps}
-use Rattle.qs_typed.proofs.Kept.{nothing, same}
-use Rattle.qs_typed.proofs.Later.{IsLater, grown}
-use Rattle.qs_typed.proofs.Inside.{Inside, local_inside}
+use Rattle.qs_typed.proofs.KeptAgreement.{nothing, same}
+use Rattle.qs_typed.proofs.LaterStructs.{IsLater, grown}
+use Rattle.qs_typed.proofs.InnerScopes.{Inside, local_inside}
 use Rattle.qs_typed.proofs.UnitHeaders.{HeadersFound}
 use Rattle.qs_typed.proofs.UnitGiven.{GivenIn}
 

@@ -13,8 +13,8 @@ use Rattle.qs_types.specs.UnitRules.{with_tag, no_members, after_members, has_no
 use Rattle.qs_meaning.proofs.Options.{never}
 use Rattle.qs_meaning.proofs.StructTables.{GoesOn, appended_goes_on, set_keeps, set_count}
 use Rattle.qs_typed.specs.Agrees.{Keeps}
-use Rattle.qs_typed.proofs.Kept.{nothing}
-use Rattle.qs_typed.proofs.Later.{IsLater}
+use Rattle.qs_typed.proofs.KeptAgreement.{nothing}
+use Rattle.qs_typed.proofs.LaterStructs.{IsLater}
 
 -- structs that have members keep them, and a tag its struct
 pub record GoesTo (c d : Context) : Type 0 where

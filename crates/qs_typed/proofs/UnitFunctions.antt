@@ -20,7 +20,7 @@ use Rattle.qs_typed.specs.Agrees.{ResultIs}
 use Rattle.qs_typed.specs.AgreesFunctions.{LocalsAt, FunctionAt}
 use Rattle.qs_typed.proofs.KnownNodes.{Each, StandsIn}
 use Rattle.qs_typed.proofs.KnownBodies.{declared_type, no_referent, its_type, its_referent, Stand, statements_at}
-use Rattle.qs_typed.proofs.Later.{grown}
+use Rattle.qs_typed.proofs.LaterStructs.{grown}
 use Rattle.qs_typed.proofs.AddressedLaws as addresses
 use Rattle.qs_typed.proofs.TiedFunctions.{both_at, locals_again}
 use Rattle.qs_typed.proofs.UnitHeaders.{ParametersDeclared}

@@ -18,7 +18,7 @@ use Rattle.qs_typed.specs.Known.{Header, at_number, parameters_of}
 use Rattle.qs_typed.specs.KnownFunctions.{parameters_nodes, locals_at}
 use Rattle.qs_typed.specs.KnownUnits.{header_known, header_behind, with_header}
 use Rattle.qs_typed.specs.Agrees.{Keeps}
-use Rattle.qs_typed.proofs.Kept.{nothing, same}
+use Rattle.qs_typed.proofs.KeptAgreement.{nothing, same}
 
 -- each parameter has at its node the type that it is declared with
 abbrev pub ParametersDeclared : (types : List (Option TypeTree)) → Context → List ParameterTree → Type 0

@@ -27,7 +27,7 @@ use Rattle.qs_typed.specs.UnitLaws.{IsNumberedUnit}
 use Rattle.qs_typed.proofs.UnitContexts.{GoesTo}
 use Rattle.qs_typed.specs.TablesOf.{AreOf}
 use Rattle.qs_typed.specs.UnitVariables.{unit_variables, variables_known}
-use Rattle.qs_typed.proofs.Kept.{nothing, same}
+use Rattle.qs_typed.proofs.KeptAgreement.{nothing, same}
 use Rattle.qs_typed.proofs.KnownNodes.{Each, StandsIn}
 use Rattle.qs_typed.proofs.KnownBodies as bodies
 use Rattle.qs_typed.proofs.UnitGiven.{start_given}

@@ -11,9 +11,9 @@ use Rattle.qs_types.specs.Contexts.{Context, base_type, named_type, pointers, ta
 use Rattle.qs_types.specs.Expressions.{type_of}
 use Rattle.qs_types.specs.Constants.{is_built, is_unsigned, converted, truth, is_true, combined, decides, unary_value, value_of, shape_value, constant_of}
 use Rattle.qs_typed.specs.Agrees.{Keeps}
-use Rattle.qs_typed.proofs.Kept.{nothing, then_kept, is_kept, choice_kept}
-use Rattle.qs_typed.proofs.Later.{grown}
-use Rattle.qs_typed.proofs.Grown.{size_kept}
+use Rattle.qs_typed.proofs.KeptAgreement.{nothing, then_kept, is_kept, choice_kept}
+use Rattle.qs_typed.proofs.LaterStructs.{grown}
+use Rattle.qs_typed.proofs.UnitStructs.{size_kept}
 use Rattle.qs_typed.proofs.UnitContexts.{GoesTo}
 
 base_kept : (c d : Context) → GoesTo c d → (b : Base) → Keeps (base_type c b) (base_type d b)

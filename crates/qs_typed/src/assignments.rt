@@ -85,7 +85,7 @@ fn updated(
 }
 
 /// A compound assignment with this operator.
-#[tactic(auto, using(crate::proofs::Operated::compound_is))]
+#[tactic(auto, using(crate::proofs::OperationTypes::compound_is))]
 fn compound_form(
     alloc: Global,
     env: &Env,
@@ -132,7 +132,7 @@ pub fn assign_form(
 // ---- steps
 
 /// `++a` is `a += 1` (C11 6.5.3.1p2).
-#[tactic(auto, using(crate::proofs::Operated::compound_is))]
+#[tactic(auto, using(crate::proofs::OperationTypes::compound_is))]
 fn step_before_form(
     alloc: Global,
     env: &Env,
@@ -165,7 +165,7 @@ fn stepped(alloc: Global, t: &CType, lvalue: Lvalue, o: Operated) -> Result<Form
 }
 
 /// What `a++` writes, and the value before (C11 6.5.2.4p2).
-#[tactic(auto, using(crate::proofs::Operated::step_after_is))]
+#[tactic(auto, using(crate::proofs::OperationTypes::step_after_is))]
 fn step_after_form(
     alloc: Global,
     env: &Env,

@@ -76,7 +76,7 @@ fn start(alloc: Global, k: &Known<'_>, start: &Start) -> Result<Effect, NoMemory
 }
 
 /// The value is converted to the type of the result (C11 6.8.6.4p3).
-#[tactic(auto, using(crate::proofs::Operated::scalar_in_use))]
+#[tactic(auto, using(crate::proofs::OperationTypes::scalar_in_use))]
 fn returned(alloc: Global, k: &Known<'_>, e: &Option<Expr>) -> Result<Statement, NoMemory>
     ensures { Knows statement_tree return_known k.now (option_tree e.now) result }
 {

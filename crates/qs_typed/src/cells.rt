@@ -76,7 +76,7 @@ pub fn cells_of(alloc: Global, parts: &[Datum]) -> Result<Vec<Cell>, NoMemory>
 // ---- initialisers
 
 /// Puts cells in place of those from this place on.
-#[tactic(auto, using(crate::proofs::Gathering::over))]
+#[tactic(auto, using(crate::proofs::DataOrder::over))]
 pub fn write_over(cells: &mut [Cell], at: u32, new: &[Cell]) -> Result<(), NoMemory>
     ensures { Overwrites at new.now cells.old cells.new result }
 {

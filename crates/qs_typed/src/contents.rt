@@ -34,7 +34,7 @@ pub struct Contents {
 }
 
 /// Ends a run of bytes.
-#[tactic(auto, using(crate::proofs::Gathering::bytes_ended))]
+#[tactic(auto, using(crate::proofs::DataOrder::bytes_ended))]
 fn end_bytes(alloc: Global, whole: &mut Vec<Datum>, bytes: &mut Vec<u8>) -> Result<(), NoMemory>
     ensures cells { AddsData (map byte bytes.old.items) whole.old whole.new result }
     ensures bytes { OnOk result (bytes.new.items ≡ []) }
@@ -48,7 +48,7 @@ fn end_bytes(alloc: Global, whole: &mut Vec<Datum>, bytes: &mut Vec<u8>) -> Resu
 }
 
 /// Ends a run of null pointers.
-#[tactic(auto, using(crate::proofs::Gathering::nulls_ended))]
+#[tactic(auto, using(crate::proofs::DataOrder::nulls_ended))]
 fn end_nulls(whole: &mut Vec<Datum>, nulls: &mut u32) -> Result<(), NoMemory>
     ensures cells { AddsData (null_cells nulls.old) whole.old whole.new result }
     ensures nulls { OnOk result (nulls.new ≡ 0) }

@@ -100,7 +100,7 @@ fn dot_form(alloc: Global, env: &Env, a: Typed<'_>, name: &Name) -> Result<Form,
 }
 
 /// `p->x` (C11 6.5.2.3p4).
-#[tactic(auto, using(crate::proofs::Operated::referenced_in_use))]
+#[tactic(auto, using(crate::proofs::OperationTypes::referenced_in_use))]
 fn arrow_form(alloc: Global, env: &Env, a: Typed<'_>, name: &Name) -> Result<Form, NoMemory>
     ensures { IsForm (arrow_form (env_tree env.now) (typed_tree a.entry) name.now) result }
 {

@@ -50,7 +50,7 @@ fn operated(alloc: Global, o: Operated, a: Typed<'_>, b: Typed<'_>) -> Result<Ex
 }
 
 /// What an operator gives that is an operation.
-#[tactic(auto, using(crate::proofs::Operated::operator_is))]
+#[tactic(auto, using(crate::proofs::OperationTypes::operator_is))]
 pub fn operator_value(
     alloc: Global,
     env: &Env,

@@ -33,7 +33,7 @@ fn constant_form(n: u32, is_unsigned: bool) -> Form
 }
 
 /// An argument is converted to the type of its parameter (C11 6.5.2.2p7).
-#[tactic(auto, using(crate::proofs::Operated::scalar_in_use))]
+#[tactic(auto, using(crate::proofs::OperationTypes::scalar_in_use))]
 fn with_conversion(alloc: Global, s: Scalar, a: Typed<'_>) -> Result<Argument, NoMemory>
     ensures { IfOk result (λ r. argument_tree r ≡ with_conversion s (typed_tree a.entry)) }
 {

@@ -3,7 +3,7 @@ pub mod Rounding
 mod Layouts
 mod Extents
 mod LayoutSteps
-pub mod Declaring
+pub mod StructLayouts
 pub mod TagPlaces
 pub mod KnownValues
 mod LayoutExamples

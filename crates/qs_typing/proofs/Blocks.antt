@@ -20,8 +20,8 @@ use Rattle.qs_types.specs.Limits.{Block, type_size, variables_blocks, variable_b
 use Rattle.qs_types.specs.Sites.{may_hold}
 use Rattle.qs_typing.specs.Noted.{LocalTree, local_tree, parameters_noted, is_block, local_past_by}
 use Rattle.qs_typing.specs.UnitWalk.{WalkTree, node_opened, object_opened, declarator_walked, node_judged, option_list_tests, site_walked, option_walked, lengths_walked, initialiser_walked, elements_walked, option_initialiser_walked, variable_walk_noted, variable_walked, variables_walked, start_walked, condition_walked, statement_walked, statements_walked, else_walked, member_walked, together_walked, members_walked, struct_walked, parameters_walked, with_body_begun, body_walked, function_walked, declarations_walked, unit_walked, start_walk}
-use Rattle.qs_typing.proofs.Adding.{statements_add}
-use Rattle.qs_typing.proofs.Scoping.{statement_inner, start_inner}
+use Rattle.qs_typing.proofs.AddedFindings.{statements_add}
+use Rattle.qs_typing.proofs.ScopeEnds.{statement_inner, start_inner}
 
 abbrev noted_local : Structs → Local → LocalTree
 noted_local structs l = local_tree structs l.node l.type

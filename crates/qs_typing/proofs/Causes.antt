@@ -14,7 +14,7 @@ use Rattle.qs_typing.specs.declared.checking.TypeFault.{TypeFault}
 use Rattle.qs_typing.specs.declared.checking.TypeFault.TheVariants as faults
 use Rattle.qs_typing.specs.Findings.{least_with, IsFirst}
 use Rattle.qs_typing.specs.Refusals.{IsCause, HasCause, IsLeastViolation, first_past, limit_place, place_of, limit_fault, rule_fault, main_fault, undefined_fault, late_refusal, first_refusal}
-use Rattle.qs_typing.proofs.First.{first_found, none_found}
+use Rattle.qs_typing.proofs.FirstFaults.{first_found, none_found}
 
 -- ---- the causes of one place
 

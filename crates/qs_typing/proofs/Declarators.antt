@@ -7,7 +7,7 @@ use Rattle.qs_types.specs.ExpressionFaults.{used}
 use Rattle.qs_typing.specs.NodeTypes.{expr_types, lengths_types}
 use Rattle.qs_typing.specs.UnitWalk.{WalkTree, expr_walked, lengths_walked, object_opened, object_typed, declarator_walked}
 use Rattle.qs_typing.proofs.Walks.{place_filled}
-use Rattle.qs_typing.proofs.Adding.{lengths_add}
+use Rattle.qs_typing.proofs.AddedFindings.{lengths_add}
 
 -- with other types
 abbrev typed_so : WalkTree → List (Option TypeTree) → WalkTree

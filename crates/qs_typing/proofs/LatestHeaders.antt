@@ -10,7 +10,7 @@ use Rattle.qs_types.specs.Contexts as contexts
 use Rattle.qs_types.specs.Declarations.{variable_declared}
 use Rattle.qs_types.specs.StatementRules.{after_variable, after_variables, entity_at}
 use Rattle.qs_types.specs.UnitRules.{with_tag, no_members, after_members, has_no_members, define_at, after_struct, declared_function, after_function, context_after, header_of, signature_by, result_type, parameter_types, with_parameter, with_parameters, body_context}
-use Rattle.qs_syntax.proofs.Exact.{bytes_exact}
+use Rattle.qs_syntax.proofs.SamenessLaws.{bytes_exact}
 use Rattle.qs_typing.specs.LatestHeaders.{FunctionHeader, header_at, headers_from, unit_headers, latest_or, latest, IsLatest, AreLatest, given_type, AreGiven}
 
 -- ---- one header more

@@ -14,7 +14,7 @@ use Rattle.qs_types.specs.StatementRules.{after_variable, after_statement, for_c
 use Rattle.qs_types.specs.UnitRules.{with_tag, after_parameter, body_context, after_declaration}
 use Rattle.qs_typing.specs.ExprFindings.{node_of, of_nodes}
 use Rattle.qs_typing.specs.UnitNodes.{of_option, of_lengths, of_declarator, of_declarators, of_initialiser, of_initialisers, of_option_initialiser, of_variables, of_start, of_statement, of_statements, of_else, of_members, of_parameters, of_body, of_declaration, of_declarations, of_unit, with_nodes}
-use Rattle.qs_typing.proofs.Aligned.{expr_aligned, of_nodes-map}
+use Rattle.qs_typing.proofs.FindingOrder.{expr_aligned, of_nodes-map}
 
 -- ---- the nodes of a unit are those of which there is something
 

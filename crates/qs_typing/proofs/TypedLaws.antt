@@ -25,9 +25,9 @@ use Rattle.qs_typing.specs.NodeTypes.{unit_types}
 use Rattle.qs_typing.specs.TypedOf.{typed_tree}
 use Rattle.qs_typing.specs.UnitNodes.{of_unit}
 use Rattle.qs_typing.specs.UnitWalk.{WalkTree, unit_walked}
-use Rattle.qs_typing.proofs.Adding.{unit_typed, unit_addresses, unit_texts}
+use Rattle.qs_typing.proofs.AddedFindings.{unit_typed, unit_addresses, unit_texts}
 use Rattle.qs_typing.proofs.Blocks.{unit_globals}
-use Rattle.qs_typing.proofs.Naming.{unit_named}
+use Rattle.qs_typing.proofs.NameFindings.{unit_named}
 use Rattle.qs_typing.proofs.Numbers.{as_many, at_place}
 
 pub types_are : (unit : UnitTree) (w : WalkTree) → w ≡ unit_walked unit → w.found.types ≡ unit_types unit

@@ -17,7 +17,7 @@ use Rattle.qs_typing.specs.Findings.{FoundTree, Findings, least_with, judged_at,
 use Rattle.qs_typing.specs.ExprFindings.{shape_referent, expr_findings, part_findings, all_findings}
 use Rattle.qs_typing.specs.PartsOf.{type_by}
 use Rattle.qs_typing.specs.Walk.{opened, filled, with_addressed, walked, parts_walked, all_walked}
-use Rattle.qs_typing.proofs.Least.{least_swaps, least_with-append}
+use Rattle.qs_typing.proofs.LeastFaults.{least_swaps, least_with-append}
 
 -- the tree of an expression, one level opened
 pub expr_of : (e : Expr) → expr_tree e ≡ expr e.node (shape_tree e.shape)

@@ -274,7 +274,7 @@ fn walk_unit(alloc: Global, unit: &Unit) -> Result<(Context, Walk), NoMemory>
 
 /// The typed unit, where every node keeps the rules and the counts are within their limits; or why
 /// the unit is refused: the first cause in the order of `TypeFault`, or want of memory.
-#[tactic(auto, using(crate::proofs::Checked::check_told))]
+#[tactic(auto, using(crate::proofs::CheckingLaws::check_told))]
 pub fn check(alloc: Global, unit: &Unit) -> Result<TypedUnit, TypeFault>
     ensures unit { IfOk result (λ typed. typed_tree typed ≡ unit_tree unit.now) }
     ensures accepted { OnOk result (IsAccepted (unit_tree unit.now)) }

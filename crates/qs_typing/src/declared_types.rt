@@ -206,7 +206,7 @@ fn narrowed(n: usize) -> Result<u32, NoMemory>
     Ok(n as u32)
 }
 
-#[tactic(auto, using(crate::proofs::Declaring::list_counts))]
+#[tactic(auto, using(crate::proofs::DeclarationTypes::list_counts))]
 fn list_length(l: &InitialiserList) -> Result<u32, NoMemory>
     ensures { IfOk result (λ n. Some n ≡ declarations.length_by (Some (list_tree l.now))) }
 {

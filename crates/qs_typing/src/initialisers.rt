@@ -263,7 +263,7 @@ fn count_of_members(types: &Env, k: u32) -> usize
 }
 
 /// Whether a list of so many initialisers fits, where there is a type.
-#[tactic(auto, using(crate::proofs::Declaring::count_of))]
+#[tactic(auto, using(crate::proofs::DeclarationTypes::count_of))]
 fn list_fits(types: &Env, t: Option<&CType>, items: &[Initialiser]) -> bool
     ensures { result ≡ list_fits_in types.now t.entry items.now }
 {

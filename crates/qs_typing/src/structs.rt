@@ -160,7 +160,7 @@ fn has_no_members(c: &Context, k: u32) -> bool
 }
 
 /// Gives the struct with this number these members, if it has none.
-#[tactic(auto, using(crate::proofs::Defining::without_members))]
+#[tactic(auto, using(crate::proofs::MemberDefinitions::without_members))]
 fn define_at(
     alloc: Global,
     c: &mut Context,

@@ -68,7 +68,7 @@ impl MembersBefore {
         }
     }
 
-    #[tactic(auto, using(crate::proofs::Defining::appended))]
+    #[tactic(auto, using(crate::proofs::MemberDefinitions::appended))]
     fn add_member(
         &mut self,
         alloc: Global,

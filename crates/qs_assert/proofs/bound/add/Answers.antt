@@ -1,7 +1,7 @@
 use Rattle.std.proofs.Common.{◌∙◌, sym}
 use Rattle.indexmap.specs.IndexMap.{insert_entry}
 use Rattle.qs_assert.specs.Bounds.{same_name}
-use Rattle.qs_assert.proofs.Tabled.{amount_added}
+use Rattle.qs_assert.proofs.TableLaws.{amount_added}
 use Rattle.qs_assert.proofs.bound.add.Goals as goal
 
 pub returns : goal.returns

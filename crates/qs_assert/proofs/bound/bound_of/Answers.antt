@@ -1,7 +1,7 @@
 use Rattle.std.proofs.Common.{ap, ◌∙◌, [], ◌∷◌, ℕ}
 use Rattle.qs_assert.specs.Values.{plus, finite}
 use Rattle.qs_assert.specs.Stacks.{joined_known, amount_known}
-use Rattle.qs_assert.proofs.Tabled.{bound_is}
+use Rattle.qs_assert.proofs.TableLaws.{bound_is}
 use Rattle.qs_assert.proofs.bound.bound_of.Goals as goal
 
 pub returns : goal.returns

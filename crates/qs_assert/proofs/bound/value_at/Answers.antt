@@ -1,7 +1,7 @@
 use Rattle.std.proofs.Common.{ap, ◌∙◌}
 use Rattle.qs_assert.specs.Evaluations.{Amounts}
 use Rattle.qs_assert.specs.Tables.{reckoned}
-use Rattle.qs_assert.proofs.Tabled.{value_is}
+use Rattle.qs_assert.proofs.TableLaws.{value_is}
 use Rattle.qs_assert.proofs.bound.value_at.Goals as goal
 
 pub returns : goal.returns

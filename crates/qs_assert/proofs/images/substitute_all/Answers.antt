@@ -1,6 +1,6 @@
 use Rattle.qs_assert.specs.Simultaneous.{images}
 use Rattle.qs_assert.proofs.Agreement.{all_there, one_missing}
-use Rattle.qs_assert.proofs.Variabled.{told_missing}
+use Rattle.qs_assert.proofs.VariableLaws.{told_missing}
 use Rattle.qs_assert.proofs.images.substitute_all.Goals as goal
 
 pub returns-in-Some : goal.returns-in-Some

@@ -1,6 +1,6 @@
 use Rattle.qs_assert.specs.Images.{assertion_image}
 use Rattle.qs_assert.specs.Simultaneous.{image_in, terms_for}
-use Rattle.qs_assert.proofs.Replaced.{all_replaced}
+use Rattle.qs_assert.proofs.ReplacementLaws.{all_replaced}
 use Rattle.qs_assert.proofs.images.with_images.Goals as goal
 
 pub from_nodes-requires : goal.from_nodes-requires

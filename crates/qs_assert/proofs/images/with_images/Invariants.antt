@@ -1,6 +1,6 @@
 use Rattle.std.proofs.Common.{◌≡◌, ◌++◌, drop}
 use Rattle.qs_assert.specs.Simultaneous.{image_in, terms_for}
-use Rattle.qs_assert.proofs.Replaced.{replaced}
+use Rattle.qs_assert.proofs.ReplacementLaws.{replaced}
 use Rattle.qs_assert.proofs.images.with_images.Given as goal
 
 abbrev pub invariant-loop-node : goal.invariant-loop-node

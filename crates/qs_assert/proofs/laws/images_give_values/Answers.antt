@@ -1,4 +1,4 @@
-use Rattle.qs_assert.proofs.Moved.{images_give_values}
+use Rattle.qs_assert.proofs.ValueLaws.{images_give_values}
 use Rattle.qs_assert.proofs.laws.images_give_values.Goals as goal
 
 pub returns : goal.returns

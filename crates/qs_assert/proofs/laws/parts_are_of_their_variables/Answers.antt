@@ -1,4 +1,4 @@
-use Rattle.qs_assert.proofs.Moved.{parts_of_their_variables}
+use Rattle.qs_assert.proofs.ValueLaws.{parts_of_their_variables}
 use Rattle.qs_assert.proofs.laws.parts_are_of_their_variables.Goals as goal
 
 pub returns : goal.returns

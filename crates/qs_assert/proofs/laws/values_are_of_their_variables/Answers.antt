@@ -1,4 +1,4 @@
-use Rattle.qs_assert.proofs.Variabled.{of_its_variables}
+use Rattle.qs_assert.proofs.VariableLaws.{of_its_variables}
 use Rattle.qs_assert.proofs.laws.values_are_of_their_variables.Goals as goal
 
 pub returns : goal.returns

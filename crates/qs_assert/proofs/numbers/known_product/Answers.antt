@@ -1,7 +1,7 @@
 use Rattle.std.proofs.Common.{rules, ◌≡◌, None, ap, ◌∙◌, sym}
 use Rattle.std.specs.Int.{w128}
 use mir.Val.{of_z}
-use Rattle.qs_assert.proofs.Known.{wide_product}
+use Rattle.qs_assert.proofs.WidthLaws.{wide_product}
 use Rattle.qs_assert.proofs.numbers.known_product.Goals as goal
 
 pub returns-in_err-product : goal.returns-in_err-product

@@ -1,7 +1,7 @@
 use Rattle.std.proofs.Common.{ap, ◌∙◌}
 use Rattle.std.specs.List.{list_all}
 use Rattle.qs_assert.specs.Order.{is_among, node_known}
-use Rattle.qs_assert.proofs.Ordered.{nodes_known}
+use Rattle.qs_assert.proofs.OrderLaws.{nodes_known}
 use Rattle.qs_assert.proofs.order.names_known.Goals as goal
 
 pub returns : goal.returns

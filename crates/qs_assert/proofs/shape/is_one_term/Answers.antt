@@ -1,6 +1,6 @@
 use Rattle.std.proofs.Common.{sym, ◌∙◌, arith}
 use Rattle.qs_assert.specs.declared.node.TermNode.TheVariants.{Sub}
-use Rattle.qs_assert.proofs.Shaped.{shape_stop}
+use Rattle.qs_assert.proofs.ShapeLaws.{shape_stop}
 use Rattle.qs_assert.proofs.shape.is_one_term.Goals as goal
 
 pub returns-then-due-eq0 : goal.returns-then-due-eq0

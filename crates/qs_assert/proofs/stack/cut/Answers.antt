@@ -1,5 +1,5 @@
 use Rattle.std.proofs.Common.{ap, length}
-use Rattle.qs_assert.proofs.Reversed.{cut_at}
+use Rattle.qs_assert.proofs.ListEndLaws.{cut_at}
 use Rattle.qs_assert.proofs.stack.cut.Goals as goal
 
 pub returns : goal.returns

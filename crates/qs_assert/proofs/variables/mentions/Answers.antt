@@ -1,4 +1,4 @@
-use Rattle.qs_assert.proofs.Variabled.{mentioned, not_mentioned}
+use Rattle.qs_assert.proofs.VariableLaws.{mentioned, not_mentioned}
 use Rattle.qs_assert.proofs.variables.mentions.Goals as goal
 
 pub returns-clause-test : goal.returns-clause-test

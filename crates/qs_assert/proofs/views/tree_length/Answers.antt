@@ -1,6 +1,6 @@
 use Rattle.std.proofs.Common.{ap, ◌∙◌, arith, drop}
 use Rattle.qs_assert.specs.Views.{front_length}
-use Rattle.qs_assert.proofs.Fronted.{none_needed}
+use Rattle.qs_assert.proofs.FrontLaws.{none_needed}
 use Rattle.qs_assert.proofs.views.tree_length.Goals as goal
 
 pub returns-then-needed-eq0-clause-value : goal.returns-then-needed-eq0-clause-value

@@ -1,4 +1,4 @@
-use Rattle.qs_build.proofs.Through.{accounts_go_through}
+use Rattle.qs_build.proofs.FollowLaws.{accounts_go_through}
 use Rattle.qs_build.proofs.laws.accounts_go_through.Goals as goal
 
 pub returns : goal.returns

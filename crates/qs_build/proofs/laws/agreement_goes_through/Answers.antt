@@ -1,4 +1,4 @@
-use Rattle.qs_build.proofs.Through.{agreement_goes_through}
+use Rattle.qs_build.proofs.FollowLaws.{agreement_goes_through}
 use Rattle.qs_build.proofs.laws.agreement_goes_through.Goals as goal
 
 pub returns : goal.returns

@@ -9,10 +9,10 @@ use Rattle.qs_elaborate.specs.Literals.{converted_core}
 use Rattle.qs_elaborate.specs.Lists.{and_behind, or_behind, choice_behind, valued}
 use Rattle.qs_elaborate.specs.Parts.{Valued, Located, pointed, saved_if, address_saved_if}
 use Rattle.qs_elaborate.specs.Expressions.{operation_core, expression_core, lvalue_core, assignment_core, effect_core}
-use Rattle.qs_elaborate.proofs.Quiet.{acts_exactly}
+use Rattle.qs_elaborate.proofs.ActingLaws.{acts_exactly}
 use Rattle.qs_elaborate.proofs.Variants.{and_of, or_of, binary_of, conditional_of, assigned_of, sequence_of, object_of, update_of}
-use Rattle.qs_elaborate.proofs.Behind.{address_is, and_is, or_is, choice_is, pushed_behind, value_behind, temporaries_behind, write_pushed, or_quiet_statements, or_quiet_value, or_quiet_temporaries, choice_quiet_statements, choice_quiet_value, choice_quiet_temporaries}
-use Rattle.qs_elaborate.proofs.Settled.{settled_steps, second_steps}
+use Rattle.qs_elaborate.proofs.PushedParts.{address_is, and_is, or_is, choice_is, pushed_behind, value_behind, temporaries_behind, write_pushed, or_quiet_statements, or_quiet_value, or_quiet_temporaries, choice_quiet_statements, choice_quiet_value, choice_quiet_temporaries}
+use Rattle.qs_elaborate.proofs.SettledOperands.{settled_steps, second_steps}
 use Rattle.qs_elaborate.proofs.ExpressionSteps.{valued_is, then_pushed, update_statements, update_value, update_temporaries}
 use Rattle.qs_elaborate.proofs.expression.+expression.Goals as goal
 

@@ -1,4 +1,4 @@
-use Rattle.qs_elaborate.proofs.Quiet.{acts_exactly}
+use Rattle.qs_elaborate.proofs.ActingLaws.{acts_exactly}
 use Rattle.qs_elaborate.proofs.laws.acts_exactly.Goals as goal
 
 pub returns : goal.returns

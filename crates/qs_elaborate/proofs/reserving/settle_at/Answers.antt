@@ -3,7 +3,7 @@ use Rattle.std.proofs.lemmas.List.{length-map, map-set, take-map}
 use Rattle.qs_core.specs.Trees.{temporary}
 use Rattle.qs_core.specs.TreeOf.{core_expr, core_stmt, core_stmts}
 use Rattle.qs_elaborate.specs.Parts.{Valued}
-use Rattle.qs_elaborate.proofs.Settled.{settled_short, settled_long}
+use Rattle.qs_elaborate.proofs.SettledOperands.{settled_short, settled_long}
 use Rattle.qs_elaborate.proofs.reserving.settle_at.Goals as goal
 
 pub returns-then-saturating_sub-le1-clause-statements : goal.returns-then-saturating_sub-le1-clause-statements

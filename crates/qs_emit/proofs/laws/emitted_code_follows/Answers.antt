@@ -1,4 +1,4 @@
-use Rattle.qs_emit.proofs.Top.{emitted_code_follows}
+use Rattle.qs_emit.proofs.RootLaws.{emitted_code_follows}
 use Rattle.qs_emit.proofs.laws.emitted_code_follows.Goals as goal
 
 pub returns : goal.returns

@@ -1,4 +1,4 @@
-use Rattle.qs_emit.proofs.Whole.{images_follow}
+use Rattle.qs_emit.proofs.ImageLaws.{images_follow}
 use Rattle.qs_emit.proofs.laws.images_follow.Goals as goal
 
 pub returns : goal.returns

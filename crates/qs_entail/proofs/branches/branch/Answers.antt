@@ -6,9 +6,9 @@ use Rattle.qs_entail.specs.Branching.{copied, kept}
 use Rattle.qs_entail.specs.Faults.{branch}
 use Rattle.qs_assert.specs.Views.{front_length}
 use Rattle.qs_entail.specs.Fronts.{own_length}
-use Rattle.qs_entail.proofs.Branched.{result, in_place, skipped, more_nodes, kept_smaller}
-use Rattle.qs_assert.proofs.Fronted.{fewer}
-use Rattle.qs_entail.proofs.Waiting.{Waits, Next, task_nodes, waits_first, waits_last, next, goes_on, has_nodes}
+use Rattle.qs_entail.proofs.BranchingLaws.{result, in_place, skipped, more_nodes, kept_smaller}
+use Rattle.qs_assert.proofs.FrontLaws.{fewer}
+use Rattle.qs_entail.proofs.FrontWalks.{Waits, Next, task_nodes, waits_first, waits_last, next, goes_on, has_nodes}
 use Rattle.qs_entail.proofs.branches.branch.Goals as goal
 
 pub loop-is_kept-init : goal.loop-is_kept-init

@@ -1,8 +1,8 @@
 use Rattle.std.proofs.Common.{length, reverse}
 use Rattle.qs_assert.specs.Listing.{assertion_nodes}
 use Rattle.qs_entail.specs.Faults.{branch}
-use Rattle.qs_entail.proofs.Branched.{result}
-use Rattle.qs_entail.proofs.Waiting.{Waits}
+use Rattle.qs_entail.proofs.BranchingLaws.{result}
+use Rattle.qs_entail.proofs.FrontWalks.{Waits}
 use Rattle.qs_entail.proofs.branches.branch.Given as goal
 
 -- the nodes so far, and those of the trees that wait

@@ -1,5 +1,5 @@
 use Rattle.std.proofs.Common.{◌∙◌, sym}
-use Rattle.qs_entail.proofs.Parted.{le_parts, lt_parts, ne_parts}
+use Rattle.qs_entail.proofs.PartLaws.{le_parts, lt_parts, ne_parts}
 use Rattle.qs_entail.proofs.flattening.negation.Goals as goal
 
 pub both_sides-requires : goal.both_sides-requires

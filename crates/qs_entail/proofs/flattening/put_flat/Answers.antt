@@ -1,9 +1,9 @@
 use Rattle.std.proofs.Common.{List, Bool, ◌∷◌, reverse, refl, ap, ◌∙◌, sym, append-nil}
 use Rattle.qs_assert.specs.Listing.{cond_nodes}
 use Rattle.qs_entail.specs.Flattening.{flat, whole}
-use Rattle.qs_assert.proofs.Fronted.{cond_front, first_is, fewer}
-use Rattle.qs_entail.proofs.Flattened.{in_place, whole_in_place, more_nodes}
-use Rattle.qs_entail.proofs.Waiting.{task_nodes, waits_first, waits_last, next, goes_on, has_nodes}
+use Rattle.qs_assert.proofs.FrontLaws.{cond_front, first_is, fewer}
+use Rattle.qs_entail.proofs.FlatteningLaws.{in_place, whole_in_place, more_nodes}
+use Rattle.qs_entail.proofs.FrontWalks.{task_nodes, waits_first, waits_last, next, goes_on, has_nodes}
 use Rattle.qs_entail.proofs.flattening.put_flat.Goals as goal
 
 pub loop-is_negated-init : goal.loop-is_negated-init

@@ -1,7 +1,7 @@
 use Rattle.std.proofs.Common.{◌++◌, length, reverse}
 use Rattle.qs_assert.specs.Listing.{cond_nodes}
 use Rattle.qs_entail.specs.Flattening.{flat}
-use Rattle.qs_entail.proofs.Waiting.{Waits}
+use Rattle.qs_entail.proofs.FrontWalks.{Waits}
 use Rattle.qs_entail.proofs.flattening.put_flat.Given as goal
 
 -- the conditions so far, and those of what waits

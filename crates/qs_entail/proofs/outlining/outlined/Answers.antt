@@ -1,7 +1,7 @@
 use Rattle.std.proofs.Common.{◌+◌, ◌++◌, ℕ, List, refl, ap, ◌∙◌}
 use Rattle.qs_assert.specs.Trees.{CondTree}
 use Rattle.qs_entail.specs.Flattening.{flat_list, polynomial_counts}
-use Rattle.qs_entail.proofs.Outlined.{outlined_is}
+use Rattle.qs_entail.proofs.OutliningLaws.{outlined_is}
 use Rattle.qs_entail.proofs.outlining.outlined.Goals as goal
 
 pub returns : goal.returns

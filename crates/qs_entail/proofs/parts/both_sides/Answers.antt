@@ -1,6 +1,6 @@
 use Rattle.std.proofs.Common.{◌∙◌}
 use Rattle.qs_assert.specs.Listing.{inner_term}
-use Rattle.qs_assert.proofs.Fronted.{term_front, first_is, others_are}
+use Rattle.qs_assert.proofs.FrontLaws.{term_front, first_is, others_are}
 use Rattle.qs_entail.proofs.parts.both_sides.Goals as goal
 
 pub from_inner-requires : goal.from_inner-requires

@@ -6,7 +6,7 @@ use Rattle.qs_assert.specs.Listing.{cond_nodes}
 use Rattle.qs_assert.specs.Reading.{others}
 use Rattle.std.proofs.Common.{List}
 use Rattle.qs_assert.specs.Views.{begins}
-use Rattle.qs_entail.proofs.Parted.{ne_parts, eq_parts, not_is}
+use Rattle.qs_entail.proofs.PartLaws.{ne_parts, eq_parts, not_is}
 use Rattle.qs_entail.proofs.parts.different_sides.Goals as goal
 
 pub both_sides-requires : goal.both_sides-requires

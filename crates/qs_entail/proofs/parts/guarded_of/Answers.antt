@@ -1,6 +1,6 @@
 use Rattle.std.proofs.Common.{Ok, ap, ◌∙◌, sym}
 use Rattle.qs_entail.specs.Faults.{Guarded, guarded_of}
-use Rattle.qs_entail.proofs.Parted.{guard_parts}
+use Rattle.qs_entail.proofs.PartLaws.{guard_parts}
 use Rattle.qs_entail.proofs.parts.guarded_of.Goals as goal
 
 pub from_nodes-condition-requires : goal.from_nodes-condition-requires

@@ -2,7 +2,7 @@ use Rattle.std.proofs.Common.{Ok, ap, ◌∙◌, sym}
 use Rattle.qs_assert.specs.Trees.{assertions_of}
 use Rattle.qs_assert.specs.Reading.{assertions_of-list}
 use Rattle.qs_entail.specs.Faults.{members_of}
-use Rattle.qs_entail.proofs.Parted.{greatest_parts}
+use Rattle.qs_entail.proofs.PartLaws.{greatest_parts}
 use Rattle.qs_entail.proofs.parts.members.Goals as goal
 
 pub from_nodes-requires : goal.from_nodes-requires

@@ -1,5 +1,5 @@
 use Rattle.std.proofs.Common.{◌∙◌, sym}
-use Rattle.qs_entail.proofs.Parted.{eq_parts, le_parts, lt_parts}
+use Rattle.qs_entail.proofs.PartLaws.{eq_parts, le_parts, lt_parts}
 use Rattle.qs_entail.proofs.pushing.polynomials.Goals as goal
 
 pub both_sides-requires : goal.both_sides-requires

@@ -1,6 +1,6 @@
 use Rattle.std.proofs.Common.{◌∙◌}
 use Rattle.qs_entail.specs.Stacks.{attempt_of}
-use Rattle.qs_entail.proofs.Stacked.{joined_goes_on, drop_goes_on}
+use Rattle.qs_entail.proofs.StackLaws.{joined_goes_on, drop_goes_on}
 use Rattle.qs_entail.proofs.stack.joined.Goals as goal
 
 pub loop-left-preserved-in_ok-so_far-2 : goal.loop-left-preserved-in_ok-so_far-2

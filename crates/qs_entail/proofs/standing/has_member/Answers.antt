@@ -1,7 +1,7 @@
 use Rattle.std.specs.Int.{w64}
 use Rattle.std.proofs.lemmas.Int.{to_z-of_z}
 use Rattle.qs_entail.specs.Faults.{members_of}
-use Rattle.qs_entail.proofs.Counted.{numbered}
+use Rattle.qs_entail.proofs.HeadLaws.{numbered}
 use Rattle.qs_entail.proofs.standing.has_member.Goals as goal
 
 pub returns-in-Some : goal.returns-in-Some

@@ -1,5 +1,5 @@
 use Rattle.qs_entail.specs.Faults.{unfolded}
-use Rattle.qs_entail.proofs.Placed.{placed_all}
+use Rattle.qs_entail.proofs.PlacingLaws.{placed_all}
 use Rattle.qs_entail.proofs.unfolding.unfolded.Goals as goal
 
 pub from_nodes-requires : goal.from_nodes-requires

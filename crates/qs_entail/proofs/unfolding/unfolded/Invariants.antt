@@ -1,5 +1,5 @@
 use Rattle.std.proofs.Common.{◌≡◌, ◌++◌, drop}
-use Rattle.qs_entail.proofs.Placed.{all_placed}
+use Rattle.qs_entail.proofs.PlacingLaws.{all_placed}
 use Rattle.qs_entail.proofs.unfolding.unfolded.Given as goal
 
 abbrev pub invariant-loop-node : goal.invariant-loop-node

@@ -1,4 +1,4 @@
-use Rattle.qs_entail.proofs.Stands.{sound_of}
+use Rattle.qs_entail.proofs.StandingLaws.{sound_of}
 use Rattle.qs_entail.specs.View.{cert_tree}
 use Rattle.qs_entail.proofs.verdict.check.Goals as goal
 

@@ -1,5 +1,5 @@
 use Rattle.std.proofs.Common.{arith}
-use Rattle.qs_image.proofs.Written.{records_more}
+use Rattle.qs_image.proofs.WritingLaws.{records_more}
 use Rattle.qs_image.proofs.writing.put_records.Goals as goal
 
 pub loop-f-preserved : goal.loop-f-preserved

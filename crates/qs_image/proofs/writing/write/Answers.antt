@@ -1,4 +1,4 @@
-use Rattle.qs_image.proofs.Written.{names_fit}
+use Rattle.qs_image.proofs.WritingLaws.{names_fit}
 use Rattle.qs_image.proofs.writing.write.Goals as goal
 
 pub put_records-requires : goal.put_records-requires

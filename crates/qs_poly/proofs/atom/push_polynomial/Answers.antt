@@ -8,7 +8,7 @@ use Rattle.qs_poly.specs.Codes.{monomial_code, polynomial_code}
 use Rattle.qs_poly.specs.Terms.{sum_of, sum_of_terms, AllAtMost}
 use Rattle.qs_poly.proofs.Bounds.{item_at_most}
 use Rattle.qs_poly.proofs.CodeSteps.{term_coded, polynomial_ends}
-use Rattle.qs_poly.proofs.Limited.{narrow_at_most}
+use Rattle.qs_poly.proofs.LimitLaws.{narrow_at_most}
 use Rattle.qs_poly.proofs.atom.push_polynomial.Goals as goal
 
 pub narrow_coefficient-requires : goal.narrow_coefficient-requires

@@ -7,7 +7,7 @@ use Rattle.qs_poly.specs.Polynomials.{one}
 use Rattle.qs_poly.specs.Operations.{insert_term, sum, multiple}
 use Rattle.qs_poly.specs.Terms.{sum_of, AllAtMost}
 use Rattle.qs_poly.proofs.Coefficients.{sum_canonical, multiple_canonical}
-use Rattle.qs_poly.proofs.Lessened.{negative_is, scaled_small, added_small, lessened_is}
+use Rattle.qs_poly.proofs.DifferenceLaws.{negative_is, scaled_small, added_small, lessened_is}
 use Rattle.qs_poly.proofs.sums.less_terms.Goals as goal
 
 pub add_terms-requires-clause-small : goal.add_terms-requires-clause-small

@@ -1,7 +1,7 @@
 use Rattle.std.proofs.Common.{arith, map}
 use Rattle.qs_syntax.specs.TreeOf.{decl_tree}
 use Rattle.qs_print.specs.Printed.{printed_unit}
-use Rattle.qs_print.proofs.Back.{reads_back}
+use Rattle.qs_print.proofs.ReadsBackLaws.{reads_back}
 use Rattle.qs_print.proofs.Spaces.{finished}
 use Rattle.qs_print.proofs.units.print.Goals as goal
 

@@ -1,7 +1,7 @@
 use Rattle.std.proofs.Common.{◌∙◌, sym, refl, arith}
 use Rattle.qs_syntax.specs.TreeOf.{initialisers_tree}
 use Rattle.qs_syntax.specs.Sameness.{same_initialisers}
-use Rattle.qs_syntax.proofs.Exact.{test_ends}
+use Rattle.qs_syntax.proofs.SamenessLaws.{test_ends}
 use Rattle.qs_syntax.proofs.declarations.+same_initialiser.Goals as goal
 
 pub same_initialisers-returns : goal.same_initialisers-returns

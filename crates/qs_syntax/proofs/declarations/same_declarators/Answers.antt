@@ -2,7 +2,7 @@ use Rattle.std.proofs.Common.{◌∙◌, sym, refl, arith, map}
 use Rattle.std.specs.Cmp.Lexicographic.{pointwise}
 use Rattle.qs_syntax.specs.TreeOf.{declarator_tree}
 use Rattle.qs_syntax.specs.Sameness.{same_declarator}
-use Rattle.qs_syntax.proofs.Exact.{test_ends}
+use Rattle.qs_syntax.proofs.SamenessLaws.{test_ends}
 use Rattle.qs_syntax.proofs.declarations.same_declarators.Goals as goal
 
 pub returns : goal.returns

@@ -1,7 +1,7 @@
 use Rattle.std.proofs.Common.{◌∙◌, sym, refl, arith}
 use Rattle.qs_syntax.specs.TreeOf.{exprs_tree}
 use Rattle.qs_syntax.specs.Sameness.{same_exprs}
-use Rattle.qs_syntax.proofs.Exact.{test_ends}
+use Rattle.qs_syntax.proofs.SamenessLaws.{test_ends}
 use Rattle.qs_syntax.proofs.expressions.+same_expr.Goals as goal
 
 pub same_exprs-returns : goal.same_exprs-returns

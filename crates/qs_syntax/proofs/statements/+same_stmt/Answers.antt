@@ -1,7 +1,7 @@
 use Rattle.std.proofs.Common.{◌∙◌, sym, refl, arith}
 use Rattle.qs_syntax.specs.TreeOf.{stmts_tree}
 use Rattle.qs_syntax.specs.Sameness.{same_stmts}
-use Rattle.qs_syntax.proofs.Exact.{test_ends}
+use Rattle.qs_syntax.proofs.SamenessLaws.{test_ends}
 use Rattle.qs_syntax.proofs.statements.+same_stmt.Goals as goal
 
 pub same_stmts-returns : goal.same_stmts-returns

@@ -1,7 +1,7 @@
 use Rattle.std.proofs.Common.{◌∙◌, sym, refl, arith, map}
 use Rattle.qs_syntax.specs.TreeOf.{decl_tree}
 use Rattle.qs_syntax.specs.Sameness.{same_unit}
-use Rattle.qs_syntax.proofs.Exact.{test_ends}
+use Rattle.qs_syntax.proofs.SamenessLaws.{test_ends}
 use Rattle.qs_syntax.proofs.units.same_decls.Goals as goal
 
 pub returns : goal.returns

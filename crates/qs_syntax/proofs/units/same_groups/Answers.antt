@@ -2,7 +2,7 @@ use Rattle.std.proofs.Common.{◌∙◌, sym, refl, arith, map}
 use Rattle.std.specs.Cmp.Lexicographic.{pointwise}
 use Rattle.qs_syntax.specs.TreeOf.{members_tree}
 use Rattle.qs_syntax.specs.Sameness.{same_members}
-use Rattle.qs_syntax.proofs.Exact.{test_ends}
+use Rattle.qs_syntax.proofs.SamenessLaws.{test_ends}
 use Rattle.qs_syntax.proofs.units.same_groups.Goals as goal
 
 pub returns : goal.returns

@@ -1,6 +1,6 @@
 use Rattle.qs_assert.specs.Images.{assertion_image}
 use Rattle.qs_assert.specs.Simultaneous.{terms_for}
-use Rattle.qs_assert.proofs.Replaced.{all_replaced}
+use Rattle.qs_assert.proofs.ReplacementLaws.{all_replaced}
 use Rattle.qs_triples.specs.Replacements.{image}
 use Rattle.qs_triples.proofs.replacements.replaced.Goals as goal
 

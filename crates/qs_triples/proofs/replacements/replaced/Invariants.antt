@@ -1,6 +1,6 @@
 use Rattle.std.proofs.Common.{◌≡◌, ◌++◌, drop}
 use Rattle.qs_assert.specs.Simultaneous.{terms_for}
-use Rattle.qs_assert.proofs.Replaced.{replaced}
+use Rattle.qs_assert.proofs.ReplacementLaws.{replaced}
 use Rattle.qs_triples.specs.Replacements.{image}
 use Rattle.qs_triples.proofs.replacements.replaced.Given as goal
 

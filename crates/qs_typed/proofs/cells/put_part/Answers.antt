@@ -1,6 +1,6 @@
 use Rattle.std.proofs.Common.{rules}
 use Rattle.qs_typed.specs.CellsOf.{begun_cells, contents_tree, target_tree}
-use Rattle.qs_typed.proofs.Gathering.{part_more}
+use Rattle.qs_typed.proofs.DataOrder.{part_more}
 use Rattle.qs_typed.proofs.cells.put_part.Goals as goal
 
 pub returns-then-k-lt3 : goal.returns-then-k-lt3

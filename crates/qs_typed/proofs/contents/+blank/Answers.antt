@@ -2,7 +2,7 @@ use Rattle.std.proofs.Common.{◌++◌, ◌∙◌, ap}
 use Rattle.qs_memory.specs.BlankOf.{blank_tree}
 use Rattle.qs_memory.specs.Memory.{blank_cells}
 use Rattle.qs_typed.specs.CellsOf.{contents_tree}
-use Rattle.qs_typed.proofs.Gathering.{once_more}
+use Rattle.qs_typed.proofs.DataOrder.{once_more}
 use Rattle.qs_typed.proofs.contents.+blank.Goals as goal
 
 pub put_blank-loop-preserved : goal.put_blank-loop-preserved

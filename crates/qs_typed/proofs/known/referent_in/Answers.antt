@@ -1,6 +1,6 @@
 use Rattle.std.proofs.Common.{rules, ◌≡◌, Some, None, sym, ◌∙◌}
 use Rattle.std.specs.List.{slice_get}
-use Rattle.qs_types.proofs.Declaring.{item}
+use Rattle.qs_types.proofs.StructLayouts.{item}
 use Rattle.qs_typed.proofs.Entries.{there, not_there}
 use Rattle.qs_typed.proofs.known.referent_in.Goals as goal
 

@@ -1,7 +1,7 @@
 use Rattle.std.proofs.Common.{rules, ◌≡◌, Some, None, option_map, sym, ap, ◌∙◌}
 use Rattle.std.specs.List.{slice_get}
 use Rattle.qs_types.specs.TypeOf.{type_tree}
-use Rattle.qs_types.proofs.Declaring.{item}
+use Rattle.qs_types.proofs.StructLayouts.{item}
 use Rattle.qs_typed.specs.TypesOf.{lent_type}
 use Rattle.qs_typed.proofs.Entries.{seen, type_there, no_type_there}
 use Rattle.qs_typed.proofs.known.type_in.Goals as goal

@@ -1,4 +1,4 @@
-use Rattle.qs_typed.proofs.Tied.{typed_kept}
+use Rattle.qs_typed.proofs.TiedExpressions.{typed_kept}
 use Rattle.qs_typed.proofs.laws.expressions_are_typed.Goals as goal
 
 pub returns : goal.returns

@@ -3,7 +3,7 @@ use Rattle.qs_syntax.specs.UnitTrees.{unit_tree}
 use Rattle.qs_typing.specs.ContextOf.{context_tree}
 use Rattle.qs_typing.specs.Refusals.{IsAccepted}
 use Rattle.qs_typing.specs.WalkOf.{walk_tree}
-use Rattle.qs_typing.proofs.Checked.{is_accepted, late_told, none_told, told_of_good}
+use Rattle.qs_typing.proofs.CheckingLaws.{is_accepted, late_told, none_told, told_of_good}
 use Rattle.qs_typing.proofs.checking.check.Goals as goal
 
 pub returns-in-Some-2-clause-good : goal.returns-in-Some-2-clause-good

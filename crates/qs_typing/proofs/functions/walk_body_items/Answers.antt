@@ -8,7 +8,7 @@ use Rattle.qs_typing.specs.ContextOf.{context_tree, with_result}
 use Rattle.qs_typing.specs.Noted.{parameters_noted}
 use Rattle.qs_typing.specs.UnitWalk.{statements_walked, with_body_begun, with_body_ended}
 use Rattle.qs_typing.specs.WalkOf.{walk_tree}
-use Rattle.qs_typing.proofs.Scoping.{items_end, items_leave}
+use Rattle.qs_typing.proofs.ScopeEnds.{items_end, items_leave}
 use Rattle.qs_typing.proofs.functions.walk_body_items.Goals as goal
 
 pub leave_scope-requires : goal.leave_scope-requires

@@ -10,7 +10,7 @@ use Rattle.qs_typing.specs.JudgedOf.{test_tree}
 use Rattle.qs_typing.specs.UnitWalk.{function_walked}
 use Rattle.qs_typing.specs.WalkOf.{walk_tree}
 use Rattle.qs_typing.proofs.Headers.{still_some, header_is, body_is, no_body}
-use Rattle.qs_typing.proofs.Scoping.{header_ends, header_leaves}
+use Rattle.qs_typing.proofs.ScopeEnds.{header_ends, header_leaves}
 use Rattle.qs_typing.proofs.functions.walk_function.Goals as goal
 
 pub leave_scope-requires : goal.leave_scope-requires

@@ -1,5 +1,5 @@
 use Rattle.std.proofs.Common.{◌∙◌, arith}
-use Rattle.qs_typing.proofs.Declaring.{arrays_step}
+use Rattle.qs_typing.proofs.DeclarationTypes.{arrays_step}
 use Rattle.qs_typing.proofs.lengths.arrays.Goals as goal
 
 pub loop-i-preserved : goal.loop-i-preserved

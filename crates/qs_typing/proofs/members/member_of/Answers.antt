@@ -4,7 +4,7 @@ use Rattle.qs_types.specs.Expressions.{member_in}
 use Rattle.qs_types.specs.Layout.{and_then, struct_of}
 use Rattle.qs_types.specs.StructsOf.{member_tree, struct_tree}
 use Rattle.qs_types.specs.TypeOf.{type_tree}
-use Rattle.qs_types.proofs.Declaring.{item}
+use Rattle.qs_types.proofs.StructLayouts.{item}
 use Rattle.qs_typing.proofs.MemberLookups.{seen, entry_member, member_there}
 use Rattle.qs_typing.proofs.members.member_of.Goals as goal
 

@@ -3,7 +3,7 @@ use Rattle.qs_syntax.specs.TreeOf.{expr_tree}
 use Rattle.qs_types.specs.TypeOf.{type_tree}
 use Rattle.qs_typing.specs.ContextOf.{context_tree}
 use Rattle.qs_typing.specs.WalkOf.{walk_tree}
-use Rattle.qs_typing.proofs.Watched.{broken_is, watched_is, is_some_fault}
+use Rattle.qs_typing.proofs.WatchedExpressions.{broken_is, watched_is, is_some_fault}
 use Rattle.qs_typing.proofs.variables.walk_watched.Goals as goal
 
 pub returns-clause-broken : goal.returns-clause-broken

@@ -1,4 +1,4 @@
-use Rattle.qs_assert.proofs.Kept.{assertion_is, assertion_kept}
+use Rattle.qs_assert.proofs.NodeListLaws.{assertion_is, assertion_kept}
 use Rattle.qs_assert.proofs.tree.Assertion.from_nodes.Goals as goal
 
 pub invariant_of-result : goal.invariant_of-result

@@ -1,4 +1,4 @@
-use Rattle.qs_assert.proofs.Same.{assertion_exact}
+use Rattle.qs_assert.proofs.SamenessLaws.{assertion_exact}
 use Rattle.qs_assert.proofs.tree.Assertion.same.Goals as goal
 
 pub returns-clause-exact : goal.returns-clause-exact

@@ -1,4 +1,4 @@
-use Rattle.qs_assert.proofs.Same.{cond_exact}
+use Rattle.qs_assert.proofs.SamenessLaws.{cond_exact}
 use Rattle.qs_assert.proofs.tree.Cond.same.Goals as goal
 
 pub returns-clause-exact : goal.returns-clause-exact

@@ -1,6 +1,6 @@
 use Rattle.std.proofs.Common.{ap, ◌∙◌}
 use Rattle.qs_assert.specs.Listing.{term_heads, term_nodes}
-use Rattle.qs_assert.proofs.Shaped.{heads_are}
+use Rattle.qs_assert.proofs.ShapeLaws.{heads_are}
 use Rattle.qs_assert.proofs.tree.Term.from_inner.Goals as goal
 
 pub from_nodes-requires : goal.from_nodes-requires

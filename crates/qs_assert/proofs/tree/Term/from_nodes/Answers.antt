@@ -1,4 +1,4 @@
-use Rattle.qs_assert.proofs.Kept.{term_is, term_kept}
+use Rattle.qs_assert.proofs.NodeListLaws.{term_is, term_kept}
 use Rattle.qs_assert.proofs.tree.Term.from_nodes.Goals as goal
 
 pub invariant_of-result : goal.invariant_of-result

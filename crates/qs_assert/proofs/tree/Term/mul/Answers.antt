@@ -1,5 +1,5 @@
 use Rattle.qs_assert.specs.Trees as trees
-use Rattle.qs_assert.proofs.Kept.{mul_made}
+use Rattle.qs_assert.proofs.NodeListLaws.{mul_made}
 use Rattle.qs_assert.proofs.tree.Term.mul.Goals as goal
 
 pub from_nodes-requires : goal.from_nodes-requires

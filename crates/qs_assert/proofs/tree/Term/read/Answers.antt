@@ -2,7 +2,7 @@ use Rattle.std.proofs.Common.{ap, sym, ◌∙◌, List}
 use Rattle.qs_assert.specs.declared.node.TermNode.{TermNode}
 use Rattle.qs_assert.specs.Listing.{term_nodes}
 use Rattle.qs_assert.specs.Shapes.{are_terms}
-use Rattle.qs_assert.proofs.Shaped.{term_there, none_there}
+use Rattle.qs_assert.proofs.ShapeLaws.{term_there, none_there}
 use Rattle.qs_assert.proofs.tree.Term.read.Goals as goal
 
 pub from_nodes-requires : goal.from_nodes-requires

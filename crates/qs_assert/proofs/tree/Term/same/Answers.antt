@@ -1,4 +1,4 @@
-use Rattle.qs_assert.proofs.Same.{term_exact}
+use Rattle.qs_assert.proofs.SamenessLaws.{term_exact}
 use Rattle.qs_assert.proofs.tree.Term.same.Goals as goal
 
 pub returns-clause-exact : goal.returns-clause-exact

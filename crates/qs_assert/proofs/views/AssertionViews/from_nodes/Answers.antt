@@ -1,4 +1,4 @@
-use Rattle.qs_assert.proofs.Viewed.{assertions_are, assertions_kept}
+use Rattle.qs_assert.proofs.ViewLaws.{assertions_are, assertions_kept}
 use Rattle.qs_assert.proofs.views.AssertionViews.from_nodes.Goals as goal
 
 pub invariant_of-result : goal.invariant_of-result

@@ -1,5 +1,5 @@
 use Rattle.std.proofs.Common.{◌∙◌, ◌∷◌, sym}
-use Rattle.qs_assert.proofs.Viewed.{none_in, split, split_first, split_others, split_all}
+use Rattle.qs_assert.proofs.ViewLaws.{none_in, split, split_first, split_others, split_all}
 use Rattle.qs_assert.proofs.views.AssertionViews.split_first.Goals as goal
 
 pub returns-then-is_empty : goal.returns-then-is_empty

@@ -1,4 +1,4 @@
-use Rattle.qs_assert.proofs.Kept.{cond_is, cond_kept}
+use Rattle.qs_assert.proofs.NodeListLaws.{cond_is, cond_kept}
 use Rattle.qs_assert.proofs.views.CondView.from_nodes.Goals as goal
 
 pub invariant_of-result : goal.invariant_of-result

@@ -1,4 +1,4 @@
-use Rattle.qs_machine.proofs.Doing.{steps_with}
+use Rattle.qs_machine.proofs.StepParts.{steps_with}
 use Rattle.qs_machine.proofs.machine.Machine.step.Goals as goal
 
 pub returns-clause-steps : goal.returns-clause-steps

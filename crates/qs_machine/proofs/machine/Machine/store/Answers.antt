@@ -4,7 +4,7 @@ use Rattle.qs_machine.specs.Step.{store_width, stored}
 use Rattle.qs_machine.specs.Hart.{memory_of}
 use Rattle.qs_machine.specs.Standing.{state_of}
 use Rattle.qs_machine.proofs.Choices.{store-written, store-outside, can_write-loaded}
-use Rattle.qs_machine.proofs.Doing.{did_next, same_machine}
+use Rattle.qs_machine.proofs.StepParts.{did_next, same_machine}
 use Rattle.qs_machine.proofs.machine.Machine.store.Goals as goal
 
 pub returns-then-not-store-clause-does : goal.returns-then-not-store-clause-does

@@ -4,7 +4,7 @@ use Rattle.qs_isa.specs.declared.instruction.Instr.{Instr}
 use Rattle.qs_isa.specs.Table.{decode_of}
 use Rattle.qs_machine.specs.Step.{fetch}
 use Rattle.qs_machine.specs.Standing.{state_of}
-use Rattle.qs_machine.proofs.Doing.{step-acts}
+use Rattle.qs_machine.proofs.StepParts.{step-acts}
 use Rattle.qs_machine.proofs.machine.Machine.take_step.Goals as goal
 
 pub returns-in-Some-Some-clause-does : goal.returns-in-Some-Some-clause-does

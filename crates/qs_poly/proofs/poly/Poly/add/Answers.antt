@@ -4,7 +4,7 @@ use Rattle.qs_poly.specs.declared.terms.Term.{Term}
 use Rattle.qs_poly.specs.Terms.{sum_of, AllAtMost}
 use Rattle.qs_poly.proofs.Bounds.{at_most_more}
 use Rattle.qs_poly.proofs.Coefficients.{sum_canonical}
-use Rattle.qs_poly.proofs.Limited.{narrow_at_most, few_at_most}
+use Rattle.qs_poly.proofs.LimitLaws.{narrow_at_most, few_at_most}
 use Rattle.qs_poly.proofs.poly.Poly.add.Goals as goal
 
 pub add_terms-requires : goal.add_terms-requires

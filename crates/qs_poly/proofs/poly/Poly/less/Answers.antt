@@ -3,7 +3,7 @@ use Rattle.qs_poly.specs.Canonical.{IsCanonical}
 use Rattle.qs_poly.specs.declared.terms.Term.{Term}
 use Rattle.qs_poly.specs.Terms.{sum_of, AllAtMost}
 use Rattle.qs_poly.proofs.Coefficients.{lessened_canonical}
-use Rattle.qs_poly.proofs.Limited.{narrow_at_most, few_at_most}
+use Rattle.qs_poly.proofs.LimitLaws.{narrow_at_most, few_at_most}
 use Rattle.qs_poly.proofs.poly.Poly.less.Goals as goal
 
 pub less_terms-requires : goal.less_terms-requires

@@ -3,7 +3,7 @@ use Rattle.qs_poly.specs.Canonical.{IsCanonical}
 use Rattle.qs_poly.specs.declared.terms.Term.{Term}
 use Rattle.qs_poly.specs.Terms.{sum_of, AllAtMost}
 use Rattle.qs_poly.proofs.Coefficients.{product_canonical}
-use Rattle.qs_poly.proofs.Limited.{narrow_at_most, few_at_most}
+use Rattle.qs_poly.proofs.LimitLaws.{narrow_at_most, few_at_most}
 use Rattle.qs_poly.proofs.poly.Poly.multiply.Goals as goal
 
 pub multiply_terms-requires : goal.multiply_terms-requires

@@ -3,7 +3,7 @@ use Rattle.std.proofs.lemmas.Int.{ints}
 use Rattle.qs_poly.specs.Canonical.{IsCanonical}
 use Rattle.qs_poly.specs.Terms.{sum_of, AllAtMost}
 use Rattle.qs_poly.proofs.Coefficients.{multiple_canonical}
-use Rattle.qs_poly.proofs.Limited.{narrow_at_most}
+use Rattle.qs_poly.proofs.LimitLaws.{narrow_at_most}
 use Rattle.qs_poly.proofs.poly.Poly.scale.Goals as goal
 
 pub scale_terms-requires : goal.scale_terms-requires

@@ -1,7 +1,7 @@
 use Rattle.qs_syntax.specs.TreeOf.{expr_tree}
 use Rattle.qs_syntax.specs.Sameness.{same_expr}
-use Rattle.qs_syntax.proofs.Exact.{expr_exact}
-use Rattle.qs_syntax.proofs.ExactUnits.{tells}
+use Rattle.qs_syntax.proofs.SamenessLaws.{expr_exact}
+use Rattle.qs_syntax.proofs.SamenessOfUnits.{tells}
 use Rattle.qs_syntax.proofs.expressions.Expr.same.Goals as goal
 
 pub returns-clause-exact : goal.returns-clause-exact

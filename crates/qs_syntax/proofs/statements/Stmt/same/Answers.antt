@@ -1,6 +1,6 @@
 use Rattle.qs_syntax.specs.TreeOf.{stmt_tree}
 use Rattle.qs_syntax.specs.Sameness.{same_stmt}
-use Rattle.qs_syntax.proofs.ExactUnits.{stmt_exact, tells}
+use Rattle.qs_syntax.proofs.SamenessOfUnits.{stmt_exact, tells}
 use Rattle.qs_syntax.proofs.statements.Stmt.same.Goals as goal
 
 pub returns-clause-exact : goal.returns-clause-exact

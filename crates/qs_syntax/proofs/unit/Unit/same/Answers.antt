@@ -1,7 +1,7 @@
 use Rattle.std.proofs.Common.{◌∙◌}
 use Rattle.qs_syntax.specs.UnitTrees.{unit_tree}
 use Rattle.qs_syntax.specs.Sameness.{same_unit}
-use Rattle.qs_syntax.proofs.ExactUnits.{unit_exact, tells}
+use Rattle.qs_syntax.proofs.SamenessOfUnits.{unit_exact, tells}
 use Rattle.qs_syntax.proofs.unit.Unit.same.Goals as goal
 
 pub returns-clause-exact : goal.returns-clause-exact

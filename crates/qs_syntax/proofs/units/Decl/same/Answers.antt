@@ -1,6 +1,6 @@
 use Rattle.qs_syntax.specs.TreeOf.{decl_tree}
 use Rattle.qs_syntax.specs.Sameness.{same_decl}
-use Rattle.qs_syntax.proofs.ExactUnits.{decl_exact, tells}
+use Rattle.qs_syntax.proofs.SamenessOfUnits.{decl_exact, tells}
 use Rattle.qs_syntax.proofs.units.Decl.same.Goals as goal
 
 pub returns-clause-exact : goal.returns-clause-exact

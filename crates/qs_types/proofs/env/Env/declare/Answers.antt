@@ -1,5 +1,5 @@
 use Rattle.std.proofs.Common.{refl, is_ok}
-use Rattle.qs_types.proofs.Declaring.{pushed_keeps, pushed_whole}
+use Rattle.qs_types.proofs.StructLayouts.{pushed_keeps, pushed_whole}
 use Rattle.qs_types.proofs.env.Env.declare.Goals as goal
 
 pub invariant_of-self : goal.invariant_of-self

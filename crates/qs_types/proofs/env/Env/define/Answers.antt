@@ -3,7 +3,7 @@ use Rattle.qs_types.specs.declared.structs.StructType.{StructType}
 use Rattle.qs_types.specs.Layout.{layout_of, members_layout}
 use Rattle.qs_types.specs.StructsOf.{member_tree, layout_tree}
 use Rattle.qs_types.specs.EnvOf.{env_tree}
-use Rattle.qs_types.proofs.Declaring.{defined_keeps, defined_whole, defined_tree, members_sized}
+use Rattle.qs_types.proofs.StructLayouts.{defined_keeps, defined_whole, defined_tree, members_sized}
 use Rattle.qs_types.proofs.env.Env.define.Goals as goal
 
 pub invariant_of-self : goal.invariant_of-self

@@ -1,5 +1,5 @@
 use Rattle.std.proofs.Common.{◌∙◌}
-use Rattle.qs_typing.proofs.Defining.{member_seen}
+use Rattle.qs_typing.proofs.MemberDefinitions.{member_seen}
 use Rattle.qs_typing.proofs.members_before.MembersBefore.has_member.Goals as goal
 
 pub returns : goal.returns

@@ -1,5 +1,5 @@
 use Rattle.std.proofs.Common.{arith}
-use Rattle.qs_typing.proofs.Latest.{entered}
+use Rattle.qs_typing.proofs.LatestPlaces.{entered}
 use Rattle.qs_typing.proofs.scopes.Scopes.enter.Goals as goal
 
 pub returns-clause-outer : goal.returns-clause-outer

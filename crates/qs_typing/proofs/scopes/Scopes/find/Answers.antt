@@ -1,6 +1,6 @@
 use Rattle.std.proofs.Common.{rules, ◌≡◌, None, ap, ◌∙◌, arith}
 use Rattle.qs_typing.specs.EntityOf.{entity_at}
-use Rattle.qs_typing.proofs.Latest.{within, found, not_found}
+use Rattle.qs_typing.proofs.LatestPlaces.{within, found, not_found}
 use Rattle.qs_typing.proofs.scopes.Scopes.find.Goals as goal
 
 pub returns-in_err-place : goal.returns-in_err-place

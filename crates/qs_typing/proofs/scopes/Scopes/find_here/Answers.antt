@@ -1,6 +1,6 @@
 use Rattle.std.proofs.Common.{rules, ◌≡◌, None, ap, ◌∙◌, arith}
 use Rattle.qs_typing.specs.EntityOf.{entity_at}
-use Rattle.qs_typing.proofs.Latest.{within, found_here, found_outside, found_nowhere}
+use Rattle.qs_typing.proofs.LatestPlaces.{within, found_here, found_outside, found_nowhere}
 use Rattle.qs_typing.proofs.scopes.Scopes.find_here.Goals as goal
 
 pub returns-in_err-place : goal.returns-in_err-place

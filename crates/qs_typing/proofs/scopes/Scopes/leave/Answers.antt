@@ -1,5 +1,5 @@
 use Rattle.std.proofs.Common.{◌∙◌, sym, ap, take, arith}
-use Rattle.qs_typing.proofs.Latest.{left}
+use Rattle.qs_typing.proofs.LatestPlaces.{left}
 use Rattle.qs_typing.proofs.scopes.Scopes.leave.Goals as goal
 
 pub returns-clause-names : goal.returns-clause-names

@@ -2,7 +2,7 @@ use Rattle.std.proofs.Common.{◌≡◌, ◌++◌, ◌<◌, length, false, refl,
 use Rattle.std.proofs.lemmas.Grind.{common_steps}
 use Rattle.qs_ports.specs.ShelfView.{shelf_view}
 use Rattle.qs_ports.proofs.Shelves.{option_within_more}
-use Rattle.qs_ports.proofs.Shelving.{appends, grown_within, grown_end}
+use Rattle.qs_ports.proofs.ShelfChanges.{appends, grown_within, grown_end}
 use Rattle.qs_ports.proofs.memory.shelf.Shelf.append.Goals as goal
 
 pub invariant_of-self-2-clause-within : goal.invariant_of-self-2-clause-within

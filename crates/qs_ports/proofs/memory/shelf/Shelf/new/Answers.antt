@@ -2,7 +2,7 @@ use Rattle.std.proofs.Common.{◌≡◌, ◌++◌, ◌∷◌, [], ◌+◌, ◌<�
 use Rattle.std.proofs.lemmas.Grind.{common_steps}
 use Rattle.std.proofs.lemmas.List.Sums.{fold_more}
 use Rattle.qs_ports.specs.Memory.{files_in, no_files, with_entry}
-use Rattle.qs_ports.proofs.Shelving.{puts_entry, entry_within, entry_end, span_at}
+use Rattle.qs_ports.proofs.ShelfChanges.{puts_entry, entry_within, entry_end, span_at}
 use Rattle.qs_ports.proofs.memory.shelf.Shelf.new.Goals as goal
 
 pub loop-name-preserved : goal.loop-name-preserved

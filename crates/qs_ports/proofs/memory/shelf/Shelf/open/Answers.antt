@@ -1,6 +1,6 @@
 use Rattle.std.proofs.Common.{ap, rules}
 use Rattle.qs_ports.specs.ShelfView.{shelf_view}
-use Rattle.qs_ports.proofs.Shelving.{opened_name}
+use Rattle.qs_ports.proofs.ShelfChanges.{opened_name}
 use Rattle.qs_ports.proofs.memory.shelf.Shelf.open.Goals as goal
 
 pub returns-clause-opened : goal.returns-clause-opened

@@ -1,4 +1,4 @@
--- The operators (C11 6.5.2 to 6.5.16): the punctuator of each, the precedence of those between two operands, and which operator a punctuator is.
+-- The operators (C11 6.5.2 to 6.5.17): the punctuator of each, the precedence of those between two operands, and which operator a punctuator is.
 use Rattle.std.specs.Prelude.{ℕ, Bool, true, false, List, [], ◌∷◌, Option}
 use Rattle.std.specs.List.{find}
 use denote.Enum.Bare.{sameb}

@@ -7,7 +7,7 @@ use Rattle.qs_assert.specs.Bounds.{same_name}
 use Rattle.qs_assert.proofs.SamenessLaws.{name_equal}
 use Rattle.qs_core.specs.Fits.{differ, unit_fits}
 use Rattle.qs_core.specs.Trees.{CoreFunctionTree, CoreUnitTree}
-use Rattle.qs_core.specs.FunctionNames.{function_name, name_in}
+use Rattle.qs_core.specs.FunctionNames.{function_name}
 use Rattle.qs_core.proofs.FitLaws.{unit_parts}
 use Rattle.qs_triples.proofs.FunctionNames.{name_at, all_at, count_names}
 

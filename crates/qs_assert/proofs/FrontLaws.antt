@@ -1,5 +1,5 @@
 -- The nodes of a tree are the first tree of a list that begins with them.
-use Rattle.std.proofs.Common.{◌≡◌, ◌<◌, ◌+◌, ◌-◌, ℕ, suc, take, drop, refl, ap, ◌∙◌, sym, subst, List, [], ◌∷◌, ◌++◌, length, map, append_assoc, length-append, length-drop, add-one, arith}
+use Rattle.std.proofs.Common.{◌≡◌, ◌<◌, ◌+◌, ℕ, suc, take, drop, refl, ap, ◌∙◌, sym, subst, List, [], ◌∷◌, ◌++◌, length, map, append_assoc, length-append, length-drop, add-one, arith}
 use Rattle.std.proofs.lemmas.List.{map-append, take_at, drop_at}
 use Rattle.qs_assert.specs.declared.node.TermNode.{TermNode}
 use Rattle.qs_assert.specs.declared.node.TermNode.TheVariants.{Number, Variable, Add, Sub, Mul, Div, WrapUnsigned, WrapSigned, Bits}

@@ -1,6 +1,6 @@
 -- What is pushed holds where its condition holds.
 use Rattle.std.proofs.Common.{◌≡◌, refl, sym, ap, subst, arith, true, false}
-use Rattle.std.specs.Prelude.{ℤ, ◌≤ℤ◌, ◌<ℤ◌, Bool, ◌||◌, List, [], ◌∷◌, ◌++◌, All, Result, Ok, int_le, int_lt}
+use Rattle.std.specs.Prelude.{ℤ, ◌≤ℤ◌, ◌<ℤ◌, Bool, List, [], ◌∷◌, ◌++◌, All, Result, Ok, int_le, int_lt}
 use Rattle.std.specs.Prelude.{not as flip}
 use Rattle.std.specs.Ordering.{int_eq}
 use Rattle.std.proofs.lemmas.Int.{ints}

@@ -1,6 +1,6 @@
 -- A certificate without a fault shows what it says.
 use Rattle.std.proofs.Common.{◌≡◌, ℕ, zero, suc, ◌≤◌, refl, sym, ap, ◌∙◌, subst, arith, true, false}
-use Rattle.std.specs.Prelude.{ℤ, pos, negsuc, ◌≤ℤ◌, Bool, if◌then◌else◌, ◌&&◌, ◌==◌, List, [], Option, Some, None, Result, Ok, Err}
+use Rattle.std.specs.Prelude.{ℤ, pos, negsuc, ◌≤ℤ◌, Bool, if◌then◌else◌, ◌&&◌, List, [], Option, Some, None, Result, Ok, Err}
 use Rattle.std.specs.Prelude.{not as flip}
 use Rattle.std.proofs.lemmas.Int.{ints}
 use Rattle.std.proofs.lemmas.List.Elements.{All-nil, All-cons}

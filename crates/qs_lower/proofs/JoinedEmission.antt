@@ -13,7 +13,7 @@ use Rattle.qs_lower.specs.Plans.{expr_code, Emitted}
 use Rattle.qs_lower.specs.declared.plans.ExprPlan.{ExprPlan}
 use Rattle.qs_lower.specs.declared.stmt_plans.StmtPlan.{StmtPlan}
 use Rattle.qs_lower.specs.declared.stmt_plans.StmtPlan.TheVariants as plans
-use Rattle.qs_lower.specs.Statements.{StmtCode, Exits, before, falls_of}
+use Rattle.qs_lower.specs.Statements.{StmtCode, Exits, falls_of}
 use Rattle.qs_lower.specs.StmtPlans.{stmt_part, joined_before, sizes_before, code_before}
 use Rattle.qs_lower.proofs.EmissionLaws.{emitted_then}
 use Rattle.qs_lower.proofs.PlanTrees.{joined_is, return_is}

@@ -9,7 +9,6 @@ use Rattle.qs_base.specs.Results.{bind}
 use Rattle.qs_memory.specs.Partial.{◌>>=◌}
 use Rattle.qs_assert.specs.Listing.{inner_term, assertion_nodes}
 use Rattle.qs_assert.specs.Trees as trees
-use Rattle.qs_assert.specs.declared.node.Node.TheVariants as nodes
 use Rattle.qs_assert.specs.declared.node.Node.{Node as AssertNode}
 use Rattle.qs_assert.specs.declared.variable.Var.{Var}
 use Rattle.qs_sexpr.specs.Places.{LieIn}

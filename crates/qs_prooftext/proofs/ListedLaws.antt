@@ -13,7 +13,7 @@ use Rattle.qs_core.specs.Fits.{differ, unit_fits}
 use Rattle.qs_base.specs.declared.function.FnId.{FnId}
 use Rattle.qs_core.specs.Trees.{CoreFunctionTree, CoreUnitTree}
 use Rattle.qs_core.specs.UnitTrees.{unit_tree}
-use Rattle.qs_core.specs.FunctionNames.{function_name, name_in}
+use Rattle.qs_core.specs.FunctionNames.{function_name}
 use Rattle.qs_core.specs.declared.unit.CoreUnit.{CoreUnit}
 use Rattle.qs_core.specs.declared.units.CoreFunction.{CoreFunction}
 use Rattle.qs_core.proofs.FitLaws.{unit_parts}

@@ -29,7 +29,7 @@ use qs_asm::{AssemblyFault, Item, assemble, label_offsets};
 use qs_base::{NoMemory, count};
 use qs_core::{CoreFunction, CoreUnit};
 use qs_frames::laid_from;
-use qs_image::{FunctionRecord, Image, MOST_FUNCTIONS, MOST_NAME_BYTES};
+use qs_image::{FunctionRecord, Image, MOST_CODE_WORDS, MOST_FUNCTIONS, MOST_NAME_BYTES};
 use qs_isa::{CODE_START, DATA_START};
 use qs_lower::lower;
 use qs_memory::Scalar;
@@ -37,7 +37,8 @@ use qs_select::{data_sizes, first_labels, select};
 use qs_tac::{Places, TacUnit};
 use std::alloc::Global;
 
-const REACHED_WORDS: usize = 1 << 18;
+// So few words that a jump reaches from each to each: an image holds as many.
+const REACHED_WORDS: usize = MOST_CODE_WORDS as usize;
 
 // ---- sizes
 

@@ -4,28 +4,28 @@ use qs_select::SelectionFault;
 use std::alloc::{AllocError, AllocFailed};
 use thiserror::Error;
 
-/// Why a unit of core has no image.
+/// Why a unit of core has no image. The limits are those of qs_image.
 #[derive(Clone, Copy, Debug, PartialEq, Eq, Error)]
 pub enum BuildFault {
     /// No memory was found.
     #[error("out of memory")]
     NoMemory,
-    /// The unit has more than 512 functions.
+    /// The unit has more than `MOST_FUNCTIONS` functions.
     #[error("more than 512 functions")]
     TooManyFunctions,
-    /// The names of the functions have more than 1,048,576 bytes together.
+    /// The names of the functions have more than `MOST_NAME_BYTES` bytes together.
     #[error("the names of the functions are too long")]
     NamesTooLong,
     /// A function has more than the eight parameters that registers hold.
     #[error("more than 8 parameters")]
     TooManyParameters,
-    /// A frame has more than 2^28 bytes.
+    /// A frame has more than `LARGEST_COST` bytes.
     #[error("a frame is too large")]
     FrameTooLarge,
-    /// The data have more than 16,777,216 bytes.
+    /// The data have more than `MOST_DATA_BYTES` bytes.
     #[error("the data are too large")]
     DataTooLarge,
-    /// The code has 2^18 words or more.
+    /// The code has `MOST_CODE_WORDS` words or more.
     #[error("the code is too long")]
     CodeTooLong,
 }

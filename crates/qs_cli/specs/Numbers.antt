@@ -13,18 +13,26 @@ number_of most text =
 abbrev pub within : ℕ → ℕ → ℕ → Option ℕ
 within low high n = if nat_le low n && nat_le n high then Some n else None
 
--- a number of 1 to 19 digits, from 1 to 500
+-- the most functions of a sample beside `main`
+abbrev pub most_sample_functions : ℕ
+most_sample_functions = 500
+
+-- a number of 1 to 19 digits, from 1 to the most functions of a sample
 abbrev pub count_of : Text → Option ℕ
-count_of text = option_and_then (within 1 500) (number_of 19 text)
+count_of text = option_and_then (within 1 most_sample_functions) (number_of 19 text)
 
 -- the most steps of a run, where the words name no number
 abbrev pub default_steps : ℕ
 default_steps = 100000000
 
--- a number of 1 to 10 digits, from 1 to 1,000,000,000; the default where none is given
+-- the most steps of a run that the words can name
+abbrev pub most_steps : ℕ
+most_steps = 1000000000
+
+-- a number of 1 to 10 digits, from 1 to the most steps; the default where none is given
 abbrev pub steps_of : Option Text → Option ℕ
 steps_of None = Some default_steps
-steps_of (Some text) = option_and_then (within 1 1000000000) (number_of 10 text)
+steps_of (Some text) = option_and_then (within 1 most_steps) (number_of 10 text)
 
 -- an optional `-` and 1 to 10 digits
 abbrev pub signed_of : Text → Option ℤ
@@ -39,7 +47,11 @@ abbrev pub all_signed_of : List Text → Option (List ℤ)
 all_signed_of [] = Some []
 all_signed_of (part ∷ parts) = onto (signed_of part) (all_signed_of parts)
 
--- 1 to 8 such numbers with commas between; none where nothing is given
+-- the most arguments of `main` that the words can name
+abbrev pub most_arguments : ℕ
+most_arguments = 8
+
+-- 1 to so many such numbers with commas between; none where nothing is given
 abbrev pub arguments_of : Option Text → Option (List ℤ)
 arguments_of None = Some []
-arguments_of (Some text) = let parts = slice_split (λ b. b == 44) text in if nat_le (length parts) 8 then all_signed_of parts else None
+arguments_of (Some text) = let parts = slice_split (λ b. b == 44) text in if nat_le (length parts) most_arguments then all_signed_of parts else None

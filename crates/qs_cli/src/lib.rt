@@ -10,5 +10,5 @@ mod table;
 mod values;
 
 pub use commands::{CliFault, Command};
-pub use numbers::DEFAULT_STEPS;
+pub use numbers::{DEFAULT_STEPS, MOST_ARGUMENTS, MOST_SAMPLE_FUNCTIONS, MOST_STEPS};
 pub use reading::read_words;

@@ -10,8 +10,17 @@ use crate::commands::CliFault;
 use qs_base::is_digit;
 use std::alloc::{AllocError, Global};
 
+/// The most functions of a sample beside `main`.
+pub const MOST_SAMPLE_FUNCTIONS: u64 = 500;
+
 /// The most steps of a run, where the words name no number.
 pub const DEFAULT_STEPS: u64 = 100_000_000;
+
+/// The most steps of a run that the words can name.
+pub const MOST_STEPS: u64 = 1_000_000_000;
+
+/// The most arguments of `main` that the words can name.
+pub const MOST_ARGUMENTS: usize = 8;
 
 fn are_digits(text: &str) -> bool
     ensures { result ≡ list_all is_digit text.now }
@@ -32,15 +41,19 @@ pub(crate) fn number(text: &str, most: usize) -> Option<u64>
     }
 }
 
-/// 1 to 19 decimal digits, a number from 1 to 500.
+/// 1 to 19 decimal digits, a number from 1 to `MOST_SAMPLE_FUNCTIONS`.
 pub(crate) fn count(text: &str) -> Option<u64>
     ensures { result ≡ count_of text.now }
 {
     let n = number(text, 19)?;
-    if 1 <= n && n <= 500 { Some(n) } else { None }
+    if 1 <= n && n <= MOST_SAMPLE_FUNCTIONS {
+        Some(n)
+    } else {
+        None
+    }
 }
 
-/// 1 to 10 decimal digits, a number from 1 to 1,000,000,000. Without a text `DEFAULT_STEPS`.
+/// 1 to 10 decimal digits, a number from 1 to `MOST_STEPS`. Without a text `DEFAULT_STEPS`.
 pub(crate) fn steps(text: Option<&str>) -> Option<u64>
     ensures { result ≡ steps_of (lent_text text.entry) }
 {
@@ -48,7 +61,7 @@ pub(crate) fn steps(text: Option<&str>) -> Option<u64>
         return Some(DEFAULT_STEPS);
     };
     let n = number(text, 10)?;
-    if 1 <= n && n <= 1_000_000_000 {
+    if 1 <= n && n <= MOST_STEPS {
         Some(n)
     } else {
         None
@@ -92,7 +105,7 @@ fn all_signed(alloc: Global, parts: &[&str]) -> Result<Vec<i64>, CliFault>
     Ok(numbers)
 }
 
-/// 1 to 8 such numbers with commas between. Without a text none.
+/// 1 to `MOST_ARGUMENTS` such numbers with commas between. Without a text none.
 pub(crate) fn arguments(alloc: Global, text: Option<&str>) -> Result<Vec<i64>, CliFault>
     ensures ok { IfOk result (λ v. arguments_of (lent_text text.entry) ≡ Some v.items) }
     ensures usage { IsUsage result → arguments_of (lent_text text.entry) ≡ None }
@@ -101,7 +114,7 @@ pub(crate) fn arguments(alloc: Global, text: Option<&str>) -> Result<Vec<i64>, C
         return Ok(Vec::new(alloc));
     };
     let parts = comma_parts(alloc, text)?;
-    if parts.len() > 8 {
+    if parts.len() > MOST_ARGUMENTS {
         return Err(CliFault::Usage);
     }
     all_signed(alloc, &parts)

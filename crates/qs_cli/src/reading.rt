@@ -133,9 +133,9 @@ fn named(alloc: Global, name: &str, words: &[String]) -> Result<Command, CliFaul
 /// - `exec SRC`: `--proof`, `--args`, `--input`, `--steps`
 /// - `sample N`: `--out`
 ///
-/// `--stack` and N have 1 to 19 decimal digits, and N is 1 to 500. `--steps` has 1 to 10 digits and
-/// is 1 to 1,000,000,000, and 100,000,000 where it isn't given. `--args` has 1 to 8 numbers with
-/// commas between, each an optional `-` and 1 to 10 digits.
+/// `--stack` and N have 1 to 19 decimal digits, and N is 1 to `MOST_SAMPLE_FUNCTIONS`. `--steps` has
+/// 1 to 10 digits and is 1 to `MOST_STEPS`, and `DEFAULT_STEPS` where it isn't given. `--args` has 1
+/// to `MOST_ARGUMENTS` numbers with commas between, each an optional `-` and 1 to 10 digits.
 ///
 /// Anything else is Usage, the empty list, `-`, `--` and `--help` among it. NoMemory comes for want
 /// of memory alone.

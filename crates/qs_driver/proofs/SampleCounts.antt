@@ -3,7 +3,7 @@ use Rattle.std.proofs.Common.{◌≡◌, ℕ, ◌&&◌, nat_le, Bool, true, fals
 use Rattle.std.specs.Prelude.{option_and_then}
 use Rattle.std.proofs.lemmas.Bool.Decides.{nat_tests}
 use Rattle.qs_cli.specs.Words.{Text, Values, operand, reading}
-use Rattle.qs_cli.specs.Numbers.{number_of, within, steps_of, arguments_of}
+use Rattle.qs_cli.specs.Numbers.{most_sample_functions, number_of, within, steps_of, arguments_of}
 use Rattle.qs_cli.specs.Commands.{Command, Build, Check, Bound, Derive, Outline, Run, Exec, Sample, ◌⊛◌, stack_of, sample_count_of, build_options, check_options, bound_options, derive_options, outline_options, run_options, exec_options, sample_options, build_of, check_of, bound_of, derive_of, outline_of, run_of, exec_of, sample_of, command_named, meaning}
 use Rattle.qs_driver.specs.SampleLaws.{IsSampleCount}
 
@@ -61,15 +61,15 @@ exec_has (Some a) p (Some z) i (Some t) = tt
 
 -- ---- `sample`
 
-count_has : (n : ℕ) (out : Option Text) (a b : Bool) → nat_le 1 n ≡ a → nat_le n 500 ≡ b
+count_has : (n : ℕ) (out : Option Text) (a b : Bool) → nat_le 1 n ≡ a → nat_le n most_sample_functions ≡ b
     → HasCount (Some (λ count out. Sample count out) ⊛ (if a && b then Some n else None) ⊛ Some out)
 count_has n out true true e f = (grind (arith, nat_tests), grind (arith, nat_tests))
 count_has n out true false e f = tt
 count_has n out false b e f = tt
 
-number_has : (o : Option ℕ) (out : Option Text) → HasCount (Some (λ count out. Sample count out) ⊛ option_and_then (within 1 500) o ⊛ Some out)
+number_has : (o : Option ℕ) (out : Option Text) → HasCount (Some (λ count out. Sample count out) ⊛ option_and_then (within 1 most_sample_functions) o ⊛ Some out)
 number_has None out = tt
-number_has (Some n) out = count_has n out (nat_le 1 n) (nat_le n 500) refl refl
+number_has (Some n) out = count_has n out (nat_le 1 n) (nat_le n most_sample_functions) refl refl
 
 sample_has : (a out : Option Text) → HasCount (Some (λ count out. Sample count out) ⊛ sample_count_of a ⊛ Some out)
 sample_has None out = tt

@@ -1,6 +1,7 @@
 -- What is promised of samples: each is a good source, and there is a stack for each image of it.
 use Rattle.std.specs.Prelude.{◌≡◌, ℕ, ◌≤◌, List, [], length, None}
 use Rattle.qs_assert.specs.declared.define.Amount.TheVariants.{Finite}
+use Rattle.qs_cli.specs.Numbers.{most_sample_functions}
 use Rattle.qs_core.specs.CallGraph.{IsWithoutRecursion}
 use Rattle.qs_elaborate.specs.FitLaws.{HasCore}
 use Rattle.qs_image.specs.Image.{Image}
@@ -12,13 +13,9 @@ use Rattle.qs_driver.specs.Certified.{CertifiedSource, IsCertifiedAs}
 use Rattle.qs_driver.specs.Bounds.{IsImageOf, bound_by, costs_in}
 use Rattle.qs_driver.specs.SampleSource.{sample_text}
 
--- the most functions of a sample beside main
-abbrev pub most_functions : ℕ
-most_functions = 500
-
 -- each sample has at least one function beside main
 abbrev pub IsSampleCount : ℕ → Type 0
-IsSampleCount n = (1 ≤ n) × (n ≤ most_functions)
+IsSampleCount n = (1 ≤ n) × (n ≤ most_sample_functions)
 
 -- the text is no longer than a source may be, and a typed unit whose core is without recursion
 pub record IsGoodSource (text : List ℕ) : Type 0 where
@@ -28,7 +25,7 @@ pub record IsGoodSource (text : List ℕ) : Type 0 where
   pub without_recursion : IsWithoutRecursion has_core.core
 
 abbrev pub SamplesAreGood : Type 0
-SamplesAreGood = (n : ℕ) → 1 ≤ n → n ≤ most_functions → IsGoodSource (sample_text n)
+SamplesAreGood = (n : ℕ) → 1 ≤ n → n ≤ most_sample_functions → IsGoodSource (sample_text n)
 
 -- main takes no arguments, its bound is a number, and a stack can have so many bytes
 pub record HasSmallBound (s : CertifiedSource) (image : Image) : Type 0 where
@@ -39,5 +36,5 @@ pub record HasSmallBound (s : CertifiedSource) (image : Image) : Type 0 where
 
 abbrev pub SamplesHaveStacks : Type 0
 SamplesHaveStacks =
-    (n : ℕ) (s : CertifiedSource) (image : Image) → 1 ≤ n → n ≤ most_functions
+    (n : ℕ) (s : CertifiedSource) (image : Image) → 1 ≤ n → n ≤ most_sample_functions
     → IsCertifiedAs (sample_text n) None s → IsImageOf s image → HasSmallBound s image

@@ -20,9 +20,9 @@ pub fn sources_pass_no_size()
     ensures { SourcesPassNoSize }
 {}
 
-/// The source of each sample, of 1 to 500 functions beside `main`, is no longer than a source may
-/// be, keeps the typing rules, is within the limits and is without recursion: without a proof file
-/// only memory can be wanting to certify it.
+/// The source of each sample, of 1 to `qs_cli::MOST_SAMPLE_FUNCTIONS` functions beside `main`, is no
+/// longer than a source may be, keeps the typing rules, is within the limits and is without
+/// recursion: without a proof file only memory can be wanting to certify it.
 pub fn samples_are_good()
     ensures { SamplesAreGood }
 {}

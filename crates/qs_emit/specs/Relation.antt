@@ -24,6 +24,7 @@ use Rattle.qs_frames.specs.Layout.{rounded, slot_count, used_registers, register
 use Rattle.qs_emit.specs.Machine.{Room, Watched, base, instruction_at}
 use Rattle.qs_select.specs.Data.{data_address}
 use Rattle.qs_select.specs.Laws.{HasFewArguments}
+use Rattle.qs_select.specs.Limits.{most_arguments}
 use Rattle.qs_select.specs.Operands.{Context, frame_of, slot_offset, local_offset}
 use Rattle.qs_select.specs.Emission.{first_label, unit_items, take_result}
 use Rattle.qs_emit.specs.Lies.{number_at, AreBytes, StandsFor, frame, IsInReach}
@@ -49,12 +50,12 @@ cost_at u ps f = (frame_of (context_at u ps f)).cost
 
 -- ---- what linear code is emitted from
 
--- the condition of emission: places that are accepted, frames of at most 2 ^ 28 bytes, and arguments that registers hold
+-- the condition of emission: places that are accepted, frames no larger than the largest stack, and arguments that registers hold
 pub record IsEmittable (u : TacUnitTree) (ps : List PlacesTree) : Type 0 where
   pub fits : unit_fits u ≡ true
   pub places : AreAccepted u ps
   pub cost : (f : ℕ) → f < length u.functions → cost_at u ps f ≤ stack_limit
-  pub parameters : (f : ℕ) → length (function_at u f).parameters ≤ 8
+  pub parameters : (f : ℕ) → length (function_at u f).parameters ≤ most_arguments
   pub arguments : (f k : ℕ) (i : InstructionTree) → slice_get (function_at u f).code k ≡ Some i → HasFewArguments i
 
 -- the least data that have room for all blocks

@@ -24,13 +24,17 @@ function_count bytes = word 3 bytes
 abbrev pub names_length : List ℕ → ℕ
 names_length bytes = word 4 bytes
 
+-- the four bytes `QSI1` and seven words
+abbrev pub header_bytes : ℕ
+header_bytes = 32
+
 -- how many bytes the counts ask for
 abbrev pub size : List ℕ → ℕ
-size bytes = 32 + 12 * function_count bytes + names_length bytes + 4 * code_count bytes + byte_count bytes
+size bytes = header_bytes + 12 * function_count bytes + names_length bytes + 4 * code_count bytes + byte_count bytes
 
 -- One after the other: the header, the table of records, the names, the code, the data.
 abbrev pub behind_header : List ℕ → List ℕ
-behind_header bytes = drop 32 bytes
+behind_header bytes = drop header_bytes bytes
 
 abbrev pub table_of : List ℕ → List ℕ
 table_of bytes = take (12 * function_count bytes) (behind_header bytes)

@@ -8,7 +8,7 @@ use Rattle.qs_image.specs.declared.fault.ImageFault.{ImageFault}
 use Rattle.qs_image.specs.declared.fault.ImageFault.TheVariants.{Short, Magic, Count, Trailing, Entry, Cost, Names}
 use Rattle.qs_image.specs.Limits.{most_code_words, most_data_bytes, most_functions, most_name_bytes, most_parameters, largest_cost}
 use Rattle.qs_image.specs.Image.{Image, FunctionRecord}
-use Rattle.qs_image.specs.Bytes.{word, code_count, byte_count, function_count, names_length, size, table_of, lengths_of, image_of}
+use Rattle.qs_image.specs.Bytes.{header_bytes, word, code_count, byte_count, function_count, names_length, size, table_of, lengths_of, image_of}
 
 -- no name is that of a later function
 abbrev pub all_differ : List FunctionRecord → Bool
@@ -51,7 +51,7 @@ count_tests bytes =
 
 abbrev pub header_tests : List ℕ → List (Option ImageFault)
 header_tests bytes =
-    unless (nat_le 32 (length bytes)) Short
+    unless (nat_le header_bytes (length bytes)) Short
     ∷ unless (bytes_eq (codes "QSI1") (take 4 bytes)) Magic
     ∷ count_tests bytes
 

@@ -1,12 +1,24 @@
 -- The code's types, seen as the pure ones.
 use Rattle.std.specs.Prelude.{◌≡◌, ℕ, Bool, ◌==◌, ◌&&◌, List, ◌∷◌, length, sum, Option}
 use Rattle.qs_image.specs.declared.fault.ImageFault.{ImageFault}
+use Rattle.qs_image.specs.declared.image.Image.TheInside.{Inside}
 use Rattle.qs_image.specs.declared.records.RecordView.{RecordView}
 use Rattle.qs_image.specs.declared.records.Records.{Records}
 use Rattle.qs_image.specs.declared.sections.Sections.{Sections}
 use Rattle.qs_image.specs.Image.{Image, FunctionRecord}
 use Rattle.qs_image.specs.Bytes.{records_of, lengths_of, image_from, image_of}
 use Rattle.qs_image.specs.Faults.{are_names, part_tests, HasNoFault}
+
+-- the image that a compiler made
+abbrev pub made_image : Inside → Image
+made_image i = record {
+  entry = i.entry;
+  parameters = i.parameters;
+  unsigned_set = i.unsigned_set;
+  functions = i.functions.items;
+  code = i.code.items;
+  bytes = i.bytes.items;
+}
 
 abbrev pub record_of : RecordView → FunctionRecord
 record_of r = record { name = r.name.now; address = r.address; cost = r.cost }

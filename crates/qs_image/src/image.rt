@@ -40,10 +40,11 @@ pub struct Image {
 
 impl Model for Image {
     ghost use Rattle.qs_image.specs.Image.{Image as Pure, IsWellFormed};
+    ghost use Rattle.qs_image.specs.View.{made_image};
 
     ghost Value = { Pure };
 
-    ghost view = { λ i. record { entry = i.entry; parameters = i.parameters; unsigned_set = i.unsigned_set; functions = i.functions.items; code = i.code.items; bytes = i.bytes.items } };
+    ghost view = { made_image };
 
-    ghost invariant = { λ i. IsWellFormed (record { entry = i.entry; parameters = i.parameters; unsigned_set = i.unsigned_set; functions = i.functions.items; code = i.code.items; bytes = i.bytes.items }) };
+    ghost invariant = { λ i. IsWellFormed (made_image i) };
 }

@@ -13,7 +13,7 @@ mod writing;
 
 pub use fault::ImageFault;
 pub use image::{FunctionRecord, Image};
-pub use limits::{MOST_FUNCTIONS, MOST_NAME_BYTES};
+pub use limits::{LARGEST_COST, MOST_CODE_WORDS, MOST_DATA_BYTES, MOST_FUNCTIONS, MOST_NAME_BYTES};
 pub use reading::read;
 pub use records::RecordView;
 pub use view::ImageView;

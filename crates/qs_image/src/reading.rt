@@ -1,6 +1,7 @@
 // Reading an image.
 ghost use Rattle.std.specs.Prelude.{◌≡◌, ◌≤◌, length, MatchResult, IfOk, IsOkAnd};
 ghost use Rattle.qs_image.specs.Limits.{most_code_words, most_functions};
+ghost use Rattle.qs_image.specs.Bytes.{header_bytes};
 ghost use Rattle.qs_image.specs.Image.{Image, IsImage};
 ghost use Rattle.qs_image.specs.Faults.{are_addresses, first_of, count_tests};
 ghost use Rattle.qs_image.specs.Faults.{header_tests, size_tests, HasNoFault, IsFirstFault};
@@ -16,7 +17,7 @@ use crate::view::ImageView;
 use crate::word::word;
 
 fn count_fault(bytes: &[u8]) -> Option<ImageFault>
-    requires { 32 ≤ length bytes.now }
+    requires { header_bytes ≤ length bytes.now }
     ensures { result ≡ first_of (count_tests bytes.now) }
 {
     if word(bytes, 1) < 1 || word(bytes, 1) > MOST_CODE_WORDS {
@@ -49,7 +50,7 @@ fn header_fault(bytes: &[u8]) -> Option<ImageFault>
 }
 
 fn size_fault(bytes: &[u8]) -> Option<ImageFault>
-    requires { 32 ≤ length bytes.now }
+    requires { header_bytes ≤ length bytes.now }
     ensures { result ≡ first_of (size_tests bytes.now) }
 {
     let size = HEADER_BYTES

@@ -3,6 +3,7 @@ use Rattle.std.specs.Prelude.{ℕ, ◌+◌, ◌-◌, ◌*◌, ◌/◌, ◌%◌, 
 use Rattle.qs_isa.specs.Addresses.{code_start, data_start}
 use Rattle.qs_isa.specs.Registers.{sp}
 use Rattle.qs_image.specs.Image.{Image}
+use Rattle.qs_image.specs.Limits.{largest_cost}
 
 -- Registers and addresses are words below 2 ^ 32; memory gives the byte at each address.
 pub record State : Type 0 where
@@ -33,9 +34,9 @@ stack_pointer s = register s sp
 abbrev pub stack_top : ℕ
 stack_top = 0x80000000
 
--- the largest stack, in bytes
+-- the largest stack, in bytes: as large as what one call may cost
 abbrev pub stack_limit : ℕ
-stack_limit = 2 ^ 28
+stack_limit = largest_cost
 
 abbrev pub stack_base : ℕ → ℕ
 stack_base size = stack_top - size

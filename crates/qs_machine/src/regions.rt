@@ -5,12 +5,13 @@ ghost use Rattle.qs_machine.specs.Step.{store_width};
 ghost use Rattle.qs_machine.specs.Bytes.{put_bytes};
 
 use byteorder::{ByteOrder, LittleEndian};
+use qs_image::LARGEST_COST;
 use qs_isa::StoreKind;
 
 pub const STACK_TOP: u32 = 0x8000_0000;
 
-/// The largest stack, in bytes.
-pub const STACK_LIMIT: u64 = 1 << 28;
+/// The largest stack, in bytes: as large as what one call may cost.
+pub const STACK_LIMIT: u64 = LARGEST_COST as u64;
 
 /// The place in a region of an access that lies in it whole.
 pub fn place_in(start: u32, count: usize, address: u32, width: u32) -> Option<usize>

@@ -1,5 +1,6 @@
 // The registers' words.
 ghost use Rattle.std.specs.Prelude.{◌≡◌, ◌≤◌, ◌==◌, length, if◌then◌else◌};
+ghost use Rattle.qs_image.specs.Limits.{most_parameters};
 ghost use Rattle.qs_machine.specs.Run.{start_registers};
 
 use crate::regions::STACK_TOP;
@@ -16,7 +17,7 @@ impl Registers {
 
     /// At the start a0 to a7 hold the arguments and x2 the top of the stack.
     pub fn at_start(args: &[u32]) -> Registers
-        requires { length args.now ≤ 8 }
+        requires { length args.now ≤ most_parameters }
         ensures { registers_of result ≡ start_registers args.now }
     {
         let mut words = [0; 32];

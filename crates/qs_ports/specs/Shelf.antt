@@ -1,6 +1,6 @@
 -- Files in memory: one list of bytes that only grows, and where each file lies in it, the oldest first. A file hides the
 -- older ones of its name.
-use Rattle.std.specs.Prelude.{ℕ, ◌≤◌, List, [], ◌∷◌, Bool, true, false, bytes_eq, if◌then◌else◌, slice_range, Option, Some, None, fold}
+use Rattle.std.specs.Prelude.{ℕ, ◌≤◌, List, [], ◌∷◌, length, Bool, true, false, bytes_eq, if◌then◌else◌, slice_range, Option, Some, None, fold}
 use Rattle.qs_ports.specs.StoreView.{Files}
 use Rattle.qs_ports.specs.declared.memory.span.Span.{Span}
 
@@ -61,3 +61,11 @@ AreWithin (s ∷ ss) n = IsWithin s n × AreWithin ss n
 abbrev pub OptionWithin : Option Span → ℕ → Type 0
 OptionWithin None n = Unit {0}
 OptionWithin (Some s) n = IsWithin s n
+
+-- all files lie in these bytes
+abbrev pub AreIn : List Span → List ℕ → Type 0
+AreIn spans bytes = AreWithin spans (length bytes)
+
+-- a file does that may be there
+abbrev pub OptionIn : Option Span → List ℕ → Type 0
+OptionIn o bytes = OptionWithin o (length bytes)

@@ -12,7 +12,7 @@ use Rattle.qs_select.specs.Data.{data_sizes}
 use Rattle.qs_select.specs.declared.fault.SelectionFault.{SelectionFault}
 use Rattle.qs_select.specs.declared.fault.SelectionFault.TheVariants as faults
 
--- ---- parameters and arguments: registers pass eight of them
+-- ---- parameters and arguments: registers pass so many, `most_parameters` of qs_image, on which nothing here stands
 
 abbrev pub most_arguments : ℕ
 most_arguments = 8
@@ -44,7 +44,7 @@ place_fits (Register r) = nat_lt r 32
 abbrev pub places_fit : PlacesTree → Bool
 places_fit p = list_all place_fits p.at
 
--- ---- frames and data, in bytes
+-- ---- frames and data, in bytes: as many data as an image holds, `most_data_bytes` of qs_image, on which nothing here stands
 
 abbrev pub frame_fits : TacFunctionTree → PlacesTree → Bool
 frame_fits f p = nat_le (layout f p).cost largest_frame

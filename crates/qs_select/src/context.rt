@@ -1,9 +1,9 @@
 // What the code of a function depends on.
-ghost use Rattle.std.specs.Prelude.{◌≡◌, ℕ, true, map};
-ghost use Rattle.qs_tac.specs.TreeOf.{function_tree};
+ghost use Rattle.std.specs.Prelude.{◌≡◌, true};
+ghost use Rattle.qs_tac.specs.TreeOf.{function_tree, function_trees};
 ghost use Rattle.qs_tac.specs.Places.{places_tree};
 ghost use Rattle.qs_frames.specs.Layout.{layout, block_offset, used_registers};
-ghost use Rattle.qs_frames.specs.Starts.{start_of};
+ghost use Rattle.qs_frames.specs.Starts.{BeginAt};
 ghost use Rattle.qs_select.specs.Data.{data_address};
 ghost use Rattle.qs_select.specs.Emission.{first_label};
 ghost use Rattle.qs_select.specs.Limits.{places_fit};
@@ -36,7 +36,7 @@ pub struct FunctionContext<'a> {
     ghost placed: { places_fit (places_tree places.now) ≡ true },
     ghost framed: { frame ≡ layout (function_tree function.now) (places_tree places.now) },
     ghost gives_back: { saved.now ≡ used_registers (places_tree places.now) },
-    ghost offsets: { (i : ℕ) → start_of blocks.now i ≡ block_offset (function_tree function.now) frame i },
-    ghost addresses: { (i : ℕ) → start_of data_starts.now i ≡ data_address unit.now.data_blocks.items i },
-    ghost labelled: { (f : ℕ) → start_of labels.now f ≡ first_label (map function_tree unit.now.functions.items) f },
+    ghost offsets: { BeginAt blocks.now (block_offset (function_tree function.now) frame) },
+    ghost addresses: { BeginAt data_starts.now (data_address unit.now.data_blocks.items) },
+    ghost labelled: { BeginAt labels.now (first_label (function_trees unit.now.functions.items)) },
 }

@@ -12,9 +12,11 @@ use crate::fault::SelectionFault;
 use qs_frames::{total_within, try_layout};
 use qs_tac::{Instruction, Place, Places, TacFunction, TacUnit};
 
+// As many as registers pass: `MOST_PARAMETERS` of qs_image, on which nothing here stands.
 const MOST_ARGUMENTS: usize = 8;
 
-const LARGEST_DATA: u32 = 16777216;
+// As many as an image holds: `MOST_DATA_BYTES` of qs_image, on which nothing here stands.
+const LARGEST_DATA: u32 = 16_777_216;
 
 fn passes_few(i: &Instruction) -> bool
     ensures { result ≡ spec.passes_few (instruction_tree i.now) }

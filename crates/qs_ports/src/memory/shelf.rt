@@ -3,8 +3,8 @@ ghost use Rattle.std.specs.Prelude.{◌≡◌, ◌+◌, ◌-◌, ◌≤◌, ◌<
 ghost use Rattle.std.specs.Prelude.{IsTrue, IfOk, OnOk, OnErr, IsSome, false, vec_len};
 ghost use Rattle.std.specs.Prelude.{vec_capacity};
 ghost use Rattle.std.specs.Prelude.{length, take, drop, min, option_copied, is_some};
-ghost use Rattle.qs_ports.specs.Shelf.{AreWithin, OptionWithin, find, newest_end};
-ghost use Rattle.qs_ports.specs.ShelfProps.{are_within_prop, option_within_prop};
+ghost use Rattle.qs_ports.specs.Shelf.{AreIn, AreWithin, OptionIn, OptionWithin, find, newest_end};
+ghost use Rattle.qs_ports.specs.ShelfProps.{are_in_prop, option_in_prop};
 ghost use Rattle.qs_ports.specs.StoreView.{file_room};
 
 use crate::memory::span::Span;
@@ -32,9 +32,9 @@ pub struct Shelf {
     pub writing: bool,
     ghost room: { vec_len bytes + spare ≤ vec_capacity bytes },
     ghost slots: { vec_len files + spare / file_room ≤ vec_capacity files },
-    ghost within: { AreWithin files.items (length bytes.items) } by { are_within_prop files.items (length bytes.items) },
+    ghost within: { AreIn files.items bytes.items } by { are_in_prop files.items bytes.items },
     ghost last: { newest_end files.items ≡ length bytes.items },
-    ghost reads: { OptionWithin reading (length bytes.items) } by { option_within_prop reading (length bytes.items) },
+    ghost reads: { OptionIn reading bytes.items } by { option_in_prop reading bytes.items },
     ghost writes: { IsTrue writing → full ≡ false → 0 < vec_len files },
 }
 

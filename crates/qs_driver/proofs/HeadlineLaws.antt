@@ -12,7 +12,7 @@ use Rattle.qs_machine.specs.Run.{Outcome, Exited, Trapped, Going, machine, outpu
 use Rattle.qs_machine.specs.declared.answers.Cause.{Cause}
 use Rattle.qs_emit.specs.Agree.{Agree, Begins, IsUndefinedWithin}
 use Rattle.qs_report.specs.Lines.{bound_line}
-use Rattle.qs_driver.specs.Devices.{DevicesView, Streams, streams_of}
+use Rattle.qs_driver.specs.Devices.{DevicesView, StreamsView, streams_of}
 use Rattle.qs_driver.specs.Steps.{on_out, ArePut}
 use Rattle.qs_driver.specs.Lines.{cost_lines}
 use Rattle.qs_driver.specs.Faults.{shown_of}
@@ -80,9 +80,9 @@ not_lacking result done e = cc
 
 -- ---- what was put
 
-put_on_out : (text : List ℕ) (before after : Streams) → ArePut (on_out text ∷ []) before after → IsTrue after.out.told → after.out.written ≡ before.out.written ++ text
+put_on_out : (text : List ℕ) (before after : StreamsView) → ArePut (on_out text ∷ []) before after → IsTrue after.out.told → after.out.written ≡ before.out.written ++ text
 put_on_out text before after (between, put, e) =
-    subst (λ (s : Streams). IsTrue s.out.told → s.out.written ≡ before.out.written ++ text) (sym e) put.happened.written
+    subst (λ (s : StreamsView). IsTrue s.out.told → s.out.written ≡ before.out.written ++ text) (sym e) put.happened.written
 
 -- what was due was put, if the call ended well
 record WasPut (t : Task) (before after : DevicesView) : Type 0 where

@@ -3,7 +3,7 @@ use Rattle.std.proofs.Common.{◌≡◌, ◌⊎◌, ℕ, List, [], ◌∷◌, Re
 use Rattle.qs_ports.specs.Causes.{Rose}
 use Rattle.qs_ports.specs.SinkView.{SinkView, Appends, IsCut, PutsAll}
 use Rattle.qs_ports.specs.declared.sink.SinkFault.{SinkFault}
-use Rattle.qs_driver.specs.Devices.{Streams, streams}
+use Rattle.qs_driver.specs.Devices.{StreamsView, streams}
 use Rattle.qs_driver.specs.Steps.{Stream, Out, Log, Step, on_out, on_log, OnlyOn, IsPut, IsCutWithin, ArePut, AreCutShort}
 use Rattle.qs_driver.specs.Due.{Due, IsWritten, status_after, EndsWith}
 use Rattle.qs_driver.specs.declared.status.Status.{Status}
@@ -15,12 +15,12 @@ due_of status steps = record { status = status; steps = steps }
 -- ---- how what is due comes to be written
 
 -- a step was put, and then the others
-pub put_goes_on : (status : Status) (step : Step) (steps : List Step) (u v w : Streams) (result : Status) → IsPut step u v → IsWritten (due_of status steps) v w result → IsWritten (due_of status (step ∷ steps)) u w result
+pub put_goes_on : (status : Status) (step : Step) (steps : List Step) (u v w : StreamsView) (result : Status) → IsPut step u v → IsWritten (due_of status steps) v w result → IsWritten (due_of status (step ∷ steps)) u w result
 put_goes_on status step steps u v w result p (inl (e, h)) = inl (e, (v, p, h))
 put_goes_on status step steps u v w result p (inr (e, h)) = inr (e, inr (v, p, h))
 
 -- a stream failed within a step, and nothing more is put
-pub put_fails : (status : Status) (step : Step) (steps : List Step) (u v : Streams) → IsCutWithin step u v → IsWritten (due_of status (step ∷ steps)) u v SinkFailed
+pub put_fails : (status : Status) (step : Step) (steps : List Step) (u v : StreamsView) → IsCutWithin step u v → IsWritten (due_of status (step ∷ steps)) u v SinkFailed
 put_fails status step steps u v c = inr (refl, inl c)
 
 pub ends_with : (text : List ℕ) (due : Status) (v w : SinkView) (written : Result Unit SinkFault) → PutsAll v w text written → EndsWith text due v w (status_after written due)
@@ -48,15 +48,15 @@ out_fails status text line o o' l k c = put_fails status (on_out text) (on_log l
 -- ---- what the counts of failures tell
 
 -- neither stream counted a failure
-pub record HasSameFaults (v w : Streams) : Type 0 where
+pub record HasSameFaults (v w : StreamsView) : Type 0 where
   pub out : w.out.faults ≡ v.out.faults
   pub log : w.log.faults ≡ v.log.faults
 
-put_same : (stream : Stream) (text : List ℕ) (v w : Streams) → OnlyOn stream v w (λ a b. Appends a b text) → HasSameFaults v w
+put_same : (stream : Stream) (text : List ℕ) (v w : StreamsView) → OnlyOn stream v w (λ a b. Appends a b text) → HasSameFaults v w
 put_same Out text v w h = record { out = h.happened.same_faults; log = ap (λ s. s.faults) h.other }
 put_same Log text v w h = record { out = ap (λ s. s.faults) h.other; log = h.happened.same_faults }
 
-pub all_same : (steps : List Step) (v w : Streams) → ArePut steps v w → HasSameFaults v w
+pub all_same : (steps : List Step) (v w : StreamsView) → ArePut steps v w → HasSameFaults v w
 all_same [] v w e = record { out = ap (λ s. s.out.faults) e; log = ap (λ s. s.log.faults) e }
 all_same (step ∷ steps) v w (u, p, h) =
     let a = put_same step.stream step.text v u p in
@@ -64,18 +64,18 @@ all_same (step ∷ steps) v w (u, p, h) =
     record { out = b.out ∙ a.out; log = b.log ∙ a.log }
 
 -- one of the streams counted a failure
-abbrev OneRose : Streams → Streams → Type 0
+abbrev OneRose : StreamsView → StreamsView → Type 0
 OneRose v w = Rose v.out.faults w.out.faults ⊎ Rose v.log.faults w.log.faults
 
-cut_rose : (stream : Stream) (text : List ℕ) (v w : Streams) → OnlyOn stream v w (λ a b. (k : ℕ) × IsCut a b text k) → OneRose v w
+cut_rose : (stream : Stream) (text : List ℕ) (v w : StreamsView) → OnlyOn stream v w (λ a b. (k : ℕ) × IsCut a b text k) → OneRose v w
 cut_rose Out text v w h = inl h.happened.1.rose
 cut_rose Log text v w h = inr h.happened.1.rose
 
-rose_before : (v u w : Streams) → HasSameFaults v u → OneRose u w → OneRose v w
+rose_before : (v u w : StreamsView) → HasSameFaults v u → OneRose u w → OneRose v w
 rose_before v u w e (inl r) = let P : ℕ → Type 0 = λ n. Rose n w.out.faults in inl (subst P e.out r)
 rose_before v u w e (inr r) = let P : ℕ → Type 0 = λ n. Rose n w.log.faults in inr (subst P e.log r)
 
-pub short_rose : (steps : List Step) (v w : Streams) → AreCutShort steps v w → OneRose v w
+pub short_rose : (steps : List Step) (v w : StreamsView) → AreCutShort steps v w → OneRose v w
 short_rose [] v w h = absurd h
 short_rose (step ∷ steps) v w (inl h) = cut_rose step.stream step.text v w h
 short_rose (step ∷ steps) v w (inr (u, p, h)) = rose_before v u w (put_same step.stream step.text v u p) (short_rose steps u w h)

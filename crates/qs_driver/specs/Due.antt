@@ -4,7 +4,7 @@ use Rattle.qs_ports.specs.SinkView.{SinkView, Appends, IsCut}
 use Rattle.qs_ports.specs.declared.sink.SinkFault.{SinkFault}
 use Rattle.qs_driver.specs.Names.{Names}
 use Rattle.qs_driver.specs.Faults.{status_line}
-use Rattle.qs_driver.specs.Devices.{Streams, streams}
+use Rattle.qs_driver.specs.Devices.{Streams, StreamsLeft, StreamsView, stream_views, stream_views_left}
 use Rattle.qs_driver.specs.Steps.{Step, on_log, ArePut, AreCutShort}
 use Rattle.qs_driver.specs.declared.status.Status.{Status}
 use Rattle.qs_driver.specs.declared.status.Status.TheVariants.{SinkFailed}
@@ -21,18 +21,18 @@ abbrev pub IsRefusal : Names → Status → Due → Type 0
 IsRefusal names status due = due ≡ refusal names status
 
 -- All that is due was put and the status is the due one; or a stream failed within it, and the status says so.
-abbrev pub IsWritten : Due → Streams → Streams → Status → Type 0
+abbrev pub IsWritten : Due → StreamsView → StreamsView → Status → Type 0
 IsWritten due before after result =
     ((result ≡ due.status) × ArePut due.steps before after)
     ⊎ ((result ≡ SinkFailed) × AreCutShort due.steps before after)
 
--- the same of the two streams that are seen by these views, as the code is handed them and as it leaves them
-abbrev pub Writes :
-    {O L : Type 0} → (O → SinkView) → (L → SinkView) → (out out' : O) → (log log' : L) → Due
+-- the same of the streams that are seen by these views, as the code is handed them and as it leaves them
+abbrev pub IsWrittenOn :
+    {O L : Type 0} → (O → SinkView) → (L → SinkView) → Streams O L → StreamsLeft O L → Due
     → Status → Type 0
-Writes out_view log_view out out' log log' due result =
-    IsWritten due (streams (out_view out) (log_view log))
-    (streams (out_view out') (log_view log')) result
+IsWrittenOn out_view log_view handed left due result =
+    IsWritten due (stream_views out_view log_view handed) (stream_views_left out_view log_view left)
+    result
 
 -- the status after a text was put, if this one is due
 abbrev pub status_after : Result Unit SinkFault → Status → Status
@@ -45,7 +45,7 @@ EndsWith text due v w result =
     ((result ≡ due) × Appends v w text) ⊎ ((result ≡ SinkFailed) × ((k : ℕ) × IsCut v w text k))
 
 -- the same of the line of a fault, on a sink that is seen by this view, before the call and after it
-abbrev pub Refuses :
+abbrev pub PutsRefusal :
     {L : Type 0} → (L → SinkView) → L → L → Names → (fault result : Status) → Type 0
-Refuses view old new names fault result =
+PutsRefusal view old new names fault result =
     EndsWith (status_line names fault) fault (view old) (view new) result

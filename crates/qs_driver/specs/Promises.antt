@@ -58,9 +58,9 @@ pub record Promises (task : Task) (before after : DevicesView) (result : Status)
   pub shows : ShowsFailures before after result
 
 -- the same of devices that are seen by these views, as the code is handed them and as it leaves them
-abbrev pub Keeps :
+abbrev pub PromiseOn :
     {S O L : Type 0} → (S → StoreView) → (O → SinkView) → (L → SinkView) → Devices S O L
     → DevicesLeft S O L → Task → Status → Type 0
-Keeps store_view out_view log_view handed left task result =
+PromiseOn store_view out_view log_view handed left task result =
     Promises task (views store_view out_view log_view handed)
     (views_left store_view out_view log_view left) result

@@ -1,7 +1,7 @@
 -- What a command asks of the tool, and when it is answered.
 use Rattle.qs_ports.specs.SinkView.{SinkView}
 use Rattle.qs_ports.specs.StoreView.{StoreView}
-use Rattle.qs_driver.specs.Devices.{DevicesView, DevicesLeft, streams_of, views, views_left}
+use Rattle.qs_driver.specs.Devices.{DevicesView, DevicesLeft, Streams, StreamsLeft, streams_of, views, views_left, with_streams, stream_views, stream_views_left}
 use Rattle.qs_driver.specs.Due.{Due, IsWritten}
 use Rattle.qs_driver.specs.declared.devices.Devices.{Devices}
 use Rattle.qs_driver.specs.declared.status.Status.{Status}
@@ -28,3 +28,17 @@ abbrev pub AnswersOn :
 AnswersOn store_view out_view log_view handed left task result =
     Answers task (views store_view out_view log_view handed)
     (views_left store_view out_view log_view left) result
+
+-- A task, and what is known of the files once the work on them is done.
+pub record Begun : Type 1 where
+  pub task : Task
+  pub Known : StoreView → StoreView → Type 0
+
+-- whatever the files were, the task is answered on streams that are seen by these views
+abbrev pub RunsOn :
+    {O L : Type 0} → (O → SinkView) → (L → SinkView) → Streams O L → StreamsLeft O L → Begun
+    → Status → Type 0
+RunsOn out_view log_view handed left begun result =
+    (before after : StoreView) → begun.Known before after
+    → Answers begun.task (with_streams before (stream_views out_view log_view handed))
+    (with_streams after (stream_views_left out_view log_view left)) result

@@ -1,8 +1,9 @@
 // The end of a command that counts entries.
 ghost use Rattle.qs_driver.specs.Counts.{due_to};
-ghost use Rattle.qs_driver.specs.Due.{Writes};
+ghost use Rattle.qs_driver.specs.Due.{IsWrittenOn};
 
 use crate::Status;
+use crate::devices::Streams;
 use crate::due::{refuse, status_after};
 use crate::names::FileNames;
 use qs_ports::Sink;
@@ -12,13 +13,12 @@ use qs_report::{Count, put_count};
 pub fn report_count<O: Sink, L: Sink>(
     work: Result<Count, Status>,
     names: &FileNames<'_>,
-    out: &mut O,
-    log: &mut L,
+    streams: Streams<'_, O, L>,
 ) -> Status
-    ensures { Writes O.view L.view out.old out.new log.old log.new (due_to names.now work) result }
+    ensures { IsWrittenOn O.view L.view streams.entry streams.exit (due_to names.now work) result }
 {
     match work {
-        Ok(count) => status_after(put_count(out, count), Status::Done),
-        Err(status) => refuse(log, names, status),
+        Ok(count) => status_after(put_count(streams.0, count), Status::Done),
+        Err(status) => refuse(streams.1, names, status),
     }
 }

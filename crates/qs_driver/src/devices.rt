@@ -6,3 +6,6 @@ pub struct Devices<'a, S, O, L> {
     pub out: &'a mut O,
     pub log: &'a mut L,
 }
+
+/// The two streams alone, `out` and then `log`.
+pub type Streams<'a, O, L> = (&'a mut O, &'a mut L);

@@ -1,6 +1,6 @@
 // The end of a call: what is due is put, and the status tells how that went.
 ghost use Rattle.std.specs.Prelude.{◌≡◌};
-ghost use Rattle.qs_driver.specs.Due.{status_after, Refuses};
+ghost use Rattle.qs_driver.specs.Due.{status_after, PutsRefusal};
 ghost use Rattle.qs_driver.specs.Names.{names_in};
 
 use crate::Status;
@@ -20,7 +20,7 @@ pub fn status_after(written: Result<(), SinkFault>, due: Status) -> Status
 
 /// Puts the line of a fault.
 pub fn refuse<L: Sink>(log: &mut L, names: &FileNames<'_>, status: Status) -> Status
-    ensures { Refuses L.view log.old log.new (names_in names.now) status result }
+    ensures { PutsRefusal L.view log.old log.new (names_in names.now) status result }
 {
     let written = put_status(log, names, &status);
     status_after(written, status)

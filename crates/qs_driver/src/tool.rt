@@ -1,6 +1,6 @@
 // The top call: reads the words, and hands the devices to their command.
 ghost use Rattle.qs_cli.specs.Reading.{command_of};
-ghost use Rattle.qs_driver.specs.Promises.{Keeps, LacksMemoryOn};
+ghost use Rattle.qs_driver.specs.Promises.{LacksMemoryOn, PromiseOn};
 ghost use Rattle.qs_driver.specs.Task.{AnswersOn};
 ghost use Rattle.qs_driver.specs.Tool.{task_in, to_do, IsMeant};
 
@@ -83,7 +83,7 @@ pub fn run_tool<S: Store, O: Sink, L: Sink>(
     words: &[String],
     devices: Devices<'_, S, O, L>,
 ) -> Status
-    ensures { Keeps S.view O.view L.view devices.entry devices.exit (task_in words.now) result }
+    ensures { PromiseOn S.view O.view L.view devices.entry devices.exit (task_in words.now) result }
 {
     match read_words(alloc, words) {
         Ok(command) => perform(alloc, &command, devices),

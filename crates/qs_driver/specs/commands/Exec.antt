@@ -3,7 +3,6 @@ use Rattle.std.specs.Prelude.{◌≡◌, ◌⊎◌, ◌↔◌, ℕ, ◌≤◌, �
 use Rattle.qs_assert.specs.declared.define.Amount.{Amount}
 use Rattle.qs_assert.specs.declared.define.Amount.TheVariants.{Finite}
 use Rattle.qs_meaning.specs.Typed.{TypedProgram}
-use Rattle.qs_ports.specs.SinkView.{SinkView}
 use Rattle.qs_ports.specs.StoreView.{StoreView}
 use Rattle.qs_image.specs.Image.{Image}
 use Rattle.qs_machine.specs.declared.answers.Cause.{Cause}
@@ -22,13 +21,12 @@ use Rattle.qs_driver.specs.Faults.{status_line}
 use Rattle.qs_driver.specs.Limits.{input_limit}
 use Rattle.qs_driver.specs.Steps.{on_out, on_log}
 use Rattle.qs_driver.specs.Due.{Due, IsRefusal}
-use Rattle.qs_driver.specs.Devices.{Streams, streams, views_of}
 use Rattle.qs_driver.specs.Files.{IsUntouched, IsTooLong, CannotRead}
 use Rattle.qs_driver.specs.Certified.{certify_words, proof_name}
 use Rattle.qs_driver.specs.Made.{MakeWords, make_words, IsMade, CannotMake, FitsMain, IsOfMade, RefusesMade}
 use Rattle.qs_driver.specs.Bounds.{seen_runs}
 use Rattle.qs_driver.specs.Starting.{RunWords, run_words, input_name, ReadInput, HasInput, IsNoStack, status_at}
-use Rattle.qs_driver.specs.Task.{Task, Answers}
+use Rattle.qs_driver.specs.Task.{Task, Begun}
 use Rattle.qs_driver.specs.declared.commands.exec.ExecOrder.{ExecOrder}
 use Rattle.qs_driver.specs.declared.commands.exec.Started.{Started}
 use Rattle.qs_driver.specs.declared.status.Status.{Status}
@@ -252,16 +250,7 @@ abbrev pub IsFresh : Result Started Status → Type 0
 IsFresh (Ok started) = taken_of started.ready.machine ≡ 0
 IsFresh (Err status) = Unit {0}
 
--- what was started is run, or refused, whatever the store was
-abbrev pub RunsFrom : ExecWords → Result Started Status → Streams → Streams → Status → Type 0
-RunsFrom e started v w result =
-    (before after : StoreView) → Starts e before after started
-    → Answers (exec e) (views_of before v.out v.log) (views_of after w.out w.log) result
-
--- the same of the two streams that are seen by these views, as the code is handed them and as it leaves them
-abbrev pub RunsOn :
-    {O L : Type 0} → (O → SinkView) → (L → SinkView) → (out out' : O) → (log log' : L) → ExecOrder
-    → Result Started Status → Status → Type 0
-RunsOn out_view log_view out out' log log' order started result =
-    RunsFrom (words_in order) started (streams (out_view out) (log_view log))
-    (streams (out_view out') (log_view log')) result
+-- the task, where this came of the work on the files
+abbrev pub begun : ExecOrder → Result Started Status → Begun
+begun order started =
+    record { task = to_do order; Known = λ v w. Starts (words_in order) v w started }

@@ -1,7 +1,6 @@
 -- `run`: an image on a stack of a given size.
 use Rattle.std.specs.Prelude.{◌≡◌, ◌≢◌, ℕ, ◌<◌, List, [], ◌∷◌, length, IsTrue, ltb, eqb, if◌then◌else◌, Option, Some, None, Result, Ok, Err}
 use Rattle.qs_ports.specs.StoreView.{StoreView, Files}
-use Rattle.qs_ports.specs.SinkView.{SinkView}
 use Rattle.qs_image.specs.Image.{Image, IsImage}
 use Rattle.qs_image.specs.Bytes.{image_of}
 use Rattle.qs_image.specs.Faults.{first_fault}
@@ -13,13 +12,12 @@ use Rattle.qs_machine.specs.declared.answers.Cause.{Cause}
 use Rattle.qs_driver.specs.Limits.{image_limit, input_limit}
 use Rattle.qs_report.specs.Lines.{end_line}
 use Rattle.qs_driver.specs.Faults.{status_line}
-use Rattle.qs_driver.specs.Devices.{Streams, streams, views_of}
 use Rattle.qs_driver.specs.Steps.{on_out, on_log}
 use Rattle.qs_driver.specs.Due.{Due, IsRefusal}
 use Rattle.qs_driver.specs.Files.{IsUntouched, HoldsWith, WasReadWith, CannotRead}
 use Rattle.qs_machine.specs.Arguments.{AreArguments, first_misfit, words_of}
 use Rattle.qs_driver.specs.Starting.{RunWords, words_in, names_of, CanRun, HasInput, ReadInput, status_at}
-use Rattle.qs_driver.specs.Task.{Task, Answers}
+use Rattle.qs_driver.specs.Task.{Task, Begun}
 use Rattle.qs_driver.specs.declared.starting.RunOrder.{RunOrder}
 use Rattle.qs_driver.specs.declared.starting.Ready.{Ready}
 use Rattle.qs_driver.specs.declared.status.Status.{Status}
@@ -236,16 +234,7 @@ abbrev pub IsFresh : Result Ready Status → Type 0
 IsFresh (Ok ready) = taken_of ready.machine ≡ 0
 IsFresh (Err status) = Unit {0}
 
--- what was prepared is run, or refused, whatever the store was
-abbrev pub RunsFrom : RunWords → Result Ready Status → Streams → Streams → Status → Type 0
-RunsFrom r prepared v w result =
-    (before after : StoreView) → Prepares r before after prepared
-    → Answers (run r) (views_of before v.out v.log) (views_of after w.out w.log) result
-
--- the same of the two streams that are seen by these views, as the code is handed them and as it leaves them
-abbrev pub RunsOn :
-    {O L : Type 0} → (O → SinkView) → (L → SinkView) → (out out' : O) → (log log' : L) → RunOrder
-    → Result Ready Status → Status → Type 0
-RunsOn out_view log_view out out' log log' order prepared result =
-    RunsFrom (words_in order) prepared (streams (out_view out) (log_view log))
-    (streams (out_view out') (log_view log')) result
+-- the task, where this came of the work on the files
+abbrev pub begun : RunOrder → Result Ready Status → Begun
+begun order prepared =
+    record { task = to_do order; Known = λ v w. Prepares (words_in order) v w prepared }

@@ -2,7 +2,7 @@
 ghost use Rattle.std.specs.Prelude.{◌≡◌};
 ghost use Rattle.qs_ports.specs.SinkView.{PutsOn};
 ghost use Rattle.qs_driver.specs.Certified as meant;
-ghost use Rattle.qs_driver.specs.Due.{Writes};
+ghost use Rattle.qs_driver.specs.Due.{IsWrittenOn};
 ghost use Rattle.qs_driver.specs.Names.{names_in};
 ghost use Rattle.qs_driver.specs.Task.{AnswersOn};
 ghost use Rattle.qs_driver.specs.commands.Bound.{bounded_lines, due_to, names_of, to_do, to_make};
@@ -10,7 +10,7 @@ ghost use Rattle.qs_driver.specs.commands.Bound.{words_in};
 
 use crate::Status;
 use crate::certified::CertifyOrder;
-use crate::devices::Devices;
+use crate::devices::{Devices, Streams};
 use crate::due::{refuse, status_after};
 use crate::faults::shown_of;
 use crate::lines::put_costs;
@@ -63,14 +63,16 @@ fn put_bounded<O: Sink>(out: &mut O, image: &Image, bound: Amount) -> Result<(),
 fn report<O: Sink, L: Sink>(
     work: Result<Made, Status>,
     order: &BoundOrder<'_>,
-    out: &mut O,
-    log: &mut L,
+    streams: Streams<'_, O, L>,
 ) -> Status
-    ensures { Writes O.view L.view out.old out.new log.old log.new (due_to order.now work) result }
+    ensures { IsWrittenOn O.view L.view streams.entry streams.exit (due_to order.now work) result }
 {
     match work {
-        Ok(made) => status_after(put_bounded(out, &made.image, made.bound), Status::Done),
-        Err(status) => refuse(log, &names_of(order), status),
+        Ok(made) => status_after(
+            put_bounded(streams.0, &made.image, made.bound),
+            Status::Done,
+        ),
+        Err(status) => refuse(streams.1, &names_of(order), status),
     }
 }
 
@@ -84,5 +86,5 @@ pub fn bound<S: Store, O: Sink, L: Sink>(
 {
     let Devices { store, out, log } = devices;
     let work = make(alloc, store, &inputs_of(order), order.args);
-    report(work, order, out, log)
+    report(work, order, (out, log))
 }

@@ -1,14 +1,14 @@
 // `build`: from the source and its proof file in the store to the image in the store.
 ghost use Rattle.std.specs.Prelude.{◌≡◌, ◌≢◌, Some, false, true};
 ghost use Rattle.qs_driver.specs.Certified as meant;
-ghost use Rattle.qs_driver.specs.Due.{Writes};
+ghost use Rattle.qs_driver.specs.Due.{IsWrittenOn};
 ghost use Rattle.qs_driver.specs.Names.{names_in};
 ghost use Rattle.qs_driver.specs.Task.{AnswersOn};
 ghost use Rattle.qs_driver.specs.commands.Build.{due_to, inputs, names_of, to_do, words_in, Builds};
 ghost use Rattle.qs_driver.specs.commands.Build.{NamesDiffer, NamesOneTwice};
 
 use crate::certified::{CertifyOrder, read_certified};
-use crate::devices::Devices;
+use crate::devices::{Devices, Streams};
 use crate::due::{refuse, status_after};
 use crate::lines::put_costs;
 use crate::names::{FileNames, nameless};
@@ -90,14 +90,13 @@ fn build_file<S: Store>(
 fn report<O: Sink, L: Sink>(
     work: Result<Image, Status>,
     order: &BuildOrder<'_>,
-    out: &mut O,
-    log: &mut L,
+    streams: Streams<'_, O, L>,
 ) -> Status
-    ensures { Writes O.view L.view out.old out.new log.old log.new (due_to order.now work) result }
+    ensures { IsWrittenOn O.view L.view streams.entry streams.exit (due_to order.now work) result }
 {
     match work {
-        Ok(image) => status_after(put_costs(out, &image.functions), Status::Done),
-        Err(status) => refuse(log, &names_of(order), status),
+        Ok(image) => status_after(put_costs(streams.0, &image.functions), Status::Done),
+        Err(status) => refuse(streams.1, &names_of(order), status),
     }
 }
 
@@ -110,5 +109,5 @@ pub fn build<S: Store, O: Sink, L: Sink>(
     ensures { AnswersOn S.view O.view L.view devices.entry devices.exit (to_do order.now) result }
 {
     let Devices { store, out, log } = devices;
-    report(build_file(alloc, order, store), order, out, log)
+    report(build_file(alloc, order, store), order, (out, log))
 }

@@ -52,5 +52,5 @@ pub fn check<S: Store, O: Sink, L: Sink>(
 {
     let Devices { store, out, log } = devices;
     let work = check_entries(alloc, order, store);
-    report_count(work, &names_of(order), out, log)
+    report_count(work, &names_of(order), (out, log))
 }

@@ -71,5 +71,5 @@ pub fn derive<S: Store, O: Sink, L: Sink>(
 {
     let Devices { store, out, log } = devices;
     let work = derive_proofs(alloc, order, store);
-    report_count(work, &names_of(order), out, log)
+    report_count(work, &names_of(order), (out, log))
 }

@@ -4,13 +4,13 @@ ghost use Rattle.qs_machine.specs.Standing.{taken_of};
 ghost use Rattle.qs_driver.specs.Certified as meant;
 ghost use Rattle.qs_driver.specs.Names.{names_in};
 ghost use Rattle.qs_driver.specs.Starting as run_meant;
-ghost use Rattle.qs_driver.specs.Task.{AnswersOn};
-ghost use Rattle.qs_driver.specs.commands.Exec.{as_run, names_of, to_do, to_make, words_in};
-ghost use Rattle.qs_driver.specs.commands.Exec.{IsFresh, RunsOn, Starts};
+ghost use Rattle.qs_driver.specs.Task.{AnswersOn, RunsOn};
+ghost use Rattle.qs_driver.specs.commands.Exec.{as_run, begun, names_of, to_do, to_make};
+ghost use Rattle.qs_driver.specs.commands.Exec.{words_in, IsFresh, Starts};
 
 use crate::Status;
 use crate::certified::CertifyOrder;
-use crate::devices::Devices;
+use crate::devices::{Devices, Streams};
 use crate::due::refuse;
 use crate::laws::consists_of_bytes;
 use crate::made::make;
@@ -94,20 +94,19 @@ fn start_source<S: Store>(
 
 // Puts the bound, runs what was started, and puts the line at its end.
 fn run_started<O: Sink, L: Sink>(
-    started: Started,
+    start: Started,
     order: &ExecOrder<'_>,
-    out: &mut O,
-    log: &mut L,
+    streams: Streams<'_, O, L>,
 ) -> Status
-    requires { taken_of started.ready.machine ≡ 0 }
-    ensures { RunsOn O.view L.view out.old out.new log.old log.new order.now (Ok started) result }
+    requires { taken_of start.ready.machine ≡ 0 }
+    ensures { RunsOn O.view L.view streams.entry streams.exit (begun order.now (Ok start)) result }
 {
-    let stack = started.stack;
-    match put_bound(log, Shown::Number(u128::from(stack))) {
+    let stack = start.stack;
+    match put_bound(streams.1, Shown::Number(u128::from(stack))) {
         Ok(()) => {
-            let mut ready = started.ready;
-            let end = ready.machine.run(order.steps, &ready.input, out);
-            finish(end, &run_order(order, stack), log)
+            let mut ready = start.ready;
+            let end = ready.machine.run(order.steps, &ready.input, streams.0);
+            finish(end, &run_order(order, stack), streams.1)
         }
         Err(_) => Status::SinkFailed,
     }
@@ -117,15 +116,14 @@ fn run_started<O: Sink, L: Sink>(
 fn run_or_refuse<O: Sink, L: Sink>(
     started: Result<Started, Status>,
     order: &ExecOrder<'_>,
-    out: &mut O,
-    log: &mut L,
+    streams: Streams<'_, O, L>,
 ) -> Status
     requires { IsFresh started }
-    ensures { RunsOn O.view L.view out.old out.new log.old log.new order.now started result }
+    ensures { RunsOn O.view L.view streams.entry streams.exit (begun order.now started) result }
 {
     match started {
-        Ok(started) => run_started(started, order, out, log),
-        Err(status) => refuse(log, &names_of(order), status),
+        Ok(started) => run_started(started, order, streams),
+        Err(status) => refuse(streams.1, &names_of(order), status),
     }
 }
 
@@ -139,5 +137,5 @@ pub fn exec<S: Store, O: Sink, L: Sink>(
     ensures { AnswersOn S.view O.view L.view devices.entry devices.exit (to_do order.now) result }
 {
     let Devices { store, out, log } = devices;
-    run_or_refuse(start_source(alloc, order, store), order, out, log)
+    run_or_refuse(start_source(alloc, order, store), order, (out, log))
 }

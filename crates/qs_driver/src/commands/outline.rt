@@ -1,12 +1,12 @@
 // `outline`: from the source in the store to the outline of its core on standard output.
 ghost use Rattle.std.specs.Prelude.{◌≡◌};
-ghost use Rattle.qs_driver.specs.Due.{Writes};
+ghost use Rattle.qs_driver.specs.Due.{IsWrittenOn};
 ghost use Rattle.qs_driver.specs.Names.{names_in};
 ghost use Rattle.qs_driver.specs.Task.{AnswersOn};
 ghost use Rattle.qs_driver.specs.commands.Outline.{due_to, names_of, to_do, words_in, Outlines};
 
 use crate::Status;
-use crate::devices::Devices;
+use crate::devices::{Devices, Streams};
 use crate::due::{refuse, status_after};
 use crate::names::{FileNames, nameless};
 use crate::source::read_unit;
@@ -49,14 +49,13 @@ fn outline_text<S: Store>(
 fn report<O: Sink, L: Sink>(
     work: Result<Vec<u8>, Status>,
     order: &OutlineOrder<'_>,
-    out: &mut O,
-    log: &mut L,
+    streams: Streams<'_, O, L>,
 ) -> Status
-    ensures { Writes O.view L.view out.old out.new log.old log.new (due_to order.now work) result }
+    ensures { IsWrittenOn O.view L.view streams.entry streams.exit (due_to order.now work) result }
 {
     match work {
-        Ok(text) => status_after(put_all(out, &text), Status::Done),
-        Err(status) => refuse(log, &names_of(order), status),
+        Ok(text) => status_after(put_all(streams.0, &text), Status::Done),
+        Err(status) => refuse(streams.1, &names_of(order), status),
     }
 }
 
@@ -69,5 +68,5 @@ pub fn outline<S: Store, O: Sink, L: Sink>(
     ensures { AnswersOn S.view O.view L.view devices.entry devices.exit (to_do order.now) result }
 {
     let Devices { store, out, log } = devices;
-    report(outline_text(alloc, order, store), order, out, log)
+    report(outline_text(alloc, order, store), order, (out, log))
 }

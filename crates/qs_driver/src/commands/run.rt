@@ -1,9 +1,9 @@
 // `run`: an image on a stack of a given size.
 ghost use Rattle.qs_driver.specs.Starting.{words_in};
-ghost use Rattle.qs_driver.specs.Task.{AnswersOn};
-ghost use Rattle.qs_driver.specs.commands.Run.{to_do, IsFresh, Prepares, RunsOn};
+ghost use Rattle.qs_driver.specs.Task.{AnswersOn, RunsOn};
+ghost use Rattle.qs_driver.specs.commands.Run.{begun, to_do, IsFresh, Prepares};
 
-use crate::devices::Devices;
+use crate::devices::{Devices, Streams};
 use crate::due::refuse;
 use crate::files::read_file;
 use crate::limits::IMAGE_LIMIT;
@@ -26,19 +26,18 @@ fn prepare<S: Store>(alloc: Global, order: &RunOrder<'_>, store: &mut S) -> Resu
 fn run_ready<O: Sink, L: Sink>(
     prepared: Result<Ready, Status>,
     order: &RunOrder<'_>,
-    out: &mut O,
-    log: &mut L,
+    streams: Streams<'_, O, L>,
 ) -> Status
     requires { IsFresh prepared }
-    ensures { RunsOn O.view L.view out.old out.new log.old log.new order.now prepared result }
+    ensures { RunsOn O.view L.view streams.entry streams.exit (begun order.now prepared) result }
 {
     match prepared {
         Ok(ready) => {
             let mut ready = ready;
-            let end = ready.machine.run(order.steps, &ready.input, out);
-            finish(end, order, log)
+            let end = ready.machine.run(order.steps, &ready.input, streams.0);
+            finish(end, order, streams.1)
         }
-        Err(status) => refuse(log, &names_of(order), status),
+        Err(status) => refuse(streams.1, &names_of(order), status),
     }
 }
 
@@ -51,5 +50,5 @@ pub fn run<S: Store, O: Sink, L: Sink>(
     ensures { AnswersOn S.view O.view L.view devices.entry devices.exit (to_do order.now) result }
 {
     let Devices { store, out, log } = devices;
-    run_ready(prepare(alloc, order, store), order, out, log)
+    run_ready(prepare(alloc, order, store), order, (out, log))
 }

@@ -3,7 +3,7 @@
 ghost use Rattle.std.specs.Prelude.{◌≡◌, List, length, ℕ};
 ghost use Rattle.qs_ports.specs.SinkView.{PutsOn};
 ghost use Rattle.qs_machine.specs.Standing.{taken_of};
-ghost use Rattle.qs_driver.specs.Due.{Writes};
+ghost use Rattle.qs_driver.specs.Due.{IsWrittenOn};
 ghost use Rattle.qs_driver.specs.Names.{name_in, names_in};
 ghost use Rattle.qs_driver.specs.Task.{AnswersOn};
 ghost use Rattle.qs_driver.specs.SampleLaws.{IsSampleCount};
@@ -14,7 +14,7 @@ ghost use Rattle.qs_driver.specs.commands.Sample.{words_in, RunsCounted, Samples
 ghost use Rattle.qs_driver.specs.commands.Sample.{WritesText};
 
 use crate::certified::certify_typed;
-use crate::devices::Devices;
+use crate::devices::{Devices, Streams};
 use crate::due::{refuse, status_after};
 use crate::kept_output::KeptOutput;
 use crate::limits::SOURCE_LIMIT;
@@ -177,14 +177,13 @@ fn put_counted<O: Sink>(out: &mut O, end: SampleEnd) -> Result<(), SinkFault>
 fn report<O: Sink, L: Sink>(
     work: Result<SampleEnd, Status>,
     order: &SampleOrder<'_>,
-    out: &mut O,
-    log: &mut L,
+    streams: Streams<'_, O, L>,
 ) -> Status
-    ensures { Writes O.view L.view out.old out.new log.old log.new (due_to order.now work) result }
+    ensures { IsWrittenOn O.view L.view streams.entry streams.exit (due_to order.now work) result }
 {
     match work {
-        Ok(end) => status_after(put_counted(out, end), Status::Done),
-        Err(status) => refuse(log, &names_of(order), status),
+        Ok(end) => status_after(put_counted(streams.0, end), Status::Done),
+        Err(status) => refuse(streams.1, &names_of(order), status),
     }
 }
 
@@ -199,5 +198,5 @@ pub fn sample<S: Store, O: Sink, L: Sink>(
     ensures { AnswersOn S.view O.view L.view devices.entry devices.exit (to_do order.now) result }
 {
     let Devices { store, out, log } = devices;
-    report(run_sample(alloc, order, store), order, out, log)
+    report(run_sample(alloc, order, store), order, (out, log))
 }

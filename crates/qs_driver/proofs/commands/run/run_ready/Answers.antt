@@ -19,7 +19,7 @@ returns-in-Ok g c = λ s s' prepared.
     let r = words_in c.args.order.now in
     let h : IsReady r s s' c.in-Ok.ready = rw c.in-Ok.is at prepared in
     let runs = rw c.deref.ensures.value at c.run-end.ensures.runs in
-    let shown = shows_machine c.run-end.new.self h.image r.stack (words_of r.args) c.in-Ok.ready.input.items r.steps (g.O.Sink.view c.args.out.now) (g.O.Sink.view c.run-end.new.out) c.run-end.result (runs h.image r.stack (start h.image (words_of r.args) c.in-Ok.ready.input.items) h.stands) in
+    let shown = shows_machine c.run-end.new.self h.image r.stack (words_of r.args) c.in-Ok.ready.input.items r.steps (g.O.Sink.view c.args.streams.0.now) (g.O.Sink.view c.run-end.new.out) c.run-end.result (runs h.image r.stack (start h.image (words_of r.args) c.in-Ok.ready.input.items) h.stands) in
     run_answers r s s' _ _ _ _ c.in-Ok.ready c.run-end.result c.finish.result h shown c.finish.ensures
 
 pub returns-in-Err : goal.returns-in-Err

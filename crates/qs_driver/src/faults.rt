@@ -3,7 +3,7 @@ ghost use Rattle.std.specs.Prelude.{◌≡◌};
 ghost use Rattle.qs_ports.specs.SinkView.{PutsOn};
 ghost use Rattle.qs_driver.specs.Faults.{image_text, lex_text, line_of, named_line};
 ghost use Rattle.qs_driver.specs.Faults.{placed_text, pos_of, proof_file_text, shown_of};
-ghost use Rattle.qs_driver.specs.Faults.{syntax_text, trap_text, typing_text, unexpected_text};
+ghost use Rattle.qs_driver.specs.Faults.{syntax_text, typing_text, unexpected_text};
 
 use crate::names::{FileNames, file_name};
 use crate::{ProofFault, SourceFault, Status, TokenPlace, WordsFault};
@@ -11,13 +11,12 @@ use qs_assert::Amount;
 use qs_base::Pos;
 use qs_image::ImageFault;
 use qs_lexer::LexFault;
-use qs_machine::Cause;
 use qs_parser::SyntaxFault;
 use qs_ports::{Sink, SinkFault};
 use qs_prooftext::TextFault;
 use qs_report::{
-    FaultText, ImageText, LexText, ProofFileText, Shown, TrapText, put_arg_count, put_arg_range,
-    put_cycle, put_fault, put_proof_fault,
+    FaultText, ImageText, LexText, ProofFileText, Shown, put_arg_count, put_arg_range, put_cycle,
+    put_fault, put_proof_fault,
 };
 use qs_typing::TypeFault;
 
@@ -32,23 +31,6 @@ fn image_text(fault: ImageFault) -> FaultText
         ImageFault::Entry => FaultText::Image(ImageText::Entry),
         ImageFault::Cost(record) => FaultText::Image(ImageText::Cost(record)),
         ImageFault::Names => FaultText::Image(ImageText::Names),
-    }
-}
-
-fn trap_text(cause: Cause, pc: u32) -> FaultText
-    ensures { result ≡ trap_text cause pc }
-{
-    match cause {
-        Cause::Overflow => FaultText::Trapped(TrapText::Overflow, pc),
-        Cause::IllegalInstruction => FaultText::Trapped(TrapText::Illegal, pc),
-        Cause::FetchOutside => FaultText::Trapped(TrapText::Fetch, pc),
-        Cause::JumpMisaligned => FaultText::Trapped(TrapText::Jump, pc),
-        Cause::LoadMisaligned => FaultText::Trapped(TrapText::LoadMisaligned, pc),
-        Cause::LoadOutside => FaultText::Trapped(TrapText::Load, pc),
-        Cause::StoreMisaligned => FaultText::Trapped(TrapText::StoreMisaligned, pc),
-        Cause::StoreOutside => FaultText::Trapped(TrapText::Store, pc),
-        Cause::UnknownCall => FaultText::Trapped(TrapText::Call, pc),
-        Cause::Breakpoint => FaultText::Trapped(TrapText::Break, pc),
     }
 }
 
@@ -226,7 +208,7 @@ pub fn put_status<K: Sink>(
         Status::Missing(kind) => put_text(log, file_name(names, *kind), FaultText::Missing),
         Status::StoreFailed(kind) => put_text(log, file_name(names, *kind), FaultText::Failed),
         Status::Image(fault) => put_text(log, names.image, image_text(*fault)),
-        Status::Trapped { cause, pc } => put_text(log, "", trap_text(*cause, *pc)),
+        Status::Trapped { cause, pc } => put_text(log, "", FaultText::Trapped(*cause, *pc)),
         Status::StepLimit(steps) => put_text(log, "", FaultText::StepLimit(*steps)),
         Status::NoBound(bound) => put_text(log, "", FaultText::NoBound(shown_of(*bound))),
         Status::StackTooLarge(size) => put_text(log, "", FaultText::StackTooLarge(*size)),

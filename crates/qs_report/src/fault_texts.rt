@@ -1,6 +1,7 @@
 // What the lines tell.
 use qs_base::{Name, Pos};
 use qs_entail::Limit;
+use qs_machine::Cause;
 use qs_types::{LimitKind, Rule};
 
 /// A bound on the stack.
@@ -117,31 +118,6 @@ pub enum ImageText {
     Names,
 }
 
-/// Why a step of a program is not taken.
-#[derive(Clone, Copy, Debug, PartialEq, Eq)]
-pub enum TrapText {
-    /// The stack pointer would leave the stack.
-    Overflow,
-    /// The word at the pc is no instruction.
-    Illegal,
-    /// The pc is outside the code.
-    Fetch,
-    /// The address of a jump is misaligned.
-    Jump,
-    /// The address of a load is misaligned.
-    LoadMisaligned,
-    /// A load is outside of what can be read.
-    Load,
-    /// The address of a store is misaligned.
-    StoreMisaligned,
-    /// A store is outside of what can be written.
-    Store,
-    /// A call of the environment is none that there is.
-    Call,
-    /// The instruction is a break.
-    Break,
-}
-
 /// A fault, as its line tells it.
 #[derive(Debug, Drop)]
 pub enum FaultText {
@@ -186,7 +162,7 @@ pub enum FaultText {
     /// The bytes of the image are wrong.
     Image(ImageText),
     /// A step was not taken, for this cause; the pc is that of the instruction.
-    Trapped(TrapText, u32),
+    Trapped(Cause, u32),
     /// The program goes on after so many steps.
     StepLimit(u64),
     /// There is no stack for this bound.

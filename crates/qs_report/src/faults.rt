@@ -9,10 +9,11 @@ use crate::derivation_faults::{put_cycle, put_proof_fault};
 use crate::parts::{put_between, put_number, put_pair, put_parts, put_two};
 use crate::results::put_shown;
 use crate::words::{lex_word, limit_word, proof_file_word, trap_word};
-use crate::{FaultText, ImageText, TrapText};
+use crate::{FaultText, ImageText};
 use hex::encode_to_slice;
 use itoa::Buffer;
 use qs_base::Pos;
+use qs_machine::Cause;
 use qs_ports::{Sink, SinkFault};
 use qs_types::Rule;
 
@@ -98,7 +99,7 @@ fn put_image<K: Sink>(log: &mut K, file: &[u8], fault: ImageText) -> Result<(), 
     }
 }
 
-fn put_trap<K: Sink>(log: &mut K, cause: TrapText, pc: u32) -> Result<(), SinkFault>
+fn put_trap<K: Sink>(log: &mut K, cause: Cause, pc: u32) -> Result<(), SinkFault>
     ensures { PutsOn K.view log.old log.new (trap_line cause pc) result }
 {
     let mut digits = [0; 8];

@@ -5,8 +5,6 @@ use Rattle.qs_lexer.specs.declared.fault.LexFault.{LexFault}
 use Rattle.qs_lexer.specs.declared.fault.LexFault.TheVariants as lexical
 use Rattle.qs_parser.specs.declared.syntax_fault.SyntaxFault.{SyntaxFault}
 use Rattle.qs_parser.specs.declared.syntax_fault.SyntaxFault.TheVariants as syntax
-use Rattle.qs_image.specs.declared.fault.ImageFault.{ImageFault}
-use Rattle.qs_image.specs.declared.fault.ImageFault.TheVariants as fault
 use Rattle.qs_typing.specs.declared.checking.TypeFault.{TypeFault}
 use Rattle.qs_typing.specs.declared.checking.TypeFault.TheVariants as typing
 use Rattle.qs_assert.specs.declared.define.Amount.{Amount}
@@ -16,7 +14,6 @@ use Rattle.qs_prooftext.specs.declared.fault.TextFault.TheVariants as proof_file
 use Rattle.qs_report.specs.Lines as lines
 use Rattle.qs_report.specs.declared.fault_texts.FaultText.{FaultText}
 use Rattle.qs_report.specs.declared.fault_texts.FaultText.TheVariants as texts
-use Rattle.qs_report.specs.declared.fault_texts.ImageText.TheVariants as image_texts
 use Rattle.qs_report.specs.declared.fault_texts.LexText.TheVariants as lex_texts
 use Rattle.qs_report.specs.declared.fault_texts.ProofFileText.TheVariants as proof_file_texts
 use Rattle.qs_report.specs.declared.fault_texts.Shown.{Shown}
@@ -30,16 +27,6 @@ use Rattle.qs_driver.specs.declared.status.ProofFault.TheVariants.{Text, Cycle, 
 use Rattle.qs_driver.specs.declared.status.TokenPlace.{TokenPlace}
 use Rattle.qs_driver.specs.declared.status.TokenPlace.TheVariants.{At, End}
 use Rattle.qs_driver.specs.declared.status.WordsFault.TheVariants.{Usage, SameName, ArgCount, ArgRange}
-
--- what is wrong with an image
-abbrev pub image_text : ImageFault → FaultText
-image_text fault.Short = texts.Image image_texts.Short
-image_text fault.Magic = texts.Image image_texts.Magic
-image_text (fault.Count word) = texts.Image (image_texts.Count word)
-image_text fault.Trailing = texts.Image image_texts.Trailing
-image_text fault.Entry = texts.Image image_texts.Entry
-image_text (fault.Cost i) = texts.Image (image_texts.Cost i)
-image_text fault.Names = texts.Image image_texts.Names
 
 -- what is wrong with the bytes of a source
 abbrev pub lex_text : LexFault → Pos → FaultText
@@ -118,7 +105,7 @@ status_line names (Words (ArgCount expected given)) = named_line [] (texts.ArgCo
 status_line names (Words (ArgRange i)) = named_line [] (texts.ArgRange i)
 status_line names (Missing kind) = named_line (file_name names kind) texts.Missing
 status_line names (StoreFailed kind) = named_line (file_name names kind) texts.Failed
-status_line names (Image f) = named_line names.image (image_text f)
+status_line names (Image fault) = named_line names.image (texts.Image fault)
 status_line names (Trapped cause pc) = named_line [] (texts.Trapped cause pc)
 status_line names (StepLimit steps) = named_line [] (texts.StepLimit steps)
 status_line names (NoBound bound) = named_line [] (texts.NoBound (shown_of bound))

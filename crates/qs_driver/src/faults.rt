@@ -1,7 +1,7 @@
 // The line that tells a status. Nothing here takes memory.
 ghost use Rattle.std.specs.Prelude.{◌≡◌};
 ghost use Rattle.qs_ports.specs.SinkView.{PutsOn};
-ghost use Rattle.qs_driver.specs.Faults.{image_text, lex_text, line_of, named_line};
+ghost use Rattle.qs_driver.specs.Faults.{lex_text, line_of, named_line};
 ghost use Rattle.qs_driver.specs.Faults.{placed_text, pos_of, proof_file_text, shown_of};
 ghost use Rattle.qs_driver.specs.Faults.{syntax_text, typing_text, unexpected_text};
 
@@ -9,30 +9,15 @@ use crate::names::{FileNames, file_name};
 use crate::{ProofFault, SourceFault, Status, TokenPlace, WordsFault};
 use qs_assert::Amount;
 use qs_base::Pos;
-use qs_image::ImageFault;
 use qs_lexer::LexFault;
 use qs_parser::SyntaxFault;
 use qs_ports::{Sink, SinkFault};
 use qs_prooftext::TextFault;
 use qs_report::{
-    FaultText, ImageText, LexText, ProofFileText, Shown, put_arg_count, put_arg_range, put_cycle,
-    put_fault, put_proof_fault,
+    FaultText, LexText, ProofFileText, Shown, put_arg_count, put_arg_range, put_cycle, put_fault,
+    put_proof_fault,
 };
 use qs_typing::TypeFault;
-
-fn image_text(fault: ImageFault) -> FaultText
-    ensures { result ≡ image_text fault }
-{
-    match fault {
-        ImageFault::Short => FaultText::Image(ImageText::Short),
-        ImageFault::Magic => FaultText::Image(ImageText::Magic),
-        ImageFault::Count(word) => FaultText::Image(ImageText::Count(word)),
-        ImageFault::Trailing => FaultText::Image(ImageText::Trailing),
-        ImageFault::Entry => FaultText::Image(ImageText::Entry),
-        ImageFault::Cost(record) => FaultText::Image(ImageText::Cost(record)),
-        ImageFault::Names => FaultText::Image(ImageText::Names),
-    }
-}
 
 fn lex_text(fault: LexFault, pos: Pos) -> FaultText
     ensures { result ≡ lex_text fault pos }
@@ -207,7 +192,7 @@ pub fn put_status<K: Sink>(
         Status::Words(fault) => put_words_fault(log, names, *fault),
         Status::Missing(kind) => put_text(log, file_name(names, *kind), FaultText::Missing),
         Status::StoreFailed(kind) => put_text(log, file_name(names, *kind), FaultText::Failed),
-        Status::Image(fault) => put_text(log, names.image, image_text(*fault)),
+        Status::Image(fault) => put_text(log, names.image, FaultText::Image(*fault)),
         Status::Trapped { cause, pc } => put_text(log, "", FaultText::Trapped(*cause, *pc)),
         Status::StepLimit(steps) => put_text(log, "", FaultText::StepLimit(*steps)),
         Status::NoBound(bound) => put_text(log, "", FaultText::NoBound(shown_of(*bound))),

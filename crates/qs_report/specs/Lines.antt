@@ -1,6 +1,7 @@
 -- The lines that the tool prints, a row for each. docs/TOOL.md has those that it prints today.
 use Rattle.std.specs.Prelude.{ℕ, List, [], ◌∷◌, ◌++◌, Result, codes, decimal, flat_map}
 use Rattle.qs_base.specs.declared.places.Pos.{Pos}
+use Rattle.qs_image.specs.declared.fault.ImageFault.{ImageFault}
 use Rattle.qs_machine.specs.declared.answers.Cause.{Cause}
 use Rattle.qs_ports.specs.SinkView.{SinkView, PutsOn}
 use Rattle.qs_ports.specs.declared.sink.SinkFault.{SinkFault}
@@ -8,7 +9,6 @@ use Rattle.qs_report.specs.Words.{lex_word, proof_file_word, image_text, trap_wo
 use Rattle.qs_report.specs.declared.fault_texts.Shown.{Shown}
 use Rattle.qs_report.specs.declared.fault_texts.Count.{Count}
 use Rattle.qs_report.specs.declared.fault_texts.Count.TheVariants.{Checked, Derived, Functions, Output}
-use Rattle.qs_report.specs.declared.fault_texts.ImageText.{ImageText}
 use Rattle.qs_report.specs.declared.fault_texts.ProofText.{ProofText}
 use Rattle.qs_report.specs.declared.fault_texts.Spot.{Spot}
 use Rattle.qs_report.specs.declared.fault_texts.FaultText.{FaultText}
@@ -88,7 +88,7 @@ arguments_line expected given = pair_line (codes "arguments: expected ") expecte
 abbrev pub argument_line : ℕ → List ℕ
 argument_line argument = between_line (codes "argument ") argument (codes " out of range")
 
-abbrev pub image_line : List ℕ → ImageText → List ℕ
+abbrev pub image_line : List ℕ → ImageFault → List ℕ
 image_line file fault = line (file ∷ codes ": image " ∷ image_text fault ∷ [])
 
 -- the same where a number ends it

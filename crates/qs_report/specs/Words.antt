@@ -2,6 +2,8 @@
 use Rattle.std.specs.Prelude.{ℕ, List, [], ◌∷◌, ◌++◌, codes, decimal, flat_map}
 use Rattle.std.specs.Int.{w32, to_be_bytes}
 use Rattle.hex.specs.Hex.{encode_lower}
+use Rattle.qs_image.specs.declared.fault.ImageFault.{ImageFault}
+use Rattle.qs_image.specs.declared.fault.ImageFault.TheVariants as image
 use Rattle.qs_machine.specs.declared.answers.Cause.{Cause}
 use Rattle.qs_machine.specs.declared.answers.Cause.TheVariants as cause
 use Rattle.qs_types.specs.Rules.{rule_number}
@@ -16,8 +18,6 @@ use Rattle.qs_report.specs.declared.fault_texts.LexText.{LexText}
 use Rattle.qs_report.specs.declared.fault_texts.LexText.TheVariants as lexical
 use Rattle.qs_report.specs.declared.fault_texts.ProofFileText.{ProofFileText}
 use Rattle.qs_report.specs.declared.fault_texts.ProofFileText.TheVariants as proof_file
-use Rattle.qs_report.specs.declared.fault_texts.ImageText.{ImageText}
-use Rattle.qs_report.specs.declared.fault_texts.ImageText.TheVariants as image
 use Rattle.qs_report.specs.declared.fault_texts.Path.{Path}
 use Rattle.qs_report.specs.declared.fault_texts.Spot.{Spot}
 use Rattle.qs_report.specs.declared.fault_texts.Spot.TheVariants.{Pre, Post, Entry, Body, BodyCert}
@@ -44,7 +44,7 @@ proof_file_word proof_file.Duplicate = codes "duplicate"
 proof_file_word proof_file.NoSuchFunction = codes "no such function"
 
 -- what is wrong with the bytes of an image; a count has the number of its word, a cost that of its record
-abbrev pub image_text : ImageText → List ℕ
+abbrev pub image_text : ImageFault → List ℕ
 image_text image.Short = codes "short"
 image_text image.Magic = codes "magic"
 image_text (image.Count number) = codes "count " ++ decimal number

@@ -1,6 +1,7 @@
 // What the lines tell.
 use qs_base::{Name, Pos};
 use qs_entail::Limit;
+use qs_image::ImageFault;
 use qs_machine::Cause;
 use qs_types::{LimitKind, Rule};
 
@@ -99,25 +100,6 @@ pub enum ProofFileText {
     NoSuchFunction,
 }
 
-/// What is wrong with the bytes of an image.
-#[derive(Clone, Copy, Debug, PartialEq, Eq)]
-pub enum ImageText {
-    /// There are too few bytes.
-    Short,
-    /// The first bytes are not those of an image.
-    Magic,
-    /// The word of this number is out of its range.
-    Count(u32),
-    /// There are too many bytes.
-    Trailing,
-    /// An address is that of no instruction.
-    Entry,
-    /// The cost of the record of this number, from 0, is no cost.
-    Cost(u32),
-    /// The names of the functions are wrong.
-    Names,
-}
-
 /// A fault, as its line tells it.
 #[derive(Debug, Drop)]
 pub enum FaultText {
@@ -160,7 +142,7 @@ pub enum FaultText {
     /// The argument of this number, from 0, is no value of its type.
     ArgRange(u32),
     /// The bytes of the image are wrong.
-    Image(ImageText),
+    Image(ImageFault),
     /// A step was not taken, for this cause; the pc is that of the instruction.
     Trapped(Cause, u32),
     /// The program goes on after so many steps.

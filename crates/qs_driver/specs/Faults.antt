@@ -1,6 +1,7 @@
 -- The line that tells a status.
 use Rattle.std.specs.Prelude.{ℕ, List, [], Option, Some, None}
 use Rattle.qs_base.specs.declared.places.Pos.{Pos}
+use Rattle.qs_lexer.specs.declared.fault.FaultKind.TheVariants as kinds
 use Rattle.qs_lexer.specs.declared.fault.LexFault.{LexFault}
 use Rattle.qs_lexer.specs.declared.fault.LexFault.TheVariants as lexical
 use Rattle.qs_parser.specs.declared.syntax_fault.SyntaxFault.{SyntaxFault}
@@ -14,7 +15,6 @@ use Rattle.qs_prooftext.specs.declared.fault.TextFault.TheVariants as proof_file
 use Rattle.qs_report.specs.Lines as lines
 use Rattle.qs_report.specs.declared.fault_texts.FaultText.{FaultText}
 use Rattle.qs_report.specs.declared.fault_texts.FaultText.TheVariants as texts
-use Rattle.qs_report.specs.declared.fault_texts.LexText.TheVariants as lex_texts
 use Rattle.qs_report.specs.declared.fault_texts.ProofFileText.TheVariants as proof_file_texts
 use Rattle.qs_report.specs.declared.fault_texts.Shown.{Shown}
 use Rattle.qs_report.specs.declared.fault_texts.Shown.TheVariants as shown
@@ -31,12 +31,12 @@ use Rattle.qs_driver.specs.declared.status.WordsFault.TheVariants.{Usage, SameNa
 -- what is wrong with the bytes of a source
 abbrev pub lex_text : LexFault → Pos → FaultText
 lex_text lexical.NoMemory pos = texts.NoMemory
-lex_text (lexical.BadByte at) pos = texts.Lex pos lex_texts.BadByte
-lex_text (lexical.OpenComment at) pos = texts.Lex pos lex_texts.OpenComment
-lex_text (lexical.BadLiteral at) pos = texts.Lex pos lex_texts.BadLiteral
-lex_text (lexical.WideLiteral at) pos = texts.Lex pos lex_texts.WideLiteral
-lex_text (lexical.Directive at) pos = texts.Lex pos lex_texts.Directive
-lex_text (lexical.OpenText at) pos = texts.Lex pos lex_texts.OpenText
+lex_text (lexical.BadByte at) pos = texts.Lex pos kinds.BadByte
+lex_text (lexical.OpenComment at) pos = texts.Lex pos kinds.OpenComment
+lex_text (lexical.BadLiteral at) pos = texts.Lex pos kinds.BadLiteral
+lex_text (lexical.WideLiteral at) pos = texts.Lex pos kinds.WideLiteral
+lex_text (lexical.Directive at) pos = texts.Lex pos kinds.Directive
+lex_text (lexical.OpenText at) pos = texts.Lex pos kinds.OpenText
 
 -- what can't stand there: a token, or the end
 abbrev pub unexpected_text : TokenPlace → FaultText

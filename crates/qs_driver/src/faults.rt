@@ -9,12 +9,12 @@ use crate::names::{FileNames, file_name};
 use crate::{ProofFault, SourceFault, Status, TokenPlace, WordsFault};
 use qs_assert::Amount;
 use qs_base::Pos;
-use qs_lexer::LexFault;
+use qs_lexer::{FaultKind, LexFault};
 use qs_parser::SyntaxFault;
 use qs_ports::{Sink, SinkFault};
 use qs_prooftext::TextFault;
 use qs_report::{
-    FaultText, LexText, ProofFileText, Shown, put_arg_count, put_arg_range, put_cycle, put_fault,
+    FaultText, ProofFileText, Shown, put_arg_count, put_arg_range, put_cycle, put_fault,
     put_proof_fault,
 };
 use qs_typing::TypeFault;
@@ -24,12 +24,12 @@ fn lex_text(fault: LexFault, pos: Pos) -> FaultText
 {
     match fault {
         LexFault::NoMemory => FaultText::NoMemory,
-        LexFault::BadByte(_) => FaultText::Lex(pos, LexText::BadByte),
-        LexFault::OpenComment(_) => FaultText::Lex(pos, LexText::OpenComment),
-        LexFault::BadLiteral(_) => FaultText::Lex(pos, LexText::BadLiteral),
-        LexFault::WideLiteral(_) => FaultText::Lex(pos, LexText::WideLiteral),
-        LexFault::Directive(_) => FaultText::Lex(pos, LexText::Directive),
-        LexFault::OpenText(_) => FaultText::Lex(pos, LexText::OpenText),
+        LexFault::BadByte(_) => FaultText::Lex(pos, FaultKind::BadByte),
+        LexFault::OpenComment(_) => FaultText::Lex(pos, FaultKind::OpenComment),
+        LexFault::BadLiteral(_) => FaultText::Lex(pos, FaultKind::BadLiteral),
+        LexFault::WideLiteral(_) => FaultText::Lex(pos, FaultKind::WideLiteral),
+        LexFault::Directive(_) => FaultText::Lex(pos, FaultKind::Directive),
+        LexFault::OpenText(_) => FaultText::Lex(pos, FaultKind::OpenText),
     }
 }
 

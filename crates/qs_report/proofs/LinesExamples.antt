@@ -5,6 +5,7 @@ use Rattle.std.specs.Fmt.{digits}
 use Rattle.hex.specs.Hex.{encode_with}
 use Rattle.qs_base.specs.declared.places.Pos.{Pos}
 use Rattle.qs_image.specs.declared.fault.ImageFault.TheVariants as image
+use Rattle.qs_lexer.specs.declared.fault.FaultKind.TheVariants as lexical
 use Rattle.qs_machine.specs.declared.answers.Cause.TheVariants as cause
 use Rattle.qs_types.specs.declared.limits.LimitKind.TheVariants as kinds
 use Rattle.qs_types.specs.declared.rules.Rule.TheVariants as rules
@@ -13,7 +14,6 @@ use Rattle.qs_entail.specs.declared.stop.Limit.TheVariants.{Terms, Degree}
 use Rattle.qs_report.specs.Lines.{bound_line, cost_line, count_line, end_line, fault_line}
 use Rattle.qs_report.specs.declared.fault_texts.Count.TheVariants.{Checked, Derived, Functions, Output}
 use Rattle.qs_report.specs.declared.fault_texts.FaultText.TheVariants.{Usage, SameName, Missing, Failed, TooLong, Lex, UnexpectedToken, UnexpectedEnd, TooDeep, Rule, Limit, NoMain, NoBody, ProofFile, Cycle, Proof, Order, ArgCount, ArgRange, Image, Trapped, StepLimit, NoBound, StackTooLarge, NoMemory}
-use Rattle.qs_report.specs.declared.fault_texts.LexText.TheVariants as lexical
 use Rattle.qs_report.specs.declared.fault_texts.Path.{Path}
 use Rattle.qs_report.specs.declared.fault_texts.ProofFileText.TheVariants as proof_file
 use Rattle.qs_report.specs.declared.fault_texts.ProofText.TheVariants.{Shape, Mentions, Step}

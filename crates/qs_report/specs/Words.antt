@@ -4,6 +4,8 @@ use Rattle.std.specs.Int.{w32, to_be_bytes}
 use Rattle.hex.specs.Hex.{encode_lower}
 use Rattle.qs_image.specs.declared.fault.ImageFault.{ImageFault}
 use Rattle.qs_image.specs.declared.fault.ImageFault.TheVariants as image
+use Rattle.qs_lexer.specs.declared.fault.FaultKind.{FaultKind}
+use Rattle.qs_lexer.specs.declared.fault.FaultKind.TheVariants as lexical
 use Rattle.qs_machine.specs.declared.answers.Cause.{Cause}
 use Rattle.qs_machine.specs.declared.answers.Cause.TheVariants as cause
 use Rattle.qs_types.specs.Rules.{rule_number}
@@ -14,8 +16,6 @@ use Rattle.qs_entail.specs.Said as step_rules
 use Rattle.qs_entail.specs.Said.{limit_number}
 use Rattle.qs_report.specs.declared.fault_texts.Shown.{Shown}
 use Rattle.qs_report.specs.declared.fault_texts.Shown.TheVariants.{Number, Infinite, Wide}
-use Rattle.qs_report.specs.declared.fault_texts.LexText.{LexText}
-use Rattle.qs_report.specs.declared.fault_texts.LexText.TheVariants as lexical
 use Rattle.qs_report.specs.declared.fault_texts.ProofFileText.{ProofFileText}
 use Rattle.qs_report.specs.declared.fault_texts.ProofFileText.TheVariants as proof_file
 use Rattle.qs_report.specs.declared.fault_texts.Path.{Path}
@@ -25,7 +25,7 @@ use Rattle.qs_report.specs.declared.fault_texts.ProofText.{ProofText}
 use Rattle.qs_report.specs.declared.fault_texts.ProofText.TheVariants.{Shape, Mentions, Step, Limit}
 
 -- what is wrong with the bytes of a source
-abbrev pub lex_word : LexText → List ℕ
+abbrev pub lex_word : FaultKind → List ℕ
 lex_word lexical.BadByte = codes "bad byte"
 lex_word lexical.OpenComment = codes "open comment"
 lex_word lexical.BadLiteral = codes "bad literal"

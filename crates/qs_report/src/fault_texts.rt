@@ -2,6 +2,7 @@
 use qs_base::{Name, Pos};
 use qs_entail::Limit;
 use qs_image::ImageFault;
+use qs_lexer::FaultKind;
 use qs_machine::Cause;
 use qs_types::{LimitKind, Rule};
 
@@ -64,23 +65,6 @@ pub enum ProofText {
     Limit(Limit),
 }
 
-/// What is wrong with the bytes of a source.
-#[derive(Clone, Copy, Debug, PartialEq, Eq)]
-pub enum LexText {
-    /// A byte begins nothing.
-    BadByte,
-    /// A comment is not closed (C11 6.4.9).
-    OpenComment,
-    /// A number, an escape or a character is none (C11 6.4.4).
-    BadLiteral,
-    /// A value in a literal does not fit its type.
-    WideLiteral,
-    /// A `#` first on its line begins no line marker.
-    Directive,
-    /// A character or text is not closed on its line.
-    OpenText,
-}
-
 /// What is wrong with the text of a proof file.
 #[derive(Clone, Copy, Debug, PartialEq, Eq)]
 pub enum ProofFileText {
@@ -114,7 +98,7 @@ pub enum FaultText {
     /// The file has more bytes than its limit.
     TooLong,
     /// The bytes of the source are wrong here.
-    Lex(Pos, LexText),
+    Lex(Pos, FaultKind),
     /// A token can't stand here.
     UnexpectedToken(Pos),
     /// The source can't end here.

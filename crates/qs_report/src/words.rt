@@ -2,20 +2,21 @@
 ghost use Rattle.std.specs.Prelude.{◌≡◌};
 ghost use Rattle.qs_report.specs.Words.{lex_word, proof_file_word, trap_word, limit_word};
 
-use crate::{LexText, ProofFileText};
+use crate::ProofFileText;
+use qs_lexer::FaultKind;
 use qs_machine::Cause;
 use qs_types::LimitKind;
 
-pub fn lex_word(fault: LexText) -> &'static str
+pub fn lex_word(fault: FaultKind) -> &'static str
     ensures { result.now ≡ lex_word fault }
 {
     match fault {
-        LexText::BadByte => "bad byte",
-        LexText::OpenComment => "open comment",
-        LexText::BadLiteral => "bad literal",
-        LexText::WideLiteral => "wide literal",
-        LexText::Directive => "directive",
-        LexText::OpenText => "open text",
+        FaultKind::BadByte => "bad byte",
+        FaultKind::OpenComment => "open comment",
+        FaultKind::BadLiteral => "bad literal",
+        FaultKind::WideLiteral => "wide literal",
+        FaultKind::Directive => "directive",
+        FaultKind::OpenText => "open text",
     }
 }
 

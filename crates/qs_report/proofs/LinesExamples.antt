@@ -4,6 +4,7 @@ use Rattle.std.specs.declared.alloc.Global.{Global}
 use Rattle.std.specs.Fmt.{digits}
 use Rattle.hex.specs.Hex.{encode_with}
 use Rattle.qs_base.specs.declared.places.Pos.{Pos}
+use Rattle.qs_image.specs.declared.fault.HeaderWord.TheVariants as header
 use Rattle.qs_image.specs.declared.fault.ImageFault.TheVariants as image
 use Rattle.qs_lexer.specs.declared.fault.FaultKind.TheVariants as lexical
 use Rattle.qs_machine.specs.declared.answers.Cause.TheVariants as cause
@@ -195,7 +196,7 @@ image_short = refl
 image_magic : fault_line (codes "a.img") [] (Image image.Magic) ≡ ended (codes "a.img: image magic")
 image_magic = refl
 
-image_count : fault_line (codes "a.img") [] (Image (image.Count 3)) ≡ ended (codes "a.img: image count 3")
+image_count : fault_line (codes "a.img") [] (Image (image.Count header.FunctionCount)) ≡ ended (codes "a.img: image count 3")
 unfolding digits
 image_count = refl
 

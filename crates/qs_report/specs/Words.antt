@@ -2,6 +2,7 @@
 use Rattle.std.specs.Prelude.{ℕ, List, [], ◌∷◌, ◌++◌, codes, decimal, flat_map}
 use Rattle.std.specs.Int.{w32, to_be_bytes}
 use Rattle.hex.specs.Hex.{encode_lower}
+use Rattle.qs_image.specs.Faults.{word_number}
 use Rattle.qs_image.specs.declared.fault.ImageFault.{ImageFault}
 use Rattle.qs_image.specs.declared.fault.ImageFault.TheVariants as image
 use Rattle.qs_lexer.specs.declared.fault.FaultKind.{FaultKind}
@@ -47,7 +48,7 @@ proof_file_word proof_file.NoSuchFunction = codes "no such function"
 abbrev pub image_text : ImageFault → List ℕ
 image_text image.Short = codes "short"
 image_text image.Magic = codes "magic"
-image_text (image.Count number) = codes "count " ++ decimal number
+image_text (image.Count word) = codes "count " ++ decimal (word_number word)
 image_text image.Trailing = codes "trailing"
 image_text image.Entry = codes "entry"
 image_text (image.Cost number) = codes "cost " ++ decimal number

@@ -92,7 +92,7 @@ fn put_image<K: Sink>(log: &mut K, file: &[u8], fault: ImageFault) -> Result<(),
     match fault {
         ImageFault::Short => put_two(log, file, b": image short"),
         ImageFault::Magic => put_two(log, file, b": image magic"),
-        ImageFault::Count(word) => put_image_count(log, file, b"count ", word),
+        ImageFault::Count(word) => put_image_count(log, file, b"count ", word.number()),
         ImageFault::Trailing => put_two(log, file, b": image trailing"),
         ImageFault::Entry => put_two(log, file, b": image entry"),
         ImageFault::Cost(record) => put_image_count(log, file, b"cost ", record),

@@ -1,14 +1,11 @@
 -- The line that tells a status.
 use Rattle.std.specs.Prelude.{ℕ, List, [], Option, Some, None}
 use Rattle.qs_base.specs.declared.places.Pos.{Pos}
+use Rattle.qs_lexer.specs.declared.fault.FaultKind.TheVariants as kinds
 use Rattle.qs_lexer.specs.declared.fault.LexFault.{LexFault}
 use Rattle.qs_lexer.specs.declared.fault.LexFault.TheVariants as lexical
 use Rattle.qs_parser.specs.declared.syntax_fault.SyntaxFault.{SyntaxFault}
 use Rattle.qs_parser.specs.declared.syntax_fault.SyntaxFault.TheVariants as syntax
-use Rattle.qs_image.specs.declared.fault.ImageFault.{ImageFault}
-use Rattle.qs_image.specs.declared.fault.ImageFault.TheVariants as fault
-use Rattle.qs_machine.specs.declared.answers.Cause.{Cause}
-use Rattle.qs_machine.specs.declared.answers.Cause.TheVariants as cause
 use Rattle.qs_typing.specs.declared.checking.TypeFault.{TypeFault}
 use Rattle.qs_typing.specs.declared.checking.TypeFault.TheVariants as typing
 use Rattle.qs_assert.specs.declared.define.Amount.{Amount}
@@ -18,12 +15,9 @@ use Rattle.qs_prooftext.specs.declared.fault.TextFault.TheVariants as proof_file
 use Rattle.qs_report.specs.Lines as lines
 use Rattle.qs_report.specs.declared.fault_texts.FaultText.{FaultText}
 use Rattle.qs_report.specs.declared.fault_texts.FaultText.TheVariants as texts
-use Rattle.qs_report.specs.declared.fault_texts.ImageText.TheVariants as image_texts
-use Rattle.qs_report.specs.declared.fault_texts.LexText.TheVariants as lex_texts
 use Rattle.qs_report.specs.declared.fault_texts.ProofFileText.TheVariants as proof_file_texts
 use Rattle.qs_report.specs.declared.fault_texts.Shown.{Shown}
 use Rattle.qs_report.specs.declared.fault_texts.Shown.TheVariants as shown
-use Rattle.qs_report.specs.declared.fault_texts.TrapText.TheVariants as trap_texts
 use Rattle.qs_driver.specs.Names.{Names, file_name, names_in}
 use Rattle.qs_driver.specs.declared.names.FileNames.{FileNames}
 use Rattle.qs_driver.specs.declared.status.Status.{Status}
@@ -34,38 +28,15 @@ use Rattle.qs_driver.specs.declared.status.TokenPlace.{TokenPlace}
 use Rattle.qs_driver.specs.declared.status.TokenPlace.TheVariants.{At, End}
 use Rattle.qs_driver.specs.declared.status.WordsFault.TheVariants.{Usage, SameName, ArgCount, ArgRange}
 
--- what is wrong with an image
-abbrev pub image_text : ImageFault → FaultText
-image_text fault.Short = texts.Image image_texts.Short
-image_text fault.Magic = texts.Image image_texts.Magic
-image_text (fault.Count word) = texts.Image (image_texts.Count word)
-image_text fault.Trailing = texts.Image image_texts.Trailing
-image_text fault.Entry = texts.Image image_texts.Entry
-image_text (fault.Cost i) = texts.Image (image_texts.Cost i)
-image_text fault.Names = texts.Image image_texts.Names
-
--- the cause of a trap at this pc
-abbrev pub trap_text : Cause → ℕ → FaultText
-trap_text cause.Overflow pc = texts.Trapped trap_texts.Overflow pc
-trap_text cause.IllegalInstruction pc = texts.Trapped trap_texts.Illegal pc
-trap_text cause.FetchOutside pc = texts.Trapped trap_texts.Fetch pc
-trap_text cause.JumpMisaligned pc = texts.Trapped trap_texts.Jump pc
-trap_text cause.LoadMisaligned pc = texts.Trapped trap_texts.LoadMisaligned pc
-trap_text cause.LoadOutside pc = texts.Trapped trap_texts.Load pc
-trap_text cause.StoreMisaligned pc = texts.Trapped trap_texts.StoreMisaligned pc
-trap_text cause.StoreOutside pc = texts.Trapped trap_texts.Store pc
-trap_text cause.UnknownCall pc = texts.Trapped trap_texts.Call pc
-trap_text cause.Breakpoint pc = texts.Trapped trap_texts.Break pc
-
 -- what is wrong with the bytes of a source
 abbrev pub lex_text : LexFault → Pos → FaultText
 lex_text lexical.NoMemory pos = texts.NoMemory
-lex_text (lexical.BadByte at) pos = texts.Lex pos lex_texts.BadByte
-lex_text (lexical.OpenComment at) pos = texts.Lex pos lex_texts.OpenComment
-lex_text (lexical.BadLiteral at) pos = texts.Lex pos lex_texts.BadLiteral
-lex_text (lexical.WideLiteral at) pos = texts.Lex pos lex_texts.WideLiteral
-lex_text (lexical.Directive at) pos = texts.Lex pos lex_texts.Directive
-lex_text (lexical.OpenText at) pos = texts.Lex pos lex_texts.OpenText
+lex_text (lexical.BadByte at) pos = texts.Lex pos kinds.BadByte
+lex_text (lexical.OpenComment at) pos = texts.Lex pos kinds.OpenComment
+lex_text (lexical.BadLiteral at) pos = texts.Lex pos kinds.BadLiteral
+lex_text (lexical.WideLiteral at) pos = texts.Lex pos kinds.WideLiteral
+lex_text (lexical.Directive at) pos = texts.Lex pos kinds.Directive
+lex_text (lexical.OpenText at) pos = texts.Lex pos kinds.OpenText
 
 -- what can't stand there: a token, or the end
 abbrev pub unexpected_text : TokenPlace → FaultText
@@ -134,8 +105,8 @@ status_line names (Words (ArgCount expected given)) = named_line [] (texts.ArgCo
 status_line names (Words (ArgRange i)) = named_line [] (texts.ArgRange i)
 status_line names (Missing kind) = named_line (file_name names kind) texts.Missing
 status_line names (StoreFailed kind) = named_line (file_name names kind) texts.Failed
-status_line names (Image f) = named_line names.image (image_text f)
-status_line names (Trapped c pc) = named_line [] (trap_text c pc)
+status_line names (Image fault) = named_line names.image (texts.Image fault)
+status_line names (Trapped cause pc) = named_line [] (texts.Trapped cause pc)
 status_line names (StepLimit steps) = named_line [] (texts.StepLimit steps)
 status_line names (NoBound bound) = named_line [] (texts.NoBound (shown_of bound))
 status_line names (StackTooLarge size) = named_line [] (texts.StackTooLarge size)

@@ -1,68 +1,35 @@
 // The line that tells a status. Nothing here takes memory.
 ghost use Rattle.std.specs.Prelude.{◌≡◌};
 ghost use Rattle.qs_ports.specs.SinkView.{PutsOn};
-ghost use Rattle.qs_driver.specs.Faults.{image_text, lex_text, line_of, named_line};
+ghost use Rattle.qs_driver.specs.Faults.{lex_text, line_of, named_line};
 ghost use Rattle.qs_driver.specs.Faults.{placed_text, pos_of, proof_file_text, shown_of};
-ghost use Rattle.qs_driver.specs.Faults.{syntax_text, trap_text, typing_text, unexpected_text};
+ghost use Rattle.qs_driver.specs.Faults.{syntax_text, typing_text, unexpected_text};
 
 use crate::names::{FileNames, file_name};
 use crate::{ProofFault, SourceFault, Status, TokenPlace, WordsFault};
 use qs_assert::Amount;
 use qs_base::Pos;
-use qs_image::ImageFault;
-use qs_lexer::LexFault;
-use qs_machine::Cause;
+use qs_lexer::{FaultKind, LexFault};
 use qs_parser::SyntaxFault;
 use qs_ports::{Sink, SinkFault};
 use qs_prooftext::TextFault;
 use qs_report::{
-    FaultText, ImageText, LexText, ProofFileText, Shown, TrapText, put_arg_count, put_arg_range,
-    put_cycle, put_fault, put_proof_fault,
+    FaultText, ProofFileText, Shown, put_arg_count, put_arg_range, put_cycle, put_fault,
+    put_proof_fault,
 };
 use qs_typing::TypeFault;
-
-fn image_text(fault: ImageFault) -> FaultText
-    ensures { result ≡ image_text fault }
-{
-    match fault {
-        ImageFault::Short => FaultText::Image(ImageText::Short),
-        ImageFault::Magic => FaultText::Image(ImageText::Magic),
-        ImageFault::Count(word) => FaultText::Image(ImageText::Count(word)),
-        ImageFault::Trailing => FaultText::Image(ImageText::Trailing),
-        ImageFault::Entry => FaultText::Image(ImageText::Entry),
-        ImageFault::Cost(record) => FaultText::Image(ImageText::Cost(record)),
-        ImageFault::Names => FaultText::Image(ImageText::Names),
-    }
-}
-
-fn trap_text(cause: Cause, pc: u32) -> FaultText
-    ensures { result ≡ trap_text cause pc }
-{
-    match cause {
-        Cause::Overflow => FaultText::Trapped(TrapText::Overflow, pc),
-        Cause::IllegalInstruction => FaultText::Trapped(TrapText::Illegal, pc),
-        Cause::FetchOutside => FaultText::Trapped(TrapText::Fetch, pc),
-        Cause::JumpMisaligned => FaultText::Trapped(TrapText::Jump, pc),
-        Cause::LoadMisaligned => FaultText::Trapped(TrapText::LoadMisaligned, pc),
-        Cause::LoadOutside => FaultText::Trapped(TrapText::Load, pc),
-        Cause::StoreMisaligned => FaultText::Trapped(TrapText::StoreMisaligned, pc),
-        Cause::StoreOutside => FaultText::Trapped(TrapText::Store, pc),
-        Cause::UnknownCall => FaultText::Trapped(TrapText::Call, pc),
-        Cause::Breakpoint => FaultText::Trapped(TrapText::Break, pc),
-    }
-}
 
 fn lex_text(fault: LexFault, pos: Pos) -> FaultText
     ensures { result ≡ lex_text fault pos }
 {
     match fault {
         LexFault::NoMemory => FaultText::NoMemory,
-        LexFault::BadByte(_) => FaultText::Lex(pos, LexText::BadByte),
-        LexFault::OpenComment(_) => FaultText::Lex(pos, LexText::OpenComment),
-        LexFault::BadLiteral(_) => FaultText::Lex(pos, LexText::BadLiteral),
-        LexFault::WideLiteral(_) => FaultText::Lex(pos, LexText::WideLiteral),
-        LexFault::Directive(_) => FaultText::Lex(pos, LexText::Directive),
-        LexFault::OpenText(_) => FaultText::Lex(pos, LexText::OpenText),
+        LexFault::BadByte(_) => FaultText::Lex(pos, FaultKind::BadByte),
+        LexFault::OpenComment(_) => FaultText::Lex(pos, FaultKind::OpenComment),
+        LexFault::BadLiteral(_) => FaultText::Lex(pos, FaultKind::BadLiteral),
+        LexFault::WideLiteral(_) => FaultText::Lex(pos, FaultKind::WideLiteral),
+        LexFault::Directive(_) => FaultText::Lex(pos, FaultKind::Directive),
+        LexFault::OpenText(_) => FaultText::Lex(pos, FaultKind::OpenText),
     }
 }
 
@@ -225,8 +192,8 @@ pub fn put_status<K: Sink>(
         Status::Words(fault) => put_words_fault(log, names, *fault),
         Status::Missing(kind) => put_text(log, file_name(names, *kind), FaultText::Missing),
         Status::StoreFailed(kind) => put_text(log, file_name(names, *kind), FaultText::Failed),
-        Status::Image(fault) => put_text(log, names.image, image_text(*fault)),
-        Status::Trapped { cause, pc } => put_text(log, "", trap_text(*cause, *pc)),
+        Status::Image(fault) => put_text(log, names.image, FaultText::Image(*fault)),
+        Status::Trapped { cause, pc } => put_text(log, "", FaultText::Trapped(*cause, *pc)),
         Status::StepLimit(steps) => put_text(log, "", FaultText::StepLimit(*steps)),
         Status::NoBound(bound) => put_text(log, "", FaultText::NoBound(shown_of(*bound))),
         Status::StackTooLarge(size) => put_text(log, "", FaultText::StackTooLarge(*size)),

@@ -1,6 +1,42 @@
 // Why bytes are no image.
 use thiserror::Error;
 
+/// A word of the header that has a range.
+#[derive(Clone, Copy, Debug, PartialEq, Eq)]
+pub enum HeaderWord {
+    /// How many words of code there are.
+    CodeCount,
+    /// How many bytes of data there are.
+    ByteCount,
+    /// How many functions there are.
+    FunctionCount,
+    /// How many bytes the names have together.
+    NamesLength,
+    /// How many parameters main has.
+    Parameters,
+    /// Which of them are unsigned, a bit each.
+    UnsignedSet,
+}
+
+impl HeaderWord {
+    ghost use Rattle.std.specs.Prelude.{◌≡◌};
+    ghost use Rattle.qs_image.specs.Faults.{word_number};
+
+    /// The number of the word, its offset divided by 4.
+    pub fn number(self) -> u32
+        ensures { result ≡ word_number self }
+    {
+        match self {
+            HeaderWord::CodeCount => 1,
+            HeaderWord::ByteCount => 2,
+            HeaderWord::FunctionCount => 3,
+            HeaderWord::NamesLength => 4,
+            HeaderWord::Parameters => 6,
+            HeaderWord::UnsignedSet => 7,
+        }
+    }
+}
+
 /// Why bytes are no image: the first test that they fail. The tests come in this order: `Short` for
 /// the header, `Magic`, `Count`, `Short` for the rest, `Trailing`, `Names`, `Entry`, `Cost`.
 #[derive(Clone, Copy, Debug, PartialEq, Eq, Error)]
@@ -11,9 +47,9 @@ pub enum ImageFault {
     /// The bytes do not begin with `QSI1`.
     #[error("magic")]
     Magic,
-    /// The word of this number, its offset divided by 4, is out of its range; the least such.
-    #[error("count {0}")]
-    Count(u32),
+    /// This word of the header is out of its range; the first such.
+    #[error("count {}", .0.number())]
+    Count(HeaderWord),
     /// There are more bytes than the counts ask for.
     #[error("trailing")]
     Trailing,

@@ -11,7 +11,7 @@ mod view;
 mod word;
 mod writing;
 
-pub use fault::ImageFault;
+pub use fault::{HeaderWord, ImageFault};
 pub use image::{FunctionRecord, Image};
 pub use limits::{LARGEST_COST, MOST_CODE_WORDS, MOST_DATA_BYTES, MOST_FUNCTIONS, MOST_NAME_BYTES};
 pub use reading::read;

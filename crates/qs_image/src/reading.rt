@@ -7,7 +7,7 @@ ghost use Rattle.qs_image.specs.Faults.{are_addresses, first_of, count_tests};
 ghost use Rattle.qs_image.specs.Faults.{header_tests, size_tests, HasNoFault, IsFirstFault};
 ghost use Rattle.qs_image.specs.View.{image_in, have_names, section_tests, AreSections};
 
-use crate::fault::ImageFault;
+use crate::fault::{HeaderWord, ImageFault};
 use crate::limits::{
     MOST_CODE_WORDS, MOST_DATA_BYTES, MOST_FUNCTIONS, MOST_NAME_BYTES, MOST_PARAMETERS,
 };
@@ -21,17 +21,17 @@ fn count_fault(bytes: &[u8]) -> Option<ImageFault>
     ensures { result ≡ first_of (count_tests bytes.now) }
 {
     if word(bytes, 1) < 1 || word(bytes, 1) > MOST_CODE_WORDS {
-        Some(ImageFault::Count(1))
+        Some(ImageFault::Count(HeaderWord::CodeCount))
     } else if word(bytes, 2) > MOST_DATA_BYTES {
-        Some(ImageFault::Count(2))
+        Some(ImageFault::Count(HeaderWord::ByteCount))
     } else if word(bytes, 3) < 1 || word(bytes, 3) > MOST_FUNCTIONS {
-        Some(ImageFault::Count(3))
+        Some(ImageFault::Count(HeaderWord::FunctionCount))
     } else if word(bytes, 4) < 1 || word(bytes, 4) > MOST_NAME_BYTES {
-        Some(ImageFault::Count(4))
+        Some(ImageFault::Count(HeaderWord::NamesLength))
     } else if word(bytes, 6) > MOST_PARAMETERS {
-        Some(ImageFault::Count(6))
+        Some(ImageFault::Count(HeaderWord::Parameters))
     } else if word(bytes, 7) >> word(bytes, 6) != 0 {
-        Some(ImageFault::Count(7))
+        Some(ImageFault::Count(HeaderWord::UnsignedSet))
     } else {
         None
     }

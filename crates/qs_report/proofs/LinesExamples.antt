@@ -4,6 +4,10 @@ use Rattle.std.specs.declared.alloc.Global.{Global}
 use Rattle.std.specs.Fmt.{digits}
 use Rattle.hex.specs.Hex.{encode_with}
 use Rattle.qs_base.specs.declared.places.Pos.{Pos}
+use Rattle.qs_image.specs.declared.fault.HeaderWord.TheVariants as header
+use Rattle.qs_image.specs.declared.fault.ImageFault.TheVariants as image
+use Rattle.qs_lexer.specs.declared.fault.FaultKind.TheVariants as lexical
+use Rattle.qs_machine.specs.declared.answers.Cause.TheVariants as cause
 use Rattle.qs_types.specs.declared.limits.LimitKind.TheVariants as kinds
 use Rattle.qs_types.specs.declared.rules.Rule.TheVariants as rules
 use Rattle.qs_entail.specs.declared.fault.Rule.TheVariants as step_rules
@@ -11,15 +15,12 @@ use Rattle.qs_entail.specs.declared.stop.Limit.TheVariants.{Terms, Degree}
 use Rattle.qs_report.specs.Lines.{bound_line, cost_line, count_line, end_line, fault_line}
 use Rattle.qs_report.specs.declared.fault_texts.Count.TheVariants.{Checked, Derived, Functions, Output}
 use Rattle.qs_report.specs.declared.fault_texts.FaultText.TheVariants.{Usage, SameName, Missing, Failed, TooLong, Lex, UnexpectedToken, UnexpectedEnd, TooDeep, Rule, Limit, NoMain, NoBody, ProofFile, Cycle, Proof, Order, ArgCount, ArgRange, Image, Trapped, StepLimit, NoBound, StackTooLarge, NoMemory}
-use Rattle.qs_report.specs.declared.fault_texts.ImageText.TheVariants as image
-use Rattle.qs_report.specs.declared.fault_texts.LexText.TheVariants as lexical
 use Rattle.qs_report.specs.declared.fault_texts.Path.{Path}
 use Rattle.qs_report.specs.declared.fault_texts.ProofFileText.TheVariants as proof_file
 use Rattle.qs_report.specs.declared.fault_texts.ProofText.TheVariants.{Shape, Mentions, Step}
 use Rattle.qs_report.specs.declared.fault_texts.ProofText.TheVariants as proof_texts
 use Rattle.qs_report.specs.declared.fault_texts.Shown.TheVariants.{Number, Infinite, Wide}
 use Rattle.qs_report.specs.declared.fault_texts.Spot.TheVariants.{Pre, Post, Entry, Body, BodyCert}
-use Rattle.qs_report.specs.declared.fault_texts.TrapText.TheVariants as trap
 
 abbrev ended : List ℕ → List ℕ
 ended text = text ++ 10 ∷ []
@@ -195,7 +196,7 @@ image_short = refl
 image_magic : fault_line (codes "a.img") [] (Image image.Magic) ≡ ended (codes "a.img: image magic")
 image_magic = refl
 
-image_count : fault_line (codes "a.img") [] (Image (image.Count 3)) ≡ ended (codes "a.img: image count 3")
+image_count : fault_line (codes "a.img") [] (Image (image.Count header.FunctionCount)) ≡ ended (codes "a.img: image count 3")
 unfolding digits
 image_count = refl
 
@@ -212,43 +213,43 @@ image_cost = refl
 image_names : fault_line (codes "a.img") [] (Image image.Names) ≡ ended (codes "a.img: image names")
 image_names = refl
 
-trap_overflow : fault_line [] [] (Trapped trap.Overflow 0x0001a0bc) ≡ ended (codes "trap overflow at 0x0001a0bc")
+trap_overflow : fault_line [] [] (Trapped cause.Overflow 0x0001a0bc) ≡ ended (codes "trap overflow at 0x0001a0bc")
 unfolding encode_with
 trap_overflow = refl
 
-trap_illegal : fault_line [] [] (Trapped trap.Illegal 0x0001a0bc) ≡ ended (codes "trap illegal at 0x0001a0bc")
+trap_illegal : fault_line [] [] (Trapped cause.IllegalInstruction 0x0001a0bc) ≡ ended (codes "trap illegal at 0x0001a0bc")
 unfolding encode_with
 trap_illegal = refl
 
-trap_fetch : fault_line [] [] (Trapped trap.Fetch 0x0001a0bc) ≡ ended (codes "trap fetch at 0x0001a0bc")
+trap_fetch : fault_line [] [] (Trapped cause.FetchOutside 0x0001a0bc) ≡ ended (codes "trap fetch at 0x0001a0bc")
 unfolding encode_with
 trap_fetch = refl
 
-trap_jump : fault_line [] [] (Trapped trap.Jump 0x0001a0bc) ≡ ended (codes "trap jump at 0x0001a0bc")
+trap_jump : fault_line [] [] (Trapped cause.JumpMisaligned 0x0001a0bc) ≡ ended (codes "trap jump at 0x0001a0bc")
 unfolding encode_with
 trap_jump = refl
 
-trap_load_misaligned : fault_line [] [] (Trapped trap.LoadMisaligned 0x0001a0bc) ≡ ended (codes "trap load misaligned at 0x0001a0bc")
+trap_load_misaligned : fault_line [] [] (Trapped cause.LoadMisaligned 0x0001a0bc) ≡ ended (codes "trap load misaligned at 0x0001a0bc")
 unfolding encode_with
 trap_load_misaligned = refl
 
-trap_load : fault_line [] [] (Trapped trap.Load 0x0001a0bc) ≡ ended (codes "trap load at 0x0001a0bc")
+trap_load : fault_line [] [] (Trapped cause.LoadOutside 0x0001a0bc) ≡ ended (codes "trap load at 0x0001a0bc")
 unfolding encode_with
 trap_load = refl
 
-trap_store_misaligned : fault_line [] [] (Trapped trap.StoreMisaligned 0x0001a0bc) ≡ ended (codes "trap store misaligned at 0x0001a0bc")
+trap_store_misaligned : fault_line [] [] (Trapped cause.StoreMisaligned 0x0001a0bc) ≡ ended (codes "trap store misaligned at 0x0001a0bc")
 unfolding encode_with
 trap_store_misaligned = refl
 
-trap_store : fault_line [] [] (Trapped trap.Store 0x0001a0bc) ≡ ended (codes "trap store at 0x0001a0bc")
+trap_store : fault_line [] [] (Trapped cause.StoreOutside 0x0001a0bc) ≡ ended (codes "trap store at 0x0001a0bc")
 unfolding encode_with
 trap_store = refl
 
-trap_call : fault_line [] [] (Trapped trap.Call 0x0001a0bc) ≡ ended (codes "trap call at 0x0001a0bc")
+trap_call : fault_line [] [] (Trapped cause.UnknownCall 0x0001a0bc) ≡ ended (codes "trap call at 0x0001a0bc")
 unfolding encode_with
 trap_call = refl
 
-trap_break : fault_line [] [] (Trapped trap.Break 0x0001a0bc) ≡ ended (codes "trap break at 0x0001a0bc")
+trap_break : fault_line [] [] (Trapped cause.Breakpoint 0x0001a0bc) ≡ ended (codes "trap break at 0x0001a0bc")
 unfolding encode_with
 trap_break = refl
 

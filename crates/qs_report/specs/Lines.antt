@@ -1,16 +1,16 @@
 -- The lines that the tool prints, a row for each. docs/TOOL.md has those that it prints today.
 use Rattle.std.specs.Prelude.{ℕ, List, [], ◌∷◌, ◌++◌, Result, codes, decimal, flat_map}
 use Rattle.qs_base.specs.declared.places.Pos.{Pos}
+use Rattle.qs_image.specs.declared.fault.ImageFault.{ImageFault}
+use Rattle.qs_machine.specs.declared.answers.Cause.{Cause}
 use Rattle.qs_ports.specs.SinkView.{SinkView, PutsOn}
 use Rattle.qs_ports.specs.declared.sink.SinkFault.{SinkFault}
 use Rattle.qs_report.specs.Words.{lex_word, proof_file_word, image_text, trap_word, rule_text, limit_word, shown_text, hexadecimal, spot_text, proof_text, spaced}
 use Rattle.qs_report.specs.declared.fault_texts.Shown.{Shown}
 use Rattle.qs_report.specs.declared.fault_texts.Count.{Count}
 use Rattle.qs_report.specs.declared.fault_texts.Count.TheVariants.{Checked, Derived, Functions, Output}
-use Rattle.qs_report.specs.declared.fault_texts.ImageText.{ImageText}
 use Rattle.qs_report.specs.declared.fault_texts.ProofText.{ProofText}
 use Rattle.qs_report.specs.declared.fault_texts.Spot.{Spot}
-use Rattle.qs_report.specs.declared.fault_texts.TrapText.{TrapText}
 use Rattle.qs_report.specs.declared.fault_texts.FaultText.{FaultText}
 use Rattle.qs_report.specs.declared.fault_texts.FaultText.TheVariants.{Usage, SameName, Missing, Failed, TooLong, Lex, UnexpectedToken, UnexpectedEnd, TooDeep, Rule, Limit, NoMain, NoBody, ProofFile, Cycle, Proof, Order, ArgCount, ArgRange, Image, Trapped, StepLimit, NoBound, StackTooLarge, NoMemory}
 
@@ -88,14 +88,14 @@ arguments_line expected given = pair_line (codes "arguments: expected ") expecte
 abbrev pub argument_line : ℕ → List ℕ
 argument_line argument = between_line (codes "argument ") argument (codes " out of range")
 
-abbrev pub image_line : List ℕ → ImageText → List ℕ
+abbrev pub image_line : List ℕ → ImageFault → List ℕ
 image_line file fault = line (file ∷ codes ": image " ∷ image_text fault ∷ [])
 
 -- the same where a number ends it
 abbrev pub image_count_line : List ℕ → List ℕ → ℕ → List ℕ
 image_count_line file text number = line (file ∷ codes ": image " ∷ text ∷ decimal number ∷ [])
 
-abbrev pub trap_line : TrapText → ℕ → List ℕ
+abbrev pub trap_line : Cause → ℕ → List ℕ
 trap_line cause pc = line (codes "trap " ∷ trap_word cause ∷ codes " at 0x" ∷ hexadecimal pc ∷ [])
 
 -- ---- faults: the file and the function or definition are named where the line has them

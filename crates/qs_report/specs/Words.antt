@@ -2,6 +2,13 @@
 use Rattle.std.specs.Prelude.{ℕ, List, [], ◌∷◌, ◌++◌, codes, decimal, flat_map}
 use Rattle.std.specs.Int.{w32, to_be_bytes}
 use Rattle.hex.specs.Hex.{encode_lower}
+use Rattle.qs_image.specs.Faults.{word_number}
+use Rattle.qs_image.specs.declared.fault.ImageFault.{ImageFault}
+use Rattle.qs_image.specs.declared.fault.ImageFault.TheVariants as image
+use Rattle.qs_lexer.specs.declared.fault.FaultKind.{FaultKind}
+use Rattle.qs_lexer.specs.declared.fault.FaultKind.TheVariants as lexical
+use Rattle.qs_machine.specs.declared.answers.Cause.{Cause}
+use Rattle.qs_machine.specs.declared.answers.Cause.TheVariants as cause
 use Rattle.qs_types.specs.Rules.{rule_number}
 use Rattle.qs_types.specs.declared.limits.LimitKind.{LimitKind}
 use Rattle.qs_types.specs.declared.limits.LimitKind.TheVariants.{Nodes, Functions, Parameters, Globals, Locals}
@@ -10,14 +17,8 @@ use Rattle.qs_entail.specs.Said as step_rules
 use Rattle.qs_entail.specs.Said.{limit_number}
 use Rattle.qs_report.specs.declared.fault_texts.Shown.{Shown}
 use Rattle.qs_report.specs.declared.fault_texts.Shown.TheVariants.{Number, Infinite, Wide}
-use Rattle.qs_report.specs.declared.fault_texts.LexText.{LexText}
-use Rattle.qs_report.specs.declared.fault_texts.LexText.TheVariants as lexical
 use Rattle.qs_report.specs.declared.fault_texts.ProofFileText.{ProofFileText}
 use Rattle.qs_report.specs.declared.fault_texts.ProofFileText.TheVariants as proof_file
-use Rattle.qs_report.specs.declared.fault_texts.ImageText.{ImageText}
-use Rattle.qs_report.specs.declared.fault_texts.ImageText.TheVariants as image
-use Rattle.qs_report.specs.declared.fault_texts.TrapText.{TrapText}
-use Rattle.qs_report.specs.declared.fault_texts.TrapText.TheVariants as trap
 use Rattle.qs_report.specs.declared.fault_texts.Path.{Path}
 use Rattle.qs_report.specs.declared.fault_texts.Spot.{Spot}
 use Rattle.qs_report.specs.declared.fault_texts.Spot.TheVariants.{Pre, Post, Entry, Body, BodyCert}
@@ -25,7 +26,7 @@ use Rattle.qs_report.specs.declared.fault_texts.ProofText.{ProofText}
 use Rattle.qs_report.specs.declared.fault_texts.ProofText.TheVariants.{Shape, Mentions, Step, Limit}
 
 -- what is wrong with the bytes of a source
-abbrev pub lex_word : LexText → List ℕ
+abbrev pub lex_word : FaultKind → List ℕ
 lex_word lexical.BadByte = codes "bad byte"
 lex_word lexical.OpenComment = codes "open comment"
 lex_word lexical.BadLiteral = codes "bad literal"
@@ -44,27 +45,27 @@ proof_file_word proof_file.Duplicate = codes "duplicate"
 proof_file_word proof_file.NoSuchFunction = codes "no such function"
 
 -- what is wrong with the bytes of an image; a count has the number of its word, a cost that of its record
-abbrev pub image_text : ImageText → List ℕ
+abbrev pub image_text : ImageFault → List ℕ
 image_text image.Short = codes "short"
 image_text image.Magic = codes "magic"
-image_text (image.Count number) = codes "count " ++ decimal number
+image_text (image.Count word) = codes "count " ++ decimal (word_number word)
 image_text image.Trailing = codes "trailing"
 image_text image.Entry = codes "entry"
 image_text (image.Cost number) = codes "cost " ++ decimal number
 image_text image.Names = codes "names"
 
 -- the cause of a trap
-abbrev pub trap_word : TrapText → List ℕ
-trap_word trap.Overflow = codes "overflow"
-trap_word trap.Illegal = codes "illegal"
-trap_word trap.Fetch = codes "fetch"
-trap_word trap.Jump = codes "jump"
-trap_word trap.LoadMisaligned = codes "load misaligned"
-trap_word trap.Load = codes "load"
-trap_word trap.StoreMisaligned = codes "store misaligned"
-trap_word trap.Store = codes "store"
-trap_word trap.Call = codes "call"
-trap_word trap.Break = codes "break"
+abbrev pub trap_word : Cause → List ℕ
+trap_word cause.Overflow = codes "overflow"
+trap_word cause.IllegalInstruction = codes "illegal"
+trap_word cause.FetchOutside = codes "fetch"
+trap_word cause.JumpMisaligned = codes "jump"
+trap_word cause.LoadMisaligned = codes "load misaligned"
+trap_word cause.LoadOutside = codes "load"
+trap_word cause.StoreMisaligned = codes "store misaligned"
+trap_word cause.StoreOutside = codes "store"
+trap_word cause.UnknownCall = codes "call"
+trap_word cause.Breakpoint = codes "break"
 
 -- a typing rule, by its number
 abbrev pub rule_text : Rule → List ℕ

@@ -1,6 +1,9 @@
 // What the lines tell.
 use qs_base::{Name, Pos};
 use qs_entail::Limit;
+use qs_image::ImageFault;
+use qs_lexer::FaultKind;
+use qs_machine::Cause;
 use qs_types::{LimitKind, Rule};
 
 /// A bound on the stack.
@@ -62,23 +65,6 @@ pub enum ProofText {
     Limit(Limit),
 }
 
-/// What is wrong with the bytes of a source.
-#[derive(Clone, Copy, Debug, PartialEq, Eq)]
-pub enum LexText {
-    /// A byte begins nothing.
-    BadByte,
-    /// A comment is not closed (C11 6.4.9).
-    OpenComment,
-    /// A number, an escape or a character is none (C11 6.4.4).
-    BadLiteral,
-    /// A value in a literal does not fit its type.
-    WideLiteral,
-    /// A `#` first on its line begins no line marker.
-    Directive,
-    /// A character or text is not closed on its line.
-    OpenText,
-}
-
 /// What is wrong with the text of a proof file.
 #[derive(Clone, Copy, Debug, PartialEq, Eq)]
 pub enum ProofFileText {
@@ -98,50 +84,6 @@ pub enum ProofFileText {
     NoSuchFunction,
 }
 
-/// What is wrong with the bytes of an image.
-#[derive(Clone, Copy, Debug, PartialEq, Eq)]
-pub enum ImageText {
-    /// There are too few bytes.
-    Short,
-    /// The first bytes are not those of an image.
-    Magic,
-    /// The word of this number is out of its range.
-    Count(u32),
-    /// There are too many bytes.
-    Trailing,
-    /// An address is that of no instruction.
-    Entry,
-    /// The cost of the record of this number, from 0, is no cost.
-    Cost(u32),
-    /// The names of the functions are wrong.
-    Names,
-}
-
-/// Why a step of a program is not taken.
-#[derive(Clone, Copy, Debug, PartialEq, Eq)]
-pub enum TrapText {
-    /// The stack pointer would leave the stack.
-    Overflow,
-    /// The word at the pc is no instruction.
-    Illegal,
-    /// The pc is outside the code.
-    Fetch,
-    /// The address of a jump is misaligned.
-    Jump,
-    /// The address of a load is misaligned.
-    LoadMisaligned,
-    /// A load is outside of what can be read.
-    Load,
-    /// The address of a store is misaligned.
-    StoreMisaligned,
-    /// A store is outside of what can be written.
-    Store,
-    /// A call of the environment is none that there is.
-    Call,
-    /// The instruction is a break.
-    Break,
-}
-
 /// A fault, as its line tells it.
 #[derive(Debug, Drop)]
 pub enum FaultText {
@@ -156,7 +98,7 @@ pub enum FaultText {
     /// The file has more bytes than its limit.
     TooLong,
     /// The bytes of the source are wrong here.
-    Lex(Pos, LexText),
+    Lex(Pos, FaultKind),
     /// A token can't stand here.
     UnexpectedToken(Pos),
     /// The source can't end here.
@@ -184,9 +126,9 @@ pub enum FaultText {
     /// The argument of this number, from 0, is no value of its type.
     ArgRange(u32),
     /// The bytes of the image are wrong.
-    Image(ImageText),
+    Image(ImageFault),
     /// A step was not taken, for this cause; the pc is that of the instruction.
-    Trapped(TrapText, u32),
+    Trapped(Cause, u32),
     /// The program goes on after so many steps.
     StepLimit(u64),
     /// There is no stack for this bound.

@@ -5,14 +5,16 @@ ghost use Rattle.qs_report.specs.Lines.{PutsAt, both_at, fault_line, line_at};
 ghost use Rattle.qs_report.specs.Lines.{argument_line, arguments_line, image_count_line};
 ghost use Rattle.qs_report.specs.Lines.{image_line, trap_line};
 
+use crate::FaultText;
 use crate::derivation_faults::{put_cycle, put_proof_fault};
 use crate::parts::{put_between, put_number, put_pair, put_parts, put_two};
 use crate::results::put_shown;
 use crate::words::{lex_word, limit_word, proof_file_word, trap_word};
-use crate::{FaultText, ImageText, TrapText};
 use hex::encode_to_slice;
 use itoa::Buffer;
 use qs_base::Pos;
+use qs_image::ImageFault;
+use qs_machine::Cause;
 use qs_ports::{Sink, SinkFault};
 use qs_types::Rule;
 
@@ -84,21 +86,21 @@ fn put_image_count<K: Sink>(
     put_parts(log, &[file, b": image ", text, digits, b"\n"])
 }
 
-fn put_image<K: Sink>(log: &mut K, file: &[u8], fault: ImageText) -> Result<(), SinkFault>
+fn put_image<K: Sink>(log: &mut K, file: &[u8], fault: ImageFault) -> Result<(), SinkFault>
     ensures { PutsOn K.view log.old log.new (image_line file.now fault) result }
 {
     match fault {
-        ImageText::Short => put_two(log, file, b": image short"),
-        ImageText::Magic => put_two(log, file, b": image magic"),
-        ImageText::Count(word) => put_image_count(log, file, b"count ", word),
-        ImageText::Trailing => put_two(log, file, b": image trailing"),
-        ImageText::Entry => put_two(log, file, b": image entry"),
-        ImageText::Cost(record) => put_image_count(log, file, b"cost ", record),
-        ImageText::Names => put_two(log, file, b": image names"),
+        ImageFault::Short => put_two(log, file, b": image short"),
+        ImageFault::Magic => put_two(log, file, b": image magic"),
+        ImageFault::Count(word) => put_image_count(log, file, b"count ", word.number()),
+        ImageFault::Trailing => put_two(log, file, b": image trailing"),
+        ImageFault::Entry => put_two(log, file, b": image entry"),
+        ImageFault::Cost(record) => put_image_count(log, file, b"cost ", record),
+        ImageFault::Names => put_two(log, file, b": image names"),
     }
 }
 
-fn put_trap<K: Sink>(log: &mut K, cause: TrapText, pc: u32) -> Result<(), SinkFault>
+fn put_trap<K: Sink>(log: &mut K, cause: Cause, pc: u32) -> Result<(), SinkFault>
     ensures { PutsOn K.view log.old log.new (trap_line cause pc) result }
 {
     let mut digits = [0; 8];

@@ -2,19 +2,21 @@
 ghost use Rattle.std.specs.Prelude.{◌≡◌};
 ghost use Rattle.qs_report.specs.Words.{lex_word, proof_file_word, trap_word, limit_word};
 
-use crate::{LexText, ProofFileText, TrapText};
+use crate::ProofFileText;
+use qs_lexer::FaultKind;
+use qs_machine::Cause;
 use qs_types::LimitKind;
 
-pub fn lex_word(fault: LexText) -> &'static str
+pub fn lex_word(fault: FaultKind) -> &'static str
     ensures { result.now ≡ lex_word fault }
 {
     match fault {
-        LexText::BadByte => "bad byte",
-        LexText::OpenComment => "open comment",
-        LexText::BadLiteral => "bad literal",
-        LexText::WideLiteral => "wide literal",
-        LexText::Directive => "directive",
-        LexText::OpenText => "open text",
+        FaultKind::BadByte => "bad byte",
+        FaultKind::OpenComment => "open comment",
+        FaultKind::BadLiteral => "bad literal",
+        FaultKind::WideLiteral => "wide literal",
+        FaultKind::Directive => "directive",
+        FaultKind::OpenText => "open text",
     }
 }
 
@@ -32,20 +34,20 @@ pub fn proof_file_word(fault: ProofFileText) -> &'static str
     }
 }
 
-pub fn trap_word(cause: TrapText) -> &'static str
+pub fn trap_word(cause: Cause) -> &'static str
     ensures { result.now ≡ trap_word cause }
 {
     match cause {
-        TrapText::Overflow => "overflow",
-        TrapText::Illegal => "illegal",
-        TrapText::Fetch => "fetch",
-        TrapText::Jump => "jump",
-        TrapText::LoadMisaligned => "load misaligned",
-        TrapText::Load => "load",
-        TrapText::StoreMisaligned => "store misaligned",
-        TrapText::Store => "store",
-        TrapText::Call => "call",
-        TrapText::Break => "break",
+        Cause::Overflow => "overflow",
+        Cause::IllegalInstruction => "illegal",
+        Cause::FetchOutside => "fetch",
+        Cause::JumpMisaligned => "jump",
+        Cause::LoadMisaligned => "load misaligned",
+        Cause::LoadOutside => "load",
+        Cause::StoreMisaligned => "store misaligned",
+        Cause::StoreOutside => "store",
+        Cause::UnknownCall => "call",
+        Cause::Breakpoint => "break",
     }
 }
 

@@ -4,14 +4,13 @@ use Rattle.qs_memory.specs.declared.scalar.Scalar.{Scalar}
 use Rattle.qs_memory.specs.declared.scalar.Scalar.TheVariants as scalars
 use Rattle.qs_memory.specs.declared.operation.UnaryOperation.TheVariants.{Truth}
 use Rattle.qs_memory.specs.declared.operation.BinaryOperation.{BinaryOperation}
-use Rattle.qs_memory.specs.declared.operation.BinaryOperation.TheVariants.{Arithmetic, Compare, Move, Difference, ComparePointers}
 use Rattle.qs_calls.specs.declared.callee.Callee.{Callee}
 use Rattle.qs_core.specs.declared.numbers.BlockId.{BlockId}
 use Rattle.qs_core.specs.declared.numbers.BlockId.TheVariants.{Local, Data}
 use Rattle.qs_core.specs.Trees.{CoreExprTree, CoreStmtTree}
 use Rattle.qs_core.specs.Trees as core
-use Rattle.qs_memory.specs.Operations.{integer_type}
 use Rattle.qs_meaning.specs.Typed.{Conversion, unchanged, Order, as_written, exchanged, Object, local, static, Expr, constant, value, pointer_to, member, called, stepped_after, unary, cast, binary, logical_and, logical_or, conditional, assigned, sequence, Lvalue, variable, object, Arguments, no_arguments, argument_and, Assignment, set, update, Effect, nothing, discard, assign, perform, copy, fill, in_order}
+use Rattle.qs_meaning.specs.Fits.{amount_type}
 use Rattle.qs_elaborate.specs.Literals.{converted_core}
 use Rattle.qs_elaborate.specs.Acting.{acts, arguments_act}
 use Rattle.qs_elaborate.specs.Parts.{Temporaries, next_number, with_temporary, keep, Valued, Listed, pure, with_value, in_turn, before, saved, saved_if, joined, Location, plain, pointed, Located, at_address, address_saved_if, value_at, value_read, written, one_statement}
@@ -35,13 +34,6 @@ abbrev pub updated_core : BinaryOperation → (left right back : Conversion) →
 updated_core operation left right back a b = converted_core back (operation_core operation as_written left right a b)
 
 -- 6.5.2.4p2: the amount of a step, of the type that the operation takes on its right
-abbrev pub amount_type : BinaryOperation → Scalar
-amount_type (Arithmetic operator s) = integer_type s
-amount_type (Compare comparison s) = integer_type s
-amount_type (Move direction s element) = integer_type s
-amount_type (Difference element) = scalars.Pointer
-amount_type (ComparePointers comparison) = scalars.Pointer
-
 abbrev pub step_amount : BinaryOperation → CoreExprTree
 step_amount operation = core.literal (amount_type operation) 1
 

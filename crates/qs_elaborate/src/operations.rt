@@ -2,6 +2,7 @@
 ghost use Rattle.std.specs.Prelude.{◌≡◌};
 ghost use Rattle.qs_core.specs.TreeOf.{core_expr};
 ghost use Rattle.qs_typed.specs.TreeOf.{object_tree};
+ghost use Rattle.qs_meaning.specs.Fits as fits;
 ghost use Rattle.qs_elaborate.specs.Expressions as spec;
 ghost use Rattle.qs_elaborate.specs.CoreOf.{in_their_order, operated, updated};
 ghost use Rattle.qs_elaborate.specs.Results.{Gives};
@@ -73,14 +74,14 @@ pub fn updated(
 }
 
 fn amount_type(operation: BinaryOperation) -> Scalar
-    ensures { result ≡ spec.amount_type operation }
+    ensures { result ≡ fits.amount_type operation }
 {
     match operation {
         BinaryOperation::Arithmetic(_, s) => integer_type(s),
         BinaryOperation::Compare(_, s) => integer_type(s),
         BinaryOperation::Move(_, s, _) => integer_type(s),
-        BinaryOperation::Difference(_) => Scalar::Pointer,
-        BinaryOperation::ComparePointers(_) => Scalar::Pointer,
+        BinaryOperation::Difference(_) => Scalar::Int,
+        BinaryOperation::ComparePointers(_) => Scalar::Int,
     }
 }
 

@@ -43,6 +43,7 @@ fn argument(args: &[i64], kind: VarKind) -> i64
     }
 }
 
+/// The cost of a function by its number, in bytes, 0 where none is given.
 pub fn cost(costs: &[u32], at: u32) -> u32
     ensures { result ≡ slice_index_or costs.now at 0 }
 {

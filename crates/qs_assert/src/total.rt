@@ -15,6 +15,7 @@ pub struct Total {
 }
 
 impl Total {
+    /// The total of no numbers.
     pub const ZERO: Total = Total { low: 0, carry: 0 };
 
     /// The total with one number more.

@@ -28,6 +28,7 @@ fn name_in(name: &Option<String>) -> Option<&str>
     name.as_ref().map(|name| name.as_str())
 }
 
+/// What `build` is asked: the names of the source, the proof file and the image.
 pub fn to_build<'a>(
     source: &'a String,
     proof: &'a Option<String>,
@@ -42,6 +43,7 @@ pub fn to_build<'a>(
     }
 }
 
+/// What `check` is asked: the names of the source and the proof file.
 pub fn to_check<'a>(source: &'a String, proof: &'a Option<String>) -> CertifyOrder<'a>
     ensures { certified.words_in result ≡ to_check source.now proof.now }
 {
@@ -51,6 +53,7 @@ pub fn to_check<'a>(source: &'a String, proof: &'a Option<String>) -> CertifyOrd
     }
 }
 
+/// What `bound` is asked: the names of the source and the proof file, and main's arguments.
 pub fn to_bound<'a>(
     source: &'a String,
     proof: &'a Option<String>,
@@ -65,6 +68,7 @@ pub fn to_bound<'a>(
     }
 }
 
+/// What `derive` is asked: the names of the source and of the proof file that it writes.
 pub fn to_derive<'a>(source: &'a String, out: &'a String) -> DeriveOrder<'a>
     ensures { derive.words_in result ≡ to_derive source.now out.now }
 {
@@ -74,6 +78,7 @@ pub fn to_derive<'a>(source: &'a String, out: &'a String) -> DeriveOrder<'a>
     }
 }
 
+/// What `outline` is asked: the name of the source.
 pub fn to_outline(source: &String) -> OutlineOrder<'_>
     ensures { outline.words_in result ≡ to_outline source.now }
 {
@@ -82,6 +87,8 @@ pub fn to_outline(source: &String) -> OutlineOrder<'_>
     }
 }
 
+/// What `run` is asked: the names of the image and the input, the stack in bytes, the arguments,
+/// and the most instructions to run.
 pub fn to_run<'a>(
     image: &'a String,
     stack: u64,
@@ -100,6 +107,8 @@ pub fn to_run<'a>(
     }
 }
 
+/// What `exec` is asked: the names of the source, the proof file and the input, main's arguments,
+/// and the most instructions to run.
 pub fn to_exec<'a>(
     source: &'a String,
     proof: &'a Option<String>,
@@ -118,6 +127,8 @@ pub fn to_exec<'a>(
     }
 }
 
+/// What `sample` is asked: the count of functions, and the name under which the source is written,
+/// if it is.
 pub fn to_sample(count: u64, out: &Option<String>) -> SampleOrder<'_>
     ensures { sample.words_in result ≡ to_sample count out.now }
 {

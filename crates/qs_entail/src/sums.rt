@@ -120,6 +120,7 @@ pub fn bits_of(alloc: Global, p: &Poly) -> Result<Poly, Stop>
     atom_of(alloc, &Atom::Bits(copy))
 }
 
+/// A list of one polynomial. Nothing stops it but want of memory.
 pub fn one(alloc: Global, first: Poly) -> Result<Vec<Poly>, Stop>
     ensures { FollowsAs (λ v. v.items) result (Ok (first ∷ [])) }
 {
@@ -128,6 +129,7 @@ pub fn one(alloc: Global, first: Poly) -> Result<Vec<Poly>, Stop>
     Ok(list)
 }
 
+/// A list of two polynomials, in this order. Nothing stops it but want of memory.
 pub fn two(alloc: Global, first: Poly, second: Poly) -> Result<Vec<Poly>, Stop>
     ensures { FollowsAs (λ v. v.items) result (Ok (first ∷ second ∷ [])) }
 {

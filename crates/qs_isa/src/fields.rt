@@ -15,36 +15,42 @@ pub fn bits(word: u32, low: u32, count: u32) -> u32
     (word >> low) % (1 << count)
 }
 
+/// Bits 6..0: the sort of the instruction, 0 to 127.
 pub fn opcode(word: u32) -> u32
     ensures { result ≡ fields.opcode word }
 {
     bits(word, 0, 7)
 }
 
+/// Bits 14..12: mostly the kind within an opcode, 0 to 7.
 pub fn funct3(word: u32) -> u32
     ensures { result ≡ fields.funct3 word }
 {
     bits(word, 12, 3)
 }
 
+/// Bits 31..25: what tells apart kinds with one funct3, 0 to 127.
 pub fn funct7(word: u32) -> u32
     ensures { result ≡ fields.funct7 word }
 {
     bits(word, 25, 7)
 }
 
+/// Bits 11..7: the register that is written.
 pub fn rd(word: u32) -> Register
     ensures { result ≡ fields.rd word }
 {
     Register::new(bits(word, 7, 5) as u8)
 }
 
+/// Bits 19..15: the first register that is read.
 pub fn rs1(word: u32) -> Register
     ensures { result ≡ fields.rs1 word }
 {
     Register::new(bits(word, 15, 5) as u8)
 }
 
+/// Bits 24..20: the second register that is read.
 pub fn rs2(word: u32) -> Register
     ensures { result ≡ fields.rs2 word }
 {

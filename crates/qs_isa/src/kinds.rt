@@ -8,6 +8,7 @@ ghost use Rattle.qs_isa.specs.Encoding.{shift_imm_funct3, shift_imm_funct7, op_f
 
 use crate::{BranchKind, LoadKind, OpImmKind, OpKind, ShiftImmKind, StoreKind};
 
+/// The branch with this funct3 (section 2.5): none has 2 or 3, nor more than 7.
 pub fn branch_kind(funct3: u32) -> Option<BranchKind>
     ensures { result ≡ branch_kind_of funct3 }
 {
@@ -22,6 +23,7 @@ pub fn branch_kind(funct3: u32) -> Option<BranchKind>
     }
 }
 
+/// The load with this funct3 (section 2.6): none has 3, nor more than 5.
 pub fn load_kind(funct3: u32) -> Option<LoadKind>
     ensures { result ≡ load_kind_of funct3 }
 {
@@ -35,6 +37,7 @@ pub fn load_kind(funct3: u32) -> Option<LoadKind>
     }
 }
 
+/// The store with this funct3 (section 2.6): none has more than 2.
 pub fn store_kind(funct3: u32) -> Option<StoreKind>
     ensures { result ≡ store_kind_of funct3 }
 {
@@ -46,6 +49,8 @@ pub fn store_kind(funct3: u32) -> Option<StoreKind>
     }
 }
 
+/// The operation on a register and an immediate with this funct3 (section 2.4): none has 1 or 5,
+/// which are those of shifts, nor more than 7.
 pub fn op_imm_kind(funct3: u32) -> Option<OpImmKind>
     ensures { result ≡ op_imm_kind_of funct3 }
 {
@@ -60,6 +65,7 @@ pub fn op_imm_kind(funct3: u32) -> Option<OpImmKind>
     }
 }
 
+/// The shift by a fixed amount with this funct7 and funct3 (section 2.4), if there is one.
 pub fn shift_imm_kind(funct7: u32, funct3: u32) -> Option<ShiftImmKind>
     ensures { result ≡ shift_imm_kind_of funct7 funct3 }
 {
@@ -113,6 +119,8 @@ fn multiply_kind(funct3: u32) -> Option<OpKind>
     }
 }
 
+/// The operation on two registers with this funct7 and funct3 (sections 2.4, 7.1 and 7.2), if there
+/// is one.
 pub fn op_kind(funct7: u32, funct3: u32) -> Option<OpKind>
     ensures { result ≡ op_kind_of funct7 funct3 }
 {
@@ -124,6 +132,7 @@ pub fn op_kind(funct7: u32, funct3: u32) -> Option<OpKind>
     }
 }
 
+/// The funct3 of a branch (section 2.5).
 pub fn branch_funct3(kind: BranchKind) -> u32
     ensures value { result ≡ branch_funct3 kind }
     ensures range { result < 8 }
@@ -138,6 +147,7 @@ pub fn branch_funct3(kind: BranchKind) -> u32
     }
 }
 
+/// The funct3 of a load (section 2.6).
 pub fn load_funct3(kind: LoadKind) -> u32
     ensures value { result ≡ load_funct3 kind }
     ensures range { result < 8 }
@@ -151,6 +161,7 @@ pub fn load_funct3(kind: LoadKind) -> u32
     }
 }
 
+/// The funct3 of a store (section 2.6).
 pub fn store_funct3(kind: StoreKind) -> u32
     ensures value { result ≡ store_funct3 kind }
     ensures range { result < 8 }
@@ -162,6 +173,7 @@ pub fn store_funct3(kind: StoreKind) -> u32
     }
 }
 
+/// The funct3 of an operation on a register and an immediate (section 2.4).
 pub fn op_imm_funct3(kind: OpImmKind) -> u32
     ensures value { result ≡ op_imm_funct3 kind }
     ensures range { result < 8 }
@@ -176,6 +188,7 @@ pub fn op_imm_funct3(kind: OpImmKind) -> u32
     }
 }
 
+/// The funct3 of a shift by a fixed amount (section 2.4): both shifts to the right have 5.
 pub fn shift_imm_funct3(kind: ShiftImmKind) -> u32
     ensures value { result ≡ shift_imm_funct3 kind }
     ensures range { result < 8 }
@@ -186,6 +199,7 @@ pub fn shift_imm_funct3(kind: ShiftImmKind) -> u32
     }
 }
 
+/// The funct7 of a shift by a fixed amount (section 2.4): that which copies the sign has 32.
 pub fn shift_imm_funct7(kind: ShiftImmKind) -> u32
     ensures value { result ≡ shift_imm_funct7 kind }
     ensures range { result < 128 }
@@ -196,6 +210,7 @@ pub fn shift_imm_funct7(kind: ShiftImmKind) -> u32
     }
 }
 
+/// The funct3 of an operation on two registers (sections 2.4, 7.1 and 7.2).
 pub fn op_funct3(kind: OpKind) -> u32
     ensures value { result ≡ op_funct3 kind }
     ensures range { result < 8 }
@@ -212,6 +227,8 @@ pub fn op_funct3(kind: OpKind) -> u32
     }
 }
 
+/// The funct7 of an operation on two registers: 1 of those that multiply or divide (sections 7.1
+/// and 7.2), 32 of SUB and SRA, 0 of the others (section 2.4).
 pub fn op_funct7(kind: OpKind) -> u32
     ensures value { result ≡ op_funct7 kind }
     ensures range { result < 128 }

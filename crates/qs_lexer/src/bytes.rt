@@ -13,18 +13,21 @@ fn is_number_byte(byte: u8) -> bool
     is_word_byte(byte) || byte == b'.'
 }
 
+/// Whether the byte is a blank or a tab.
 pub fn is_blank(byte: u8) -> bool
     ensures { result ≡ is_blank byte }
 {
     byte == b' ' || byte == b'\t'
 }
 
+/// Whether the byte is white space: a blank, one of 0x09 to 0x0C (C11 6.4p3), or 0x0D.
 pub fn is_space(byte: u8) -> bool
     ensures { result ≡ is_space byte }
 {
     byte == b' ' || is_between(9, 13, byte)
 }
 
+/// Whether the first byte is this one; no where there is none.
 pub fn starts_with(first: u8, bytes: &[u8]) -> bool
     ensures { result ≡ starts_with first bytes.now }
 {
@@ -43,12 +46,14 @@ fn starts_blank(bytes: &[u8]) -> bool
     }
 }
 
+/// How many letters, digits and `_` stand first, in bytes.
 pub fn word_length(rest: &[u8]) -> usize
     ensures { result ≡ prefix_len is_word_byte rest.now }
 {
     rest.iter().take_while(|byte| is_word_byte(**byte)).count()
 }
 
+/// How many letters, digits, `_` and `.` stand first, in bytes.
 pub fn number_length(rest: &[u8]) -> usize
     ensures { result ≡ prefix_len is_number_byte rest.now }
 {
@@ -68,6 +73,7 @@ fn digit_after_blanks(bytes: &[u8]) -> bool
     false
 }
 
+/// Whether at least one blank or tab stands first, and behind all of them a digit.
 pub fn blanks_then_digit(bytes: &[u8]) -> bool
     ensures { result ≡ blanks_then_digit bytes.now }
 {

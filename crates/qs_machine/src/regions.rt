@@ -8,6 +8,7 @@ use byteorder::{ByteOrder, LittleEndian};
 use qs_image::LARGEST_COST;
 use qs_isa::StoreKind;
 
+/// The address behind the stack's highest byte, where x2 stands at the start.
 pub const STACK_TOP: u32 = 0x8000_0000;
 
 /// The largest stack, in bytes: as large as what one call may cost.

@@ -50,6 +50,7 @@ impl AtomCode {
         &self.nodes
     }
 
+    /// The same atom, with nodes of its own.
     pub fn copy(&self, alloc: Global) -> Result<AtomCode, NoMemory>
         ensures { IfOk result (λ a. a ≡ self.now) }
     {

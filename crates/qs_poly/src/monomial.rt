@@ -98,6 +98,7 @@ impl Monomial {
         Ok(Monomial { atoms })
     }
 
+    /// The same monomial, with atoms of its own.
     pub fn copy(&self, alloc: Global) -> Result<Monomial, NoMemory>
         ensures { IfOk result (λ m. m ≡ self.now) }
     {
@@ -122,6 +123,7 @@ impl Monomial {
         &self.atoms
     }
 
+    /// The product of two monomials: the atoms of both, in order.
     pub fn multiply(&self, alloc: Global, other: &Monomial) -> Result<Monomial, NoMemory>
         ensures { IfOk result (λ m. m ≡ monomial_product self.now other.now) }
     {

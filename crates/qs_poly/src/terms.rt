@@ -29,6 +29,7 @@ fn times(a: i128, b: i128) -> i128
 }
 
 impl Term {
+    /// The same term, with a monomial of its own.
     pub fn copy(&self, alloc: Global) -> Result<Term, NoMemory>
         ensures { IfOk result (λ t. t ≡ self.now) }
     {
@@ -90,6 +91,7 @@ impl Eq for Term {
     ghost laws = { term_eq_equivalence };
 }
 
+/// The same terms in the same order, each with a monomial of its own.
 pub fn copy_terms(alloc: Global, from: &[Term]) -> Result<Vec<Term>, NoMemory>
     ensures { IfOk result (λ to. to.items ≡ from.now) }
 {

@@ -27,6 +27,7 @@ pub enum Due {
     Close,
 }
 
+/// Puts a token behind the others.
 pub fn put<'a>(out: &mut Vec<Token<'a>>, token: Token<'a>) -> Result<(), NoMemory>
     ensures { Writes out.old (mark_of token.entry ∷ []) out.new result }
 {

@@ -7,6 +7,7 @@ use qs_lexer::FaultKind;
 use qs_machine::Cause;
 use qs_types::LimitKind;
 
+/// What is wrong with the bytes of a source, in the words of its line.
 pub fn lex_word(fault: FaultKind) -> &'static str
     ensures { result.now ≡ lex_word fault }
 {
@@ -20,6 +21,7 @@ pub fn lex_word(fault: FaultKind) -> &'static str
     }
 }
 
+/// What is wrong with the text of a proof file, in the words of its line.
 pub fn proof_file_word(fault: ProofFileText) -> &'static str
     ensures { result.now ≡ proof_file_word fault }
 {
@@ -34,6 +36,7 @@ pub fn proof_file_word(fault: ProofFileText) -> &'static str
     }
 }
 
+/// The cause of a trap, in the words of its line.
 pub fn trap_word(cause: Cause) -> &'static str
     ensures { result.now ≡ trap_word cause }
 {
@@ -51,6 +54,7 @@ pub fn trap_word(cause: Cause) -> &'static str
     }
 }
 
+/// Which limit of a source is passed, in the word of its line.
 pub fn limit_word(kind: LimitKind) -> &'static str
     ensures { result.now ≡ limit_word kind }
 {

@@ -6,18 +6,21 @@ ghost use Rattle.qs_sexpr.specs.Bytes.{starts_number, starts_symbol};
 
 use qs_base::{is_digit, is_letter};
 
+/// Whether the byte is a blank, a tab, 0x0D or 0x0A.
 pub fn is_space(byte: u8) -> bool
     ensures { result ≡ is_space byte }
 {
     byte == b' ' || byte == b'\t' || byte == b'\r' || byte == b'\n'
 }
 
+/// Whether a number may begin with the byte: a digit or `-`.
 pub fn starts_number(byte: u8) -> bool
     ensures { result ≡ starts_number byte }
 {
     is_digit(byte) || byte == b'-'
 }
 
+/// Whether a symbol may begin with the byte: a letter, `_` or `$`.
 pub fn starts_symbol(byte: u8) -> bool
     ensures { result ≡ starts_symbol byte }
 {
@@ -30,6 +33,7 @@ fn is_symbol_byte(byte: u8) -> bool
     starts_symbol(byte) || is_digit(byte) || byte == b'#'
 }
 
+/// Whether the byte may stand in an atom: a letter, `_`, `$`, a digit, `#` or `-`.
 pub fn is_atom_byte(byte: u8) -> bool
     ensures { result ≡ is_atom_byte byte }
 {

@@ -27,6 +27,7 @@ impl Reader {
     ghost use Rattle.qs_sexpr.specs.Readers.{AddsAtMostOneNode, Begins, Ends, Holds, IsDepth};
     ghost use Rattle.qs_sexpr.specs.Readers.{IsReader, Puts};
 
+    /// No nodes so far, and no list is open.
     pub fn new(alloc: Global) -> Reader
         ensures holds { Holds result [] [] }
         ensures few { length result.nodes.items ≡ 0 }

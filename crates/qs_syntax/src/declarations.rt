@@ -180,6 +180,7 @@ fn same_variables(a: &[Variable], b: &[Variable]) -> bool
     a.len() == b.len()
 }
 
+/// Whether the two are the same declaration: also the numbers and the tokens of their nodes.
 pub fn same_declaration(a: &Declaration, b: &Declaration) -> bool
     ensures { result ≡ same_declaration (declaration_tree a.now) (declaration_tree b.now) }
 {
@@ -196,6 +197,7 @@ fn same_name(a: &Option<Name>, b: &Option<Name>) -> bool
     }
 }
 
+/// Whether the two are the same parameter: also the numbers and the tokens of nodes.
 pub fn same_parameter(a: &Parameter, b: &Parameter) -> bool
     ensures { result ≡ same_parameter (parameter_tree a.now) (parameter_tree b.now) }
 {
@@ -216,6 +218,7 @@ fn same_declarators(a: &[Declarator], b: &[Declarator]) -> bool
     a.len() == b.len()
 }
 
+/// Whether the two declare the same members: also the numbers and the tokens of their nodes.
 pub fn same_members(a: &Members, b: &Members) -> bool
     ensures { result ≡ same_members (members_tree a.now) (members_tree b.now) }
 {
@@ -294,6 +297,7 @@ fn copy_variable(alloc: Global, from: &Variable) -> Result<Variable, NoMemory>
     })
 }
 
+/// A copy of a declaration, with the same numbers and tokens of its nodes.
 pub fn copy_declaration(alloc: Global, from: &Declaration) -> Result<Declaration, NoMemory>
     ensures { IfOk result (λ to. declaration_tree to ≡ declaration_tree from.now) }
 {
@@ -316,6 +320,7 @@ fn copy_name(alloc: Global, name: &Option<Name>) -> Result<Option<Name>, NoMemor
     }
 }
 
+/// A copy of a parameter, with the same numbers and tokens of its nodes.
 pub fn copy_parameter(alloc: Global, from: &Parameter) -> Result<Parameter, NoMemory>
     ensures { IfOk result (λ to. parameter_tree to ≡ parameter_tree from.now) }
 {
@@ -327,6 +332,7 @@ pub fn copy_parameter(alloc: Global, from: &Parameter) -> Result<Parameter, NoMe
     })
 }
 
+/// A copy of members that are declared together, with the same numbers and tokens of their nodes.
 pub fn copy_members(alloc: Global, from: &Members) -> Result<Members, NoMemory>
     ensures { IfOk result (λ to. members_tree to ≡ members_tree from.now) }
 {
@@ -452,6 +458,8 @@ fn number_variable(variable: &mut Variable, tokens: &mut Vec<u32>) -> Result<(),
     number_option(&mut variable.initialiser, tokens)
 }
 
+/// Numbers the nodes of a declaration, where `tokens` has the token of each node before it; theirs
+/// are put behind.
 #[tactic(auto, using(crate::proofs::NumberingLoops::numbering))]
 pub fn number_declaration(
     declaration: &mut Declaration,
@@ -493,6 +501,8 @@ fn number_variables(variables: &mut [Variable], tokens: &mut Vec<u32>) -> Result
     Ok(())
 }
 
+/// Numbers the nodes of a parameter, where `tokens` has the token of each node before it; theirs
+/// are put behind.
 #[tactic(auto, using(crate::proofs::NumberingLoops::numbering))]
 pub fn number_parameter(parameter: &mut Parameter, tokens: &mut Vec<u32>) -> Result<(), NoMemory>
     requires { HasRoom parameters tokens.old parameter.old }
@@ -504,6 +514,8 @@ pub fn number_parameter(parameter: &mut Parameter, tokens: &mut Vec<u32>) -> Res
     number_lengths(&mut parameter.lengths, tokens)
 }
 
+/// Numbers the nodes of members that are declared together, where `tokens` has the token of each
+/// node before them; theirs are put behind.
 #[tactic(auto, using(crate::proofs::NumberingLoops::numbering))]
 pub fn number_members(members: &mut Members, tokens: &mut Vec<u32>) -> Result<(), NoMemory>
     requires { HasRoom member_groups tokens.old members.old }

@@ -180,6 +180,7 @@ fn same_access(a: Access, b: Access) -> bool
     a == b
 }
 
+/// Whether the two are the same expression: also the numbers and the tokens of their nodes.
 #[cycle(same_expr)]
 pub fn same_expr(a: &Expr, b: &Expr) -> bool
     ensures { result ≡ same_expr (expr_tree a.now) (expr_tree b.now) }
@@ -255,6 +256,7 @@ fn same_shape(a: &Shape, b: &Shape) -> bool
     }
 }
 
+/// Whether the two lists are as long and have the same expressions in the same order.
 #[cycle(same_expr)]
 pub fn same_exprs(a: &[Expr], b: &[Expr]) -> bool
     ensures { result ≡ same_exprs (exprs_tree a.now) (exprs_tree b.now) }
@@ -269,6 +271,7 @@ pub fn same_exprs(a: &[Expr], b: &[Expr]) -> bool
 
 // ---- copies
 
+/// A copy of an expression, with the same numbers and tokens of its nodes.
 #[cycle(copy_expr)]
 pub fn copy_expr(alloc: Global, e: &Expr) -> Result<Expr, NoMemory>
     ensures { IfOk result (λ to. expr_tree to ≡ expr_tree e.now) }
@@ -349,6 +352,7 @@ fn copy_shape(alloc: Global, shape: &Shape) -> Result<Shape, NoMemory>
     }
 }
 
+/// Copies of expressions, in their order.
 #[cycle(copy_expr)]
 pub fn copy_exprs(alloc: Global, from: &[Expr]) -> Result<Vec<Expr>, NoMemory>
     ensures { IfOk result (λ to. map expr_tree to.items ≡ map expr_tree from.now) }

@@ -160,6 +160,7 @@ fn same_start(a: &Start, b: &Start) -> bool
     }
 }
 
+/// Whether the two are the same statement: also the numbers and the tokens of nodes in them.
 #[cycle(same_stmt)]
 pub fn same_stmt(a: &Stmt, b: &Stmt) -> bool
     ensures { result ≡ same_stmt (stmt_tree a.now) (stmt_tree b.now) }
@@ -247,6 +248,7 @@ fn same_else(a: &Option<Box<Stmt>>, b: &Option<Box<Stmt>>) -> bool
     }
 }
 
+/// Whether the two lists are as long and have the same statements in the same order.
 #[cycle(same_stmt)]
 pub fn same_stmts(a: &[Stmt], b: &[Stmt]) -> bool
     ensures { result ≡ same_stmts (stmts_tree a.now) (stmts_tree b.now) }
@@ -355,6 +357,7 @@ fn copy_else(alloc: Global, from: &Option<Box<Stmt>>) -> Result<Option<Box<Stmt>
     }
 }
 
+/// Copies of statements, in their order, with the same numbers and tokens of their nodes.
 #[cycle(copy_stmt)]
 pub fn copy_stmts(alloc: Global, from: &[Stmt]) -> Result<Vec<Stmt>, NoMemory>
     ensures { IfOk result (λ to. map stmt_tree to.items ≡ map stmt_tree from.now) }
@@ -510,6 +513,8 @@ fn number_items(items: Vec<Stmt>, tokens: &mut Vec<u32>) -> Result<Vec<Stmt>, No
     Ok(items)
 }
 
+/// Numbers the nodes of statements, in their order, where `tokens` has the token of each node
+/// before them; theirs are put behind.
 #[cycle(number_stmt)]
 #[tactic(auto, using(crate::proofs::NumberingLoops::numbering))]
 pub fn number_stmts(items: &mut [Stmt], tokens: &mut Vec<u32>) -> Result<(), NoMemory>

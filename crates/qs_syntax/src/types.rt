@@ -56,6 +56,7 @@ impl TypeName {
     }
 }
 
+/// Whether the two are the same: of structs, whether the tags are.
 pub fn same_base(a: &Base, b: &Base) -> bool
     ensures { result ≡ same_base a.now b.now }
 {
@@ -69,6 +70,7 @@ pub fn same_base(a: &Base, b: &Base) -> bool
     }
 }
 
+/// Whether the two names of types begin with the same and have as many stars.
 pub fn same_type(a: &TypeName, b: &TypeName) -> bool
     ensures { result ≡ same_type a.now b.now }
 {

@@ -145,6 +145,7 @@ fn same_decl(a: &Decl, b: &Decl) -> bool
     }
 }
 
+/// Whether the two lists are as long and have the same declarations of a unit in the same order.
 pub fn same_decls(a: &[Decl], b: &[Decl]) -> bool
     ensures { result ≡ same_unit (map decl_tree a.now) (map decl_tree b.now) }
 {
@@ -217,6 +218,8 @@ fn copy_decl(alloc: Global, from: &Decl) -> Result<Decl, NoMemory>
     }
 }
 
+/// Copies of the declarations of a unit, in their order, with the same numbers and tokens of their
+/// nodes.
 pub fn copy_decls(alloc: Global, from: &[Decl]) -> Result<Vec<Decl>, NoMemory>
     ensures { IfOk result (λ to. map decl_tree to.items ≡ map decl_tree from.now) }
 {

@@ -200,6 +200,7 @@ impl Noted {
     }
 }
 
+/// The first of the two that is there.
 pub fn or_else(first: Option<u32>, other: Option<u32>) -> Option<u32>
     ensures { result ≡ option_or first other }
 {

@@ -31,6 +31,7 @@ impl MembersBefore {
         }
     }
 
+    /// Whether a member of this name stands before, also one without type.
     pub fn has_name(&self, name: &Name) -> bool
         ensures { result ≡ rules.is_name_in name.now (before_tree self.now).names }
     {

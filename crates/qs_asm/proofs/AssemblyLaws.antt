@@ -1,6 +1,7 @@
 -- What is assembled lies as its items do.
 use Rattle.std.proofs.Common.{◌≡◌, inr, ℕ, suc, ◌+◌, ◌-◌, ◌*◌, ◌%◌, ◌^◌, true, false, Bool, List, [], ◌∷◌, ◌++◌, length, map, Option, Some, None, refl, sym, ap, subst, ◌∙◌, append_assoc, arith}
 use Rattle.std.specs.Prelude.{◌==◌, if◌then◌else◌, unwrap_or}
+use Rattle.std.specs.Option.{option_or}
 use Rattle.std.proofs.lemmas.Bool.{eqb-true}
 use Rattle.std.proofs.Math.Path.{fun_ext}
 use Rattle.qs_base.specs.Words.{sub}
@@ -11,25 +12,25 @@ use Rattle.qs_isa.specs.Table.{decode_of}
 use Rattle.qs_asm.specs.declared.item.Item.{Item}
 use Rattle.qs_asm.specs.declared.item.Item.TheVariants.{Plain, Label, Jump, Branch}
 use Rattle.qs_asm.specs.Items.{inverse, Lays}
-use Rattle.qs_asm.specs.Assembly.{item_bytes, label_of, or_before, label_among, Notes, is_reached, distance_to, jump_code, branch_code, label_code, item_code, before, joined, code_from, assembled, label_offset, AreOffsets, HasWords, IsAssembly}
+use Rattle.qs_asm.specs.Assembly.{item_bytes, label_of, label_among, Notes, is_reached, distance_to, jump_code, branch_code, label_code, item_code, before, joined, code_from, assembled, label_offset, AreOffsets, HasWords, IsAssembly}
 
 -- ---- labels
 
 -- the labels so far and those of the rest are all
 pub record GivesLabels (labels : ℕ → Option ℕ) (from : ℕ) (rest items : List Item) : Type 0 where
-  pub each : (l : ℕ) → or_before (label_among from rest l) (labels l) ≡ label_among 0 items l
+  pub each : (l : ℕ) → option_or (label_among from rest l) (labels l) ≡ label_among 0 items l
 
-or_none : (a : Option ℕ) → or_before a None ≡ a
+or_none : (a : Option ℕ) → option_or a None ≡ a
 or_none None = refl
 or_none (Some place) = refl
 
-or_assoc : (a b c : Option ℕ) → or_before a (or_before b c) ≡ or_before (or_before a b) c
+or_assoc : (a b c : Option ℕ) → option_or a (option_or b c) ≡ option_or (option_or a b) c
 or_assoc None b c = refl
 or_assoc (Some place) b c = refl
 
 pub labels_start : (labels : ℕ → Option ℕ) (items : List Item) → ((l : ℕ) → labels l ≡ None) → GivesLabels labels 0 items items
 labels_start labels items none = record {
-  each = λ l. ap (or_before (label_among 0 items l)) (none l) ∙ or_none (label_among 0 items l);
+  each = λ l. ap (option_or (label_among 0 items l)) (none l) ∙ or_none (label_among 0 items l);
 }
 
 pub labels_go_on :
@@ -37,7 +38,7 @@ pub labels_go_on :
     → Notes old new from i → GivesLabels old from (i ∷ rest) items → GivesLabels new (from + item_bytes i) rest items
 labels_go_on old new from i rest items notes h = record {
   each = λ l.
-      ap (or_before (label_among (from + item_bytes i) rest l)) (notes.each l)
+      ap (option_or (label_among (from + item_bytes i) rest l)) (notes.each l)
       ∙ (or_assoc (label_among (from + item_bytes i) rest l) (label_of from i l) (old l) ∙ h.each l);
 }
 

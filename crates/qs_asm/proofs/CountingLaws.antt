@@ -1,6 +1,7 @@
 -- Items whose labels count up have an assembly.
 use Rattle.std.proofs.Common.{◌≡◌, ◌⊎◌, inl, inr, ℕ, ◌+◌, ◌-◌, ◌*◌, ◌%◌, ◌^◌, ◌<◌, ◌≤◌, true, false, Bool, List, [], ◌∷◌, ◌++◌, Option, Some, None, refl, sym, ap, subst, ◌∙◌, arith}
 use Rattle.std.specs.Prelude.{◌==◌, ◌&&◌, nat_lt, if◌then◌else◌, sum_by}
+use Rattle.std.specs.Option.{option_or}
 use Rattle.std.proofs.lemmas.List.Sums.{sum_by-cons}
 use Rattle.qs_base.specs.Words.{sub}
 use Rattle.qs_isa.specs.declared.instruction.Instr.{Instr}
@@ -8,7 +9,7 @@ use Rattle.qs_isa.specs.declared.instruction.BranchKind.{BranchKind}
 use Rattle.qs_asm.specs.declared.item.Item.{Item}
 use Rattle.qs_asm.specs.declared.item.Item.TheVariants.{Plain, Label, Jump, Branch}
 use Rattle.qs_asm.specs.Items.{item_words}
-use Rattle.qs_asm.specs.Assembly.{or_before, label_among, is_reached, distance_to, jump_code, branch_code, label_code, joined, code_from, label_offset}
+use Rattle.qs_asm.specs.Assembly.{label_among, is_reached, distance_to, jump_code, branch_code, label_code, joined, code_from, label_offset}
 use Rattle.qs_asm.specs.Counting.{CountUp, LeadBelow, CountedItemsAreAssembled}
 
 -- ---- numbers
@@ -54,26 +55,26 @@ ahead_or_back k j = grind arith
 
 -- ---- where labels stand
 
-no_number : (a : Option ℕ) → or_before a None ≡ a
+no_number : (a : Option ℕ) → option_or a None ≡ a
 no_number None = refl
 no_number (Some place) = refl
 
-found : (a b : Option ℕ) (place : ℕ) → a ≡ Some place → or_before a b ≡ Some place
-found a b place h = ap (λ x. or_before x b) h
+found : (a b : Option ℕ) (place : ℕ) → a ≡ Some place → option_or a b ≡ Some place
+found a b place h = ap (λ x. option_or x b) h
 
 -- a label below those of the items stands nowhere among them
 none_below :
     (from first end l : ℕ) (items : List Item) → CountUp first items end → l < first → label_among from items l ≡ None
 none_below from first end l [] h e = refl
-none_below from first end l (Plain i ∷ items) h e = ap (λ x. or_before x None) (none_below (from + 4) first end l items h e)
+none_below from first end l (Plain i ∷ items) h e = ap (λ x. option_or x None) (none_below (from + 4) first end l items h e)
 none_below from first end l (Label k ∷ items) h e =
     let lower : l < first + 1 = omega (arith, e) in
     let is : k ≡ first = h.0 in
     let less : l < k = omega (arith, e, is) in
-    ap (λ x. or_before x (if k == l then Some from else None)) (none_below (from + 0) (first + 1) end l items h.1 lower)
+    ap (λ x. option_or x (if k == l then Some from else None)) (none_below (from + 0) (first + 1) end l items h.1 lower)
     ∙ ap (λ (z : Bool). if z then Some from else None) (other_number k l less)
-none_below from first end l (Jump rd k ∷ items) h e = ap (λ x. or_before x None) (none_below (from + 4) first end l items h e)
-none_below from first end l (Branch kind a b k ∷ items) h e = ap (λ x. or_before x None) (none_below (from + 8) first end l items h e)
+none_below from first end l (Jump rd k ∷ items) h e = ap (λ x. option_or x None) (none_below (from + 4) first end l items h e)
+none_below from first end l (Branch kind a b k ∷ items) h e = ap (λ x. option_or x None) (none_below (from + 8) first end l items h e)
 
 -- each of theirs stands behind some of their words
 record Stands (from : ℕ) (items : List Item) (l : ℕ) : Type 0 where
@@ -83,7 +84,7 @@ record Stands (from : ℕ) (items : List Item) (l : ℕ) : Type 0 where
 
 stands_behind :
     (from more : ℕ) (items all : List Item) (l : ℕ) (own : Option ℕ) → sum_by item_words all ≡ more + sum_by item_words items
-    → label_among from all l ≡ or_before (label_among (from + 4 * more) items l) own
+    → label_among from all l ≡ option_or (label_among (from + 4 * more) items l) own
     → Stands (from + 4 * more) items l → Stands from all l
 stands_behind from more items all l own sum is s =
     let there : from + 4 * more + 4 * s.words ≡ from + 4 * (more + s.words) = omega arith in
@@ -93,10 +94,10 @@ stands_behind from more items all l own sum is s =
       few = omega (arith, sum, s.few);
     }
 
-itself : (k l from : ℕ) (a : Option ℕ) → a ≡ None → k ≡ l → or_before a (if k == l then Some from else None) ≡ Some (from + 4 * 0)
+itself : (k l from : ℕ) (a : Option ℕ) → a ≡ None → k ≡ l → option_or a (if k == l then Some from else None) ≡ Some (from + 4 * 0)
 itself k l from a none e =
     let there : from ≡ from + 4 * 0 = omega arith in
-    ap (λ x. or_before x (if k == l then Some from else None)) none
+    ap (λ x. option_or x (if k == l then Some from else None)) none
     ∙ (ap (λ (z : Bool). if z then Some from else None) (same_number k l e) ∙ ap Some there)
 
 stands :
@@ -165,7 +166,7 @@ label_has place from h = record {
 
 agree_behind :
     (labels : ℕ → Option ℕ) (from next first end : ℕ) (items all : List Item)
-    → ((l : ℕ) → label_among from all l ≡ or_before (label_among next items l) None)
+    → ((l : ℕ) → label_among from all l ≡ option_or (label_among next items l) None)
     → AgreeWith labels from first end all → AgreeWith labels next first end items
 agree_behind labels from next first end items all is h l e g = h l e g ∙ (is l ∙ no_number (label_among next items l))
 

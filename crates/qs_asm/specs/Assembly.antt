@@ -1,5 +1,6 @@
 -- The words of items: each branch stands turned round over a jump, so that where a label stands depends on no distance.
 use Rattle.std.specs.Prelude.{◌≡◌, ℕ, ◌+◌, ◌*◌, ◌%◌, ◌^◌, ◌==◌, ◌&&◌, nat_eq, nat_lt, Bool, if◌then◌else◌, List, [], ◌∷◌, ◌++◌, length, map, Option, Some, None, unwrap_or}
+use Rattle.std.specs.Option.{option_or}
 use Rattle.std.specs.HashMap.{HashMap, get}
 use Rattle.std.specs.declared.alloc.Global.{Global}
 use Rattle.std.specs.declared.vec.Vec.{Vec}
@@ -33,18 +34,14 @@ label_of from (Label k) l = if k == l then Some from else None
 label_of from (Jump rd k) l = None
 label_of from (Branch kind a b k) l = None
 
-abbrev pub or_before : (later earlier : Option ℕ) → Option ℕ
-or_before None earlier = earlier
-or_before (Some place) earlier = Some place
-
 -- where the label stands last among items that lie from here on
 abbrev pub label_among : (from : ℕ) → List Item → (l : ℕ) → Option ℕ
 label_among from [] l = None
-label_among from (i ∷ items) l = or_before (label_among (from + item_bytes i) items l) (label_of from i l)
+label_among from (i ∷ items) l = option_or (label_among (from + item_bytes i) items l) (label_of from i l)
 
 -- labels as they are known with those of an item too
 pub record Notes (old new : ℕ → Option ℕ) (from : ℕ) (i : Item) : Type 0 where
-  pub each : (l : ℕ) → new l ≡ or_before (label_of from i l) (old l)
+  pub each : (l : ℕ) → new l ≡ option_or (label_of from i l) (old l)
 
 -- the bytes before the label
 abbrev pub label_offset : List Item → (l : ℕ) → Option ℕ
@@ -113,6 +110,9 @@ joined (Some code) rest = before code rest
 abbrev pub code_from : (labels : ℕ → Option ℕ) → (from : ℕ) → List Item → Option (List Instr)
 code_from labels from [] = Some []
 code_from labels from (i ∷ items) = joined (item_code labels from i) (code_from labels (from + item_bytes i) items)
+
+abbrev pub code_by : {S : Type 0} → HashMap ℕ ℕ S → List Item → Option (List Instr)
+code_by labels items = code_from (places labels) 0 items
 
 abbrev pub assembled : List Item → Option (List Instr)
 assembled items = code_from (label_offset items) 0 items

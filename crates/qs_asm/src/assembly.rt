@@ -131,8 +131,8 @@ fn put_item(
 
 #[tactic(auto, using(crate::proofs::AssemblyLaws::code_goes_on))]
 fn instructions(alloc: Global, labels: &Labels, items: &[Item]) -> Result<Vec<Instr>, AssemblyFault>
-    ensures ok { IfOk result (spec.IsCode (spec.code_from (places labels.now) 0 items.now)) }
-    ensures fault { IfErr result (spec.BadLabelIsNoCode (spec.code_from (places labels.now) 0 items.now)) }
+    ensures ok { IfOk result (spec.IsCode (spec.code_by labels.now items.now)) }
+    ensures fault { IfErr result (spec.BadLabelIsNoCode (spec.code_by labels.now items.now)) }
 {
     let mut code = Vec::new(alloc);
     let mut from = 0;

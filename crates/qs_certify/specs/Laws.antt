@@ -8,6 +8,7 @@ use Rattle.qs_core.specs.Fits.{unit_fits}
 use Rattle.qs_core.specs.Trees.{CoreUnitTree}
 use Rattle.qs_core.specs.Units.{main_run}
 use Rattle.qs_nesting.specs.Nesting.{unit_nesting}
+use Rattle.qs_sexpr.specs.Reading.{depth_limit}
 use Rattle.qs_prooftext.specs.Reading.{Fault}
 use Rattle.qs_prooftext.specs.Writable.{IsWritable}
 use Rattle.qs_prooftext.specs.declared.fault.TextFault.{TextFault}
@@ -153,9 +154,10 @@ AllAreDerived =
 
 -- ---- what is written
 
--- Lists nest at most 1,024 deep: three of them hold the statements of a function, and a call is written as five more.
+-- Lists nest at most `depth_limit` deep: three of them hold the statements of a function, and a call is written as five
+-- more.
 abbrev pub nesting_limit : ℕ
-nesting_limit = 1024 - 8
+nesting_limit = depth_limit - 8
 
 -- Without a file what is certified can be written, where the unit has no more functions than a number of an atom can
 -- tell apart, and its statements nest little: as those of the core of each unit within limits do, by far.

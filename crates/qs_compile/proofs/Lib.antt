@@ -1,4 +1,4 @@
 pub mod SourceNames
 pub mod CoreNames
 pub mod UnitSizes
-pub mod Compiled
+pub mod CompiledLaws

@@ -8,7 +8,7 @@ use Rattle.qs_lexer.specs.Terminals.{terminals}
 use Rattle.qs_types.specs.Limits.{IsWithinLimits}
 use Rattle.qs_types.specs.WellTyped.{WellTyped}
 use Rattle.qs_compile.specs.Names.{HasRoomForNames}
-use Rattle.qs_compile.proofs.Compiled.{units_pass_no_size}
+use Rattle.qs_compile.proofs.CompiledLaws.{units_pass_no_size}
 use Rattle.qs_compile.proofs.SourceNames.{names_are_of_the_text}
 use Rattle.qs_driver.specs.Limits.{source_limit}
 use Rattle.qs_driver.specs.Sizes.{SourcesPassNoSize}

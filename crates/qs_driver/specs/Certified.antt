@@ -72,11 +72,6 @@ certify_words source proof = record { source = source; proof = proof }
 abbrev pub words_in : CertifyOrder → CertifyWords
 words_in order = certify_words order.source.now (name_in order.proof)
 
--- the name of the proof file, and nothing where none is named
-abbrev pub proof_name : Option (List ℕ) → List ℕ
-proof_name None = []
-proof_name (Some name) = name
-
 -- ---- what is certified
 
 -- A unit, its core, the proofs that the file gives, and all proofs.

@@ -1,5 +1,5 @@
 -- The files that a command names.
-use Rattle.std.specs.Prelude.{ℕ, List, [], Option, option_map}
+use Rattle.std.specs.Prelude.{ℕ, List, [], Option, Some, None, option_map}
 use Rattle.std.specs.Borrow.{Bor}
 use Rattle.qs_driver.specs.declared.names.FileNames.{FileNames}
 use Rattle.qs_driver.specs.declared.status.FileKind.{FileKind}
@@ -15,6 +15,15 @@ pub record Names : Type 0 where
 
 abbrev pub no_names : Names
 no_names = record { source = []; derivation = []; image = []; input = []; output = [] }
+
+-- the name that is given, and an empty one where none is
+abbrev pub or_empty : Option (List ℕ) → List ℕ
+or_empty None = []
+or_empty (Some name) = name
+
+-- those of a source, and of its proof file where one is named
+abbrev pub certified_names : (source : List ℕ) → (proof : Option (List ℕ)) → Names
+certified_names source proof = record no_names { source = source; derivation = or_empty proof }
 
 abbrev pub file_name : Names → FileKind → List ℕ
 file_name names Source = names.source

@@ -17,7 +17,7 @@ use Rattle.qs_machine.specs.declared.answers.RunEnd.{RunEnd}
 use Rattle.qs_machine.specs.declared.answers.RunEnd.TheVariants as end
 use Rattle.qs_report.specs.Lines.{end_line}
 use Rattle.qs_driver.specs.Limits.{input_limit}
-use Rattle.qs_driver.specs.Names.{Names, no_names, name_in}
+use Rattle.qs_driver.specs.Names.{Names, no_names, or_empty, name_in}
 use Rattle.qs_driver.specs.Faults.{status_line}
 use Rattle.qs_driver.specs.Due.{EndsWith}
 use Rattle.qs_driver.specs.Files.{IsUntouched, HoldsContent, WasReadAs, ReadsFile}
@@ -46,12 +46,8 @@ abbrev pub words_in : RunOrder → RunWords
 words_in order =
     run_words order.image.now order.stack order.args.now (name_in order.input) order.steps
 
-abbrev pub input_name : Option (List ℕ) → List ℕ
-input_name None = []
-input_name (Some name) = name
-
 abbrev pub names_of : RunWords → Names
-names_of r = record no_names { image = r.image; input = input_name r.input }
+names_of r = record no_names { image = r.image; input = or_empty r.input }
 
 -- ---- what a run takes
 

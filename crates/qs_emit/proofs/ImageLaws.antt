@@ -18,7 +18,7 @@ use Rattle.qs_emit.specs.Started.{HasRoom, StartsTo}
 use Rattle.qs_emit.specs.Images.{IsFirstMemory, AreCosts, IsImageOf, IsWithinLimits}
 use Rattle.qs_emit.specs.Emitted.{start_run, IsInteger, MayStart, FollowsFrom, ImagesFollow}
 use Rattle.qs_emit.proofs.WatchLaws.{least_is_least, watching_refines}
-use Rattle.qs_emit.proofs.Started.{emitted_code_follows_from_start}
+use Rattle.qs_emit.proofs.StartedLaws.{emitted_code_follows_from_start}
 use Rattle.qs_emit.proofs.Costs.{tac_run_weighs}
 use Rattle.qs_emit.proofs.Agreement.{Reaches, agrees, accounts}
 use Rattle.qs_emit.proofs.Roots.{same_costs, functions_follow}

@@ -29,7 +29,7 @@ pub mod Calls
 pub mod Simulation
 pub mod RootLaws
 pub mod Sample
-pub mod Started
+pub mod StartedLaws
 pub mod Agreement
 pub mod Costs
 pub mod DataBytes

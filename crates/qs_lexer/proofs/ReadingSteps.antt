@@ -5,7 +5,7 @@ use Rattle.qs_lexer.specs.Literals.{character_of, text_of}
 use Rattle.qs_lexer.specs.Numbers.{number_of}
 use Rattle.qs_lexer.specs.Pieces.{Stands, Next, class_of, has_form, piece_of, piece_without, token_or_fault, is_punctuator}
 use Rattle.qs_lexer.specs.Results.{SaysFault, fault_at}
-use Rattle.qs_lexer.specs.Tokens.{ReadsTo, start, white_space, token, token_at, Tokens, LexFaultAt}
+use Rattle.qs_lexer.specs.Tokens.{ReadsTo, start, white_space, token, token_at, LexFaultAt}
 use Rattle.qs_lexer.specs.Words.{punctuator_with, word_of}
 use Rattle.qs_syntax.specs.Punctuators.{punctuator_of}
 use Rattle.qs_lexer.specs.declared.fault.FaultKind.{FaultKind}
@@ -159,6 +159,3 @@ pub steps_move : (text rest : List ℕ) (f : Bool) (at : ℕ) (x y : Piece) → 
 steps_move text rest f at x y d h e =
     let P : ℕ → Type 0 = λ k. Moves k y in
     subst P (length-drop at text) (next_moves f (drop at text) y (stepped text rest f at x y d h e))
-
-pub ends : (text : List ℕ) (ts : List Token) (f : Bool) (at : ℕ) → ReadsTo text ts f at → at ≡ length text → Tokens text ts
-ends text ts f at r e = let P : ℕ → Type 0 = λ k. ReadsTo text ts f k in record { fresh = f; reads = subst P e r }

@@ -353,10 +353,7 @@ fn after_for(
 {
     let rest = expect(Punctuator::OpenParenthesis, tokens)?;
     let (start, height, rest) = start_of(context, rest)?;
-    let (turn, high, rest) = match turn_of(context, rest) {
-        Ok(read) => read,
-        Err(halt) => return Err(halt),
-    };
+    let (turn, high, rest) = turn_of(context, rest)?;
     let Turn {
         condition,
         step,

@@ -12,8 +12,6 @@ mod pieces;
 mod reader;
 mod reading;
 mod sizes;
-#[cfg(test)]
-mod tests;
 mod token;
 mod writing;
 

@@ -27,8 +27,32 @@ const IMAGE: [u8; 96] = [
 
 const SOURCE: &str = "int main(void){putchar(33);return 0;}\n";
 
-// What standard output and standard error get stands in files too. The names are those of this process, in the system's
-// folder for such files.
+// The statuses of builds, each from a file to another. What standard output and standard error get
+// stands in files too.
+fn statuses(
+    rt: &HostRuntime,
+    builds: &[(&str, &str)],
+    out: &str,
+    log: &str,
+) -> Result<Vec<u8>, Fail> {
+    let alloc = rt.alloc();
+    let mut store = DirStore::new(rt.clone()?);
+    let mut lines = StdSink::new(File::create(rt, out)?);
+    let mut faults = StdSink::new(File::create(rt, log)?);
+    let mut statuses = Vec::new(alloc);
+    for (from, to) in builds {
+        let words = words_of(alloc, from, to)?;
+        let devices = Devices {
+            store: &mut store,
+            out: &mut lines,
+            log: &mut faults,
+        };
+        statuses.push(run_tool(alloc, &words, devices).code())?;
+    }
+    Ok(statuses)
+}
+
+// The names are those of this process, in the system's folder for such files.
 #[test]
 fn real_files(rt: HostRuntime) -> Result<(), Fail> {
     let alloc = rt.alloc();
@@ -38,27 +62,17 @@ fn real_files(rt: HostRuntime) -> Result<(), Fail> {
     let out = format!(in alloc; "/tmp/qsc_test_{id}.out")?;
     let log = format!(in alloc; "/tmp/qsc_test_{id}.log")?;
     fs::write(&rt, source.as_str(), SOURCE)?;
-    let mut store = DirStore::new(rt.clone()?);
-    let mut lines = StdSink::new(File::create(&rt, out.as_str())?);
-    let mut faults = StdSink::new(File::create(&rt, log.as_str())?);
-    for (from, to, code) in [
-        (source.as_str(), image.as_str(), 0),
-        (image.as_str(), source.as_str(), 1),
-        ("/tmp/qsc_test_no_such_file.c", image.as_str(), 4),
-        ("/tmp", image.as_str(), 5),
-        (source.as_str(), "/tmp", 5),
-        (source.as_str(), "/dev/full", 5),
-        (source.as_str(), source.as_str(), 3),
-    ] {
-        let words = words_of(alloc, from, to)?;
-        let devices = Devices {
-            store: &mut store,
-            out: &mut lines,
-            log: &mut faults,
-        };
-        let ended = run_tool(alloc, &words, devices);
-        assert_eq!(rt; ended.code(), code);
-    }
+    let builds = [
+        (source.as_str(), image.as_str()),
+        (image.as_str(), source.as_str()),
+        ("/tmp/qsc_test_no_such_file.c", image.as_str()),
+        ("/tmp", image.as_str()),
+        (source.as_str(), "/tmp"),
+        (source.as_str(), "/dev/full"),
+        (source.as_str(), source.as_str()),
+    ];
+    let statuses = statuses(&rt, builds.as_slice(), out.as_str(), log.as_str())?;
+    assert_eq!(rt; statuses.as_slice(), [0, 1, 4, 5, 5, 5, 3].as_slice());
     let told = format!(in alloc;
         "{image}:1:6: bad byte\nmissing: /tmp/qsc_test_no_such_file.c\nfailed: /tmp\n\
         failed: /tmp\nfailed: /dev/full\nsame name: {source}\n"

@@ -18,6 +18,8 @@ mod interrupted;
 #[cfg(test)]
 mod lines;
 #[cfg(test)]
+mod lists;
+#[cfg(test)]
 mod names;
 #[cfg(test)]
 mod polynomials;

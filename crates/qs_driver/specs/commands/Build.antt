@@ -3,12 +3,12 @@ use Rattle.std.specs.Prelude.{◌≡◌, ◌⊎◌, ◌↔◌, ℕ, List, [], �
 use Rattle.qs_ports.specs.StoreView.{StoreView, HasSameCounts, HasFailed}
 use Rattle.qs_ports.specs.Whole.{Stores, IsCutShort}
 use Rattle.qs_image.specs.Image.{Image, IsImage}
-use Rattle.qs_driver.specs.Names.{Names, no_names, name_in}
+use Rattle.qs_driver.specs.Names.{Names, no_names, or_empty, name_in}
 use Rattle.qs_driver.specs.Lines.{cost_lines}
 use Rattle.qs_driver.specs.Steps.{on_out}
 use Rattle.qs_driver.specs.Due.{Due, refusal, IsRefusal}
 use Rattle.qs_driver.specs.Files.{IsUntouched}
-use Rattle.qs_driver.specs.Certified.{CertifyWords, certify_words, proof_name, CertifiedSource, ReadsCertified, LacksCertified, HoldsRight, IsOfCertified, RefusesCertified}
+use Rattle.qs_driver.specs.Certified.{CertifyWords, certify_words, CertifiedSource, ReadsCertified, LacksCertified, HoldsRight, IsOfCertified, RefusesCertified}
 use Rattle.qs_driver.specs.Bounds.{IsImageOf}
 use Rattle.qs_driver.specs.Task.{Task}
 use Rattle.qs_driver.specs.declared.commands.build.BuildOrder.{BuildOrder}
@@ -37,7 +37,7 @@ abbrev pub inputs : BuildWords → CertifyWords
 inputs b = certify_words b.source b.proof
 
 abbrev pub names_of : BuildWords → Names
-names_of b = record no_names { source = b.source; derivation = proof_name b.proof; output = b.out }
+names_of b = record no_names { source = b.source; derivation = or_empty b.proof; output = b.out }
 
 -- the file that gets the image is one of those that are read
 abbrev pub NamesOneTwice : BuildWords → Type 0

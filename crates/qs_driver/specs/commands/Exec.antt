@@ -16,16 +16,16 @@ use Rattle.qs_emit.specs.Agree.{Begins, HasEndedWith, IsUndefinedWithin}
 use Rattle.qs_compile.specs.Agree.{IsInput}
 use Rattle.qs_report.specs.Lines.{bound_line, end_line}
 use Rattle.qs_report.specs.declared.fault_texts.Shown.TheVariants as shown
-use Rattle.qs_driver.specs.Names.{Names, no_names, name_in}
+use Rattle.qs_driver.specs.Names.{Names, no_names, or_empty, name_in}
 use Rattle.qs_driver.specs.Faults.{status_line}
 use Rattle.qs_driver.specs.Limits.{input_limit}
 use Rattle.qs_driver.specs.Steps.{on_out, on_log}
 use Rattle.qs_driver.specs.Due.{Due, IsRefusal}
 use Rattle.qs_driver.specs.Files.{IsUntouched, IsTooLong, CannotRead}
-use Rattle.qs_driver.specs.Certified.{certify_words, proof_name}
+use Rattle.qs_driver.specs.Certified.{certify_words}
 use Rattle.qs_driver.specs.Made.{MakeWords, make_words, IsMade, CannotMake, FitsMain, IsOfMade, RefusesMade}
 use Rattle.qs_driver.specs.Bounds.{seen_runs}
-use Rattle.qs_driver.specs.Starting.{RunWords, run_words, input_name, ReadInput, HasInput, IsNoStack, status_at}
+use Rattle.qs_driver.specs.Starting.{RunWords, run_words, ReadInput, HasInput, IsNoStack, status_at}
 use Rattle.qs_driver.specs.Task.{Task, Begun}
 use Rattle.qs_driver.specs.declared.commands.exec.ExecOrder.{ExecOrder}
 use Rattle.qs_driver.specs.declared.commands.exec.Started.{Started}
@@ -65,8 +65,8 @@ as_run e stack = run_words [] stack e.args e.input e.steps
 abbrev pub names_of : ExecWords → Names
 names_of e = record no_names {
   source = e.source;
-  derivation = proof_name e.proof;
-  input = input_name e.input;
+  derivation = or_empty e.proof;
+  input = or_empty e.input;
 }
 
 -- ---- what is due

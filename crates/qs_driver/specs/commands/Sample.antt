@@ -14,7 +14,7 @@ use Rattle.qs_report.specs.Lines.{bound_line, count_line, end_line}
 use Rattle.qs_report.specs.declared.fault_texts.Count.TheVariants.{Functions, Output}
 use Rattle.qs_report.specs.declared.fault_texts.Shown.TheVariants as shown
 use Rattle.qs_cli.specs.Numbers.{default_steps}
-use Rattle.qs_driver.specs.Names.{Names, no_names, name_in}
+use Rattle.qs_driver.specs.Names.{Names, no_names, or_empty, name_in}
 use Rattle.qs_driver.specs.Steps.{on_out}
 use Rattle.qs_driver.specs.Due.{Due, refusal, IsRefusal}
 use Rattle.qs_driver.specs.Files.{IsUntouched}
@@ -50,12 +50,8 @@ words_in order = sample_words order.count (name_in order.out)
 abbrev pub as_exec : ExecWords
 as_exec = exec_words [] None [] None default_steps
 
-abbrev pub out_name : Option (List ℕ) → List ℕ
-out_name None = []
-out_name (Some name) = name
-
 abbrev pub names_of : SampleWords → Names
-names_of w = record no_names { output = out_name w.out }
+names_of w = record no_names { output = or_empty w.out }
 
 -- ---- what is due
 

@@ -1,5 +1,5 @@
 use Rattle.qs_core.specs.UnitTrees.{unit_tree}
-use Rattle.qs_compile.proofs.Compiled.{typed_image}
+use Rattle.qs_compile.proofs.CompiledLaws.{typed_image}
 use Rattle.qs_compile.proofs.compiling.compile_unit.Goals as goal
 
 pub returns-in-Ok : goal.returns-in-Ok

@@ -1,4 +1,4 @@
-use Rattle.qs_emit.proofs.Started.{emitted_code_follows_from_start}
+use Rattle.qs_emit.proofs.StartedLaws.{emitted_code_follows_from_start}
 use Rattle.qs_emit.proofs.laws.emitted_code_follows_from_start.Goals as goal
 
 pub returns : goal.returns

@@ -1,4 +1,5 @@
 use Rattle.std.proofs.Common.{arith, rules}
+use Rattle.std.proofs.lemmas.Result.{err_from_is_err_and}
 use Rattle.qs_parser.proofs.CodeStatements.{for_ends, for_fails, item_steps}
 use Rattle.qs_parser.proofs.statements.+statement.Goals as goal
 
@@ -11,8 +12,10 @@ items-returns-clause-gives t c = grind (arith, item_steps)
 pub items-loop-preserved : goal.items-loop-preserved
 items-loop-preserved t c = record { same = grind (arith, item_steps); low = grind (arith, item_steps) }
 
-pub after_for-returns-in-Err-clause-gives : goal.after_for-returns-in-Err-clause-gives
-after_for-returns-in-Err-clause-gives t c = search (rules, for_fails, c.in_ok-rest.ensures, c.in_ok-start.ensures.gives, c.in-Err.ensures.gives)
+pub after_for-returns-in_err-turn-clause-gives : goal.after_for-returns-in_err-turn-clause-gives
+after_for-returns-in_err-turn-clause-gives t c =
+    let p = err_from_is_err_and c.from_residual-in_err-turn.result c.from_residual-in_err-turn.ensures.1 in
+    rw (p.1, p.2) (search (rules, for_fails, c.in_ok-rest.ensures, c.in_ok-start.ensures.gives, c.in_err-turn.ensures.gives))
 
 pub after_for-returns-clause-gives : goal.after_for-returns-clause-gives
-after_for-returns-clause-gives t c = search (rules, for_ends, c.in_ok-rest.ensures, c.in_ok-start.ensures.gives, c.in-Ok.ensures.gives, c.for_loop-node.ensures, c.max.ensures)
+after_for-returns-clause-gives t c = search (rules, for_ends, c.in_ok-rest.ensures, c.in_ok-start.ensures.gives, c.in_ok-turn.ensures.gives, c.for_loop-node.ensures, c.max.ensures)

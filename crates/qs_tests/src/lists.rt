@@ -1,6 +1,8 @@
-// That memory is found: small texts with their answers, and one of 16 MiB that nests as deep as it
-// may.
-use crate::{Item, Node, SexprFault, Token, first_part, parts_of_list, read, symbol_bytes, write};
+// Lists and atoms, that memory is found: small texts with their answers, and one of 16 MiB that
+// nests as deep as it may.
+use qs_sexpr::{
+    Item, Node, SexprFault, Token, first_part, parts_of_list, read, symbol_bytes, write,
+};
 use std::alloc::Global;
 use std::test::*;
 

@@ -1,6 +1,6 @@
--- The examples keep to the form of an image.
+-- Images by hand: the bytes of one with one word of code, and that the other keeps to the form of an image.
 use Rattle.std.proofs.Common.{◌≡◌, ℕ, ◌<◌, true, List, length, None, refl, sym, inl, inr, subst, arith}
-use Rattle.std.specs.Prelude.{nat_lt}
+use Rattle.std.specs.Prelude.{[], ◌∷◌, ◌++◌, codes, nat_lt}
 use Rattle.std.specs.List.{list_all}
 use Rattle.std.proofs.lemmas.Bool.{cases_lt, ltb-true}
 use Rattle.std.proofs.lemmas.List.{get_or_past}
@@ -13,6 +13,36 @@ use Rattle.qs_image.specs.Bytes.{number, words, records, lengths, image_of}
 use Rattle.qs_image.specs.Faults.{first_fault}
 use Rattle.qs_image.proofs.Words.{IsBytes, IsBytes-from}
 use Rattle.qs_image.proofs.Wholes.{is_image}
+
+-- main alone, which costs 16 bytes, in one word of code, 0, which is no instruction
+abbrev smallest : Image
+smallest = record {
+  entry = 65536;
+  parameters = 0;
+  unsigned_set = 0;
+  functions = record { name = codes "main"; address = 65536; cost = 16 } ∷ [];
+  code = 0 ∷ [];
+  bytes = [];
+}
+
+abbrev smallest_bytes : List ℕ
+smallest_bytes =
+    (81 ∷ 83 ∷ 73 ∷ 49 ∷ [])
+    ++ (1 ∷ 0 ∷ 0 ∷ 0 ∷ [])
+    ++ (0 ∷ 0 ∷ 0 ∷ 0 ∷ [])
+    ++ (1 ∷ 0 ∷ 0 ∷ 0 ∷ [])
+    ++ (4 ∷ 0 ∷ 0 ∷ 0 ∷ [])
+    ++ (0 ∷ 0 ∷ 1 ∷ 0 ∷ [])
+    ++ (0 ∷ 0 ∷ 0 ∷ 0 ∷ [])
+    ++ (0 ∷ 0 ∷ 0 ∷ 0 ∷ [])
+    ++ (4 ∷ 0 ∷ 0 ∷ 0 ∷ [])
+    ++ (0 ∷ 0 ∷ 1 ∷ 0 ∷ [])
+    ++ (16 ∷ 0 ∷ 0 ∷ 0 ∷ [])
+    ++ (109 ∷ 97 ∷ 105 ∷ 110 ∷ [])
+    ++ (0 ∷ 0 ∷ 0 ∷ 0 ∷ [])
+
+smallest-bytes : image_bytes smallest ≡ smallest_bytes
+smallest-bytes = refl
 
 all_bytes : (bytes : List ℕ) → list_all (λ b. nat_lt b 256) bytes ≡ true → IsBytes bytes
 all_bytes bytes e = IsBytes-from bytes (λ (i : ℕ).

@@ -6,7 +6,9 @@ use Rattle.std.proofs.lemmas.Bool.{cases_lt}
 use Rattle.std.proofs.Math.Seq.{take-add}
 use Rattle.byteorder.specs.Numbers.{little_number-reads_back, little_from-lt}
 use Rattle.qs_image.specs.Image.{word_bytes, words_bytes}
-use Rattle.qs_image.specs.Bytes.{number, word, words}
+use Rattle.qs_image.specs.declared.fault.HeaderWord.{HeaderWord}
+use Rattle.qs_image.specs.declared.fault.HeaderWord.TheVariants as header
+use Rattle.qs_image.specs.Bytes.{number, word, word_number, words}
 
 pub IsBytes : List ℕ → Type 0
 IsBytes bytes = (i : ℕ) → slice_index bytes i < 256
@@ -83,3 +85,12 @@ All-from_IsBytes bytes fits = All-from_get_or (λ b. b < 256) bytes 0 (λ i lt. 
 pub IsBytes-from : (bytes : List ℕ) → ((i : ℕ) → slice_index bytes i < 256) → IsBytes bytes
 unfolding IsBytes
 IsBytes-from bytes fits = fits
+
+-- the words of the header lie in its 32 bytes
+pub word_number-most : (name : HeaderWord) → word_number name ≤ 7
+word_number-most header.CodeCount = omega arith
+word_number-most header.ByteCount = omega arith
+word_number-most header.FunctionCount = omega arith
+word_number-most header.NamesLength = omega arith
+word_number-most header.Parameters = omega arith
+word_number-most header.UnsignedSet = omega arith

@@ -1,6 +1,8 @@
 -- What stands where in the bytes of an image.
 use Rattle.std.specs.Prelude.{ℕ, zero, suc, ◌+◌, ◌*◌, ◌/◌, List, [], ◌∷◌, length, take, drop}
 use Rattle.byteorder.specs.Endian.{little_number}
+use Rattle.qs_image.specs.declared.fault.HeaderWord.{HeaderWord}
+use Rattle.qs_image.specs.declared.fault.HeaderWord.TheVariants as header
 use Rattle.qs_image.specs.Image.{Image, FunctionRecord}
 
 -- the word in the first four bytes, the lowest first
@@ -11,36 +13,57 @@ number bytes = little_number 4 bytes
 abbrev pub word : ℕ → List ℕ → ℕ
 word w bytes = number (drop (4 * w) bytes)
 
+-- the number of a word of the header that has a range, its offset divided by 4
+abbrev pub word_number : HeaderWord → ℕ
+word_number header.CodeCount = 1
+word_number header.ByteCount = 2
+word_number header.FunctionCount = 3
+word_number header.NamesLength = 4
+word_number header.Parameters = 6
+word_number header.UnsignedSet = 7
+
+-- the number of the other word, the address of the first instruction to run
+abbrev pub entry_word : ℕ
+entry_word = 5
+
+-- a word of the header by its name
+abbrev pub header_word : HeaderWord → List ℕ → ℕ
+header_word name bytes = word (word_number name) bytes
+
 -- The counts of the header.
 abbrev pub code_count : List ℕ → ℕ
-code_count bytes = word 1 bytes
+code_count bytes = header_word header.CodeCount bytes
 
 abbrev pub byte_count : List ℕ → ℕ
-byte_count bytes = word 2 bytes
+byte_count bytes = header_word header.ByteCount bytes
 
 abbrev pub function_count : List ℕ → ℕ
-function_count bytes = word 3 bytes
+function_count bytes = header_word header.FunctionCount bytes
 
 abbrev pub names_length : List ℕ → ℕ
-names_length bytes = word 4 bytes
+names_length bytes = header_word header.NamesLength bytes
 
 -- the four bytes `QSI1` and seven words
 abbrev pub header_bytes : ℕ
 header_bytes = 32
 
+-- a record is three words
+abbrev pub record_bytes : ℕ
+record_bytes = 12
+
 -- how many bytes the counts ask for
 abbrev pub size : List ℕ → ℕ
-size bytes = header_bytes + 12 * function_count bytes + names_length bytes + 4 * code_count bytes + byte_count bytes
+size bytes = header_bytes + record_bytes * function_count bytes + names_length bytes + 4 * code_count bytes + byte_count bytes
 
 -- One after the other: the header, the table of records, the names, the code, the data.
 abbrev pub behind_header : List ℕ → List ℕ
 behind_header bytes = drop header_bytes bytes
 
 abbrev pub table_of : List ℕ → List ℕ
-table_of bytes = take (12 * function_count bytes) (behind_header bytes)
+table_of bytes = take (record_bytes * function_count bytes) (behind_header bytes)
 
 abbrev pub behind_table : List ℕ → List ℕ
-behind_table bytes = drop (12 * function_count bytes) (behind_header bytes)
+behind_table bytes = drop (record_bytes * function_count bytes) (behind_header bytes)
 
 abbrev pub names_of : List ℕ → List ℕ
 names_of bytes = take (names_length bytes) (behind_table bytes)
@@ -69,18 +92,18 @@ first_record table names = record { name = take (word 0 table) names; address = 
 -- so many records
 unfoldable pub records : ℕ → List ℕ → List ℕ → List FunctionRecord
 records zero table names = []
-records (suc n) table names = first_record table names ∷ records n (drop 12 table) (drop (word 0 table) names)
+records (suc n) table names = first_record table names ∷ records n (drop record_bytes table) (drop (word 0 table) names)
 
 abbrev pub records_of : List ℕ → List ℕ → List FunctionRecord
-records_of table names = records (length table / 12) table names
+records_of table names = records (length table / record_bytes) table names
 
 -- the lengths of names that so many records say
 unfoldable pub lengths : ℕ → List ℕ → List ℕ
 lengths zero table = []
-lengths (suc n) table = word 0 table ∷ lengths n (drop 12 table)
+lengths (suc n) table = word 0 table ∷ lengths n (drop record_bytes table)
 
 abbrev pub lengths_of : List ℕ → List ℕ
-lengths_of table = lengths (length table / 12) table
+lengths_of table = lengths (length table / record_bytes) table
 
 -- the image of these parts
 abbrev pub image_from : ℕ → ℕ → ℕ → List ℕ → List ℕ → List ℕ → List ℕ → Image
@@ -89,4 +112,4 @@ image_from entry parameters unsigned_set table names code data_bytes =
 
 -- What the bytes of an image say. Other bytes say something too, which is no image.
 abbrev pub image_of : List ℕ → Image
-image_of bytes = image_from (word 5 bytes) (word 6 bytes) (word 7 bytes) (table_of bytes) (names_of bytes) (code_of bytes) (data_of bytes)
+image_of bytes = image_from (word entry_word bytes) (header_word header.Parameters bytes) (header_word header.UnsignedSet bytes) (table_of bytes) (names_of bytes) (code_of bytes) (data_of bytes)

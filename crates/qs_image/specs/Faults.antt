@@ -4,13 +4,12 @@ use Rattle.std.specs.List.{list_all, list_any, position_from}
 use Rattle.qs_base.specs.Bytes.{is_between}
 use Rattle.qs_base.specs.Names.{is_name}
 use Rattle.qs_isa.specs.Addresses.{code_start}
-use Rattle.qs_image.specs.declared.fault.HeaderWord.{HeaderWord}
 use Rattle.qs_image.specs.declared.fault.HeaderWord.TheVariants as header
 use Rattle.qs_image.specs.declared.fault.ImageFault.{ImageFault}
 use Rattle.qs_image.specs.declared.fault.ImageFault.TheVariants.{Short, Magic, Count, Trailing, Entry, Cost, Names}
 use Rattle.qs_image.specs.Limits.{most_code_words, most_data_bytes, most_functions, most_name_bytes, most_parameters, largest_cost}
 use Rattle.qs_image.specs.Image.{Image, FunctionRecord}
-use Rattle.qs_image.specs.Bytes.{header_bytes, word, code_count, byte_count, function_count, names_length, size, table_of, lengths_of, image_of}
+use Rattle.qs_image.specs.Bytes.{header_bytes, header_word, code_count, byte_count, function_count, names_length, size, table_of, lengths_of, image_of}
 
 -- no name is that of a later function
 abbrev pub all_differ : List FunctionRecord → Bool
@@ -40,15 +39,6 @@ cost_fault fs = option_map Cost (position_from (λ f. not (is_cost f.cost)) 0 fs
 abbrev pub unless : Bool → ImageFault → Option ImageFault
 unless test fault = if test then None else Some fault
 
--- the number of a word of the header, its offset divided by 4
-abbrev pub word_number : HeaderWord → ℕ
-word_number header.CodeCount = 1
-word_number header.ByteCount = 2
-word_number header.FunctionCount = 3
-word_number header.NamesLength = 4
-word_number header.Parameters = 6
-word_number header.UnsignedSet = 7
-
 -- The ranges of the words of the header.
 abbrev pub count_tests : List ℕ → List (Option ImageFault)
 count_tests bytes =
@@ -56,8 +46,8 @@ count_tests bytes =
     ∷ unless (nat_le (byte_count bytes) most_data_bytes) (Count header.ByteCount)
     ∷ unless (is_between 1 most_functions (function_count bytes)) (Count header.FunctionCount)
     ∷ unless (is_between 1 most_name_bytes (names_length bytes)) (Count header.NamesLength)
-    ∷ unless (nat_le (word 6 bytes) most_parameters) (Count header.Parameters)
-    ∷ unless (nat_lt (word 7 bytes) (2 ^ word 6 bytes)) (Count header.UnsignedSet)
+    ∷ unless (nat_le (header_word header.Parameters bytes) most_parameters) (Count header.Parameters)
+    ∷ unless (nat_lt (header_word header.UnsignedSet bytes) (2 ^ header_word header.Parameters bytes)) (Count header.UnsignedSet)
     ∷ []
 
 abbrev pub header_tests : List ℕ → List (Option ImageFault)

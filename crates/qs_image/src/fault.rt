@@ -20,7 +20,7 @@ pub enum HeaderWord {
 
 impl HeaderWord {
     ghost use Rattle.std.specs.Prelude.{◌≡◌};
-    ghost use Rattle.qs_image.specs.Faults.{word_number};
+    ghost use Rattle.qs_image.specs.Bytes.{word_number};
 
     /// The number of the word, its offset divided by 4.
     pub fn number(self) -> u32

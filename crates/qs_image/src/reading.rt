@@ -14,23 +14,29 @@ use crate::limits::{
 use crate::records::{RECORD_BYTES, is_address};
 use crate::sections::{HEADER_BYTES, Sections};
 use crate::view::ImageView;
-use crate::word::word;
+use crate::word::header_word;
 
 fn count_fault(bytes: &[u8]) -> Option<ImageFault>
     requires { header_bytes ≤ length bytes.now }
     ensures { result ≡ first_of (count_tests bytes.now) }
 {
-    if word(bytes, 1) < 1 || word(bytes, 1) > MOST_CODE_WORDS {
+    let code_count = header_word(bytes, HeaderWord::CodeCount);
+    let byte_count = header_word(bytes, HeaderWord::ByteCount);
+    let function_count = header_word(bytes, HeaderWord::FunctionCount);
+    let names_length = header_word(bytes, HeaderWord::NamesLength);
+    let parameters = header_word(bytes, HeaderWord::Parameters);
+    let unsigned_set = header_word(bytes, HeaderWord::UnsignedSet);
+    if code_count < 1 || code_count > MOST_CODE_WORDS {
         Some(ImageFault::Count(HeaderWord::CodeCount))
-    } else if word(bytes, 2) > MOST_DATA_BYTES {
+    } else if byte_count > MOST_DATA_BYTES {
         Some(ImageFault::Count(HeaderWord::ByteCount))
-    } else if word(bytes, 3) < 1 || word(bytes, 3) > MOST_FUNCTIONS {
+    } else if function_count < 1 || function_count > MOST_FUNCTIONS {
         Some(ImageFault::Count(HeaderWord::FunctionCount))
-    } else if word(bytes, 4) < 1 || word(bytes, 4) > MOST_NAME_BYTES {
+    } else if names_length < 1 || names_length > MOST_NAME_BYTES {
         Some(ImageFault::Count(HeaderWord::NamesLength))
-    } else if word(bytes, 6) > MOST_PARAMETERS {
+    } else if parameters > MOST_PARAMETERS {
         Some(ImageFault::Count(HeaderWord::Parameters))
-    } else if word(bytes, 7) >> word(bytes, 6) != 0 {
+    } else if unsigned_set >> parameters != 0 {
         Some(ImageFault::Count(HeaderWord::UnsignedSet))
     } else {
         None
@@ -54,10 +60,10 @@ fn size_fault(bytes: &[u8]) -> Option<ImageFault>
     ensures { result ≡ first_of (size_tests bytes.now) }
 {
     let size = HEADER_BYTES
-        + RECORD_BYTES * word(bytes, 3) as usize
-        + word(bytes, 4) as usize
-        + 4 * word(bytes, 1) as usize
-        + word(bytes, 2) as usize;
+        + RECORD_BYTES * header_word(bytes, HeaderWord::FunctionCount) as usize
+        + header_word(bytes, HeaderWord::NamesLength) as usize
+        + 4 * header_word(bytes, HeaderWord::CodeCount) as usize
+        + header_word(bytes, HeaderWord::ByteCount) as usize;
     if bytes.len() < size {
         Some(ImageFault::Short)
     } else if bytes.len() > size {

@@ -3,11 +3,15 @@ ghost use Rattle.std.specs.Prelude.{◌≡◌, ◌<◌, ◌^◌, length};
 ghost use Rattle.qs_image.specs.Bytes.{size, names_length, table_of, image_of};
 ghost use Rattle.qs_image.specs.View.{image_in, records_left};
 
+use crate::fault::HeaderWord;
 use crate::records::{RECORD_BYTES, Records};
-use crate::word::word;
+use crate::word::{header_word, word};
 
 /// The four bytes `QSI1` and seven words.
 pub const HEADER_BYTES: usize = 32;
+
+/// The number of the word of the header that has no range, the address to begin at.
+const ENTRY_WORD: usize = 5;
 
 /// The bytes of an image, taken apart: three words of the header, the table of records, the names,
 /// the code and the data.
@@ -30,14 +34,17 @@ impl<'a> Sections<'a> {
         ensures names { length result.names.now ≡ names_length bytes.now }
         ensures image { image_in result ≡ image_of bytes.now }
     {
+        let function_count = header_word(bytes, HeaderWord::FunctionCount) as usize;
+        let names_length = header_word(bytes, HeaderWord::NamesLength) as usize;
+        let code_count = header_word(bytes, HeaderWord::CodeCount) as usize;
         let (_, behind_header) = bytes.split_at(HEADER_BYTES);
-        let (table, behind_table) = behind_header.split_at(RECORD_BYTES * word(bytes, 3) as usize);
-        let (names, behind_names) = behind_table.split_at(word(bytes, 4) as usize);
-        let (code, data) = behind_names.split_at(4 * word(bytes, 1) as usize);
+        let (table, behind_table) = behind_header.split_at(RECORD_BYTES * function_count);
+        let (names, behind_names) = behind_table.split_at(names_length);
+        let (code, data) = behind_names.split_at(4 * code_count);
         Sections {
-            entry: word(bytes, 5),
-            parameters: word(bytes, 6),
-            unsigned_set: word(bytes, 7),
+            entry: word(bytes, ENTRY_WORD),
+            parameters: header_word(bytes, HeaderWord::Parameters),
+            unsigned_set: header_word(bytes, HeaderWord::UnsignedSet),
             table,
             names,
             code,

@@ -1,8 +1,9 @@
 // Words of four bytes, the lowest first.
 ghost use Rattle.std.specs.Prelude.{◌≡◌, ◌≤◌, ◌+◌, ◌*◌, ◌++◌, length, OnOk};
 ghost use Rattle.qs_image.specs.Image.{word_bytes};
-ghost use Rattle.qs_image.specs.Bytes.{word};
+ghost use Rattle.qs_image.specs.Bytes.{word, header_bytes, header_word};
 
+use crate::fault::HeaderWord;
 use byteorder::{ByteOrder, LittleEndian};
 use qs_base::NoMemory;
 
@@ -13,6 +14,14 @@ pub fn word(bytes: &[u8], w: usize) -> u32
     ensures { result ≡ word w bytes.now }
 {
     LittleEndian::read_u32(&bytes[4 * w..])
+}
+
+/// A word of the header by its name.
+pub fn header_word(bytes: &[u8], name: HeaderWord) -> u32
+    requires { header_bytes ≤ length bytes.now }
+    ensures { result ≡ header_word name bytes.now }
+{
+    word(bytes, name.number() as usize)
 }
 
 /// Appends a word.

@@ -5,4 +5,5 @@ pub mod Starts
 pub mod Growth
 pub mod Runs
 pub mod Puts
+mod StepExamples
 mod RunExamples

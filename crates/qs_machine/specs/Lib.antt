@@ -6,5 +6,4 @@ pub mod Hart
 pub mod Actions
 pub mod Standing
 pub mod Running
-pub mod Example
 pub mod Arguments

@@ -2,7 +2,7 @@
 use Rattle.std.specs.Prelude.{ℕ, List, [], ◌∷◌, ◌++◌, codes, decimal, flat_map}
 use Rattle.std.specs.Int.{w32, to_be_bytes}
 use Rattle.hex.specs.Hex.{encode_lower}
-use Rattle.qs_image.specs.Faults.{word_number}
+use Rattle.qs_image.specs.Bytes.{word_number}
 use Rattle.qs_image.specs.declared.fault.ImageFault.{ImageFault}
 use Rattle.qs_image.specs.declared.fault.ImageFault.TheVariants as image
 use Rattle.qs_lexer.specs.declared.fault.FaultKind.{FaultKind}

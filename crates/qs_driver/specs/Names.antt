@@ -21,10 +21,6 @@ abbrev pub or_empty : Option (List ℕ) → List ℕ
 or_empty None = []
 or_empty (Some name) = name
 
--- those of a source, and of its proof file where one is named
-abbrev pub certified_names : (source : List ℕ) → (proof : Option (List ℕ)) → Names
-certified_names source proof = record no_names { source = source; derivation = or_empty proof }
-
 abbrev pub file_name : Names → FileKind → List ℕ
 file_name names Source = names.source
 file_name names Derivation = names.derivation

@@ -1,6 +1,6 @@
 // The files that a command names.
 ghost use Rattle.std.specs.Prelude.{◌≡◌};
-ghost use Rattle.qs_driver.specs.Names.{names_in, no_names, file_name, certified_names, name_in};
+ghost use Rattle.qs_driver.specs.Names.{names_in, no_names, file_name};
 
 use crate::FileKind;
 
@@ -25,18 +25,6 @@ pub fn nameless() -> FileNames<'static>
         image: "",
         input: "",
         output: "",
-    }
-}
-
-/// The names of a source, and of its proof file where one is named.
-pub fn certified_names<'a>(source: &'a str, proof: Option<&'a str>) -> FileNames<'a>
-    ensures { names_in result ≡ certified_names source.now (name_in proof) }
-{
-    let none = nameless();
-    FileNames {
-        source,
-        derivation: proof.unwrap_or(""),
-        ..none
     }
 }
 

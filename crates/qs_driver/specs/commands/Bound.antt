@@ -4,7 +4,7 @@ use Rattle.qs_assert.specs.declared.define.Amount.{Amount}
 use Rattle.qs_ports.specs.StoreView.{StoreView}
 use Rattle.qs_image.specs.Image.{Image, FunctionRecord}
 use Rattle.qs_report.specs.Lines.{bound_line}
-use Rattle.qs_driver.specs.Names.{Names, certified_names, name_in}
+use Rattle.qs_driver.specs.Names.{Names, no_names, or_empty, name_in}
 use Rattle.qs_driver.specs.Faults.{shown_of}
 use Rattle.qs_driver.specs.Lines.{cost_lines}
 use Rattle.qs_driver.specs.Steps.{on_out}
@@ -38,7 +38,7 @@ abbrev pub to_make : BoundWords → MakeWords
 to_make b = make_words (certify_words b.source b.proof) b.args
 
 abbrev pub names_of : BoundWords → Names
-names_of b = certified_names b.source b.proof
+names_of b = record no_names { source = b.source; derivation = or_empty b.proof }
 
 -- ---- what is due
 

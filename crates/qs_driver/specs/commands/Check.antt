@@ -3,7 +3,7 @@ use Rattle.std.specs.Prelude.{◌≡◌, ◌-◌, length, IsTrue, Result}
 use Rattle.qs_ports.specs.StoreView.{StoreView}
 use Rattle.qs_report.specs.declared.fault_texts.Count.{Count}
 use Rattle.qs_report.specs.declared.fault_texts.Count.TheVariants.{Checked}
-use Rattle.qs_driver.specs.Names.{Names, certified_names}
+use Rattle.qs_driver.specs.Names.{Names, no_names, or_empty}
 use Rattle.qs_driver.specs.Due.{Due, IsRefusal}
 use Rattle.qs_driver.specs.Counts.{counted, counted_or_refused}
 use Rattle.qs_driver.specs.Files.{IsUntouched}
@@ -16,7 +16,7 @@ use Rattle.qs_driver.specs.declared.status.Status.TheVariants.{Done}
 
 -- its words are those that name what is certified
 abbrev pub names_of : CertifyWords → Names
-names_of w = certified_names w.source w.proof
+names_of w = record no_names { source = w.source; derivation = or_empty w.proof }
 
 -- ---- what is due
 

@@ -3,8 +3,9 @@ ghost use Rattle.std.specs.Prelude.{◌≡◌};
 ghost use Rattle.qs_ports.specs.SinkView.{PutsOn};
 ghost use Rattle.qs_driver.specs.Certified as meant;
 ghost use Rattle.qs_driver.specs.Due.{IsWrittenOn};
+ghost use Rattle.qs_driver.specs.Names.{names_in};
 ghost use Rattle.qs_driver.specs.Task.{AnswersOn};
-ghost use Rattle.qs_driver.specs.commands.Bound.{bounded_lines, due_to, to_do, to_make};
+ghost use Rattle.qs_driver.specs.commands.Bound.{bounded_lines, due_to, names_of, to_do, to_make};
 ghost use Rattle.qs_driver.specs.commands.Bound.{words_in};
 
 use crate::Status;
@@ -14,7 +15,7 @@ use crate::due::{refuse, status_after};
 use crate::faults::shown_of;
 use crate::lines::put_costs;
 use crate::made::{Made, make};
-use crate::names::certified_names;
+use crate::names::{FileNames, nameless};
 use qs_assert::Amount;
 use qs_image::Image;
 use qs_ports::{Sink, SinkFault, Store};
@@ -27,6 +28,17 @@ pub struct BoundOrder<'a> {
     pub source: &'a str,
     pub proof: Option<&'a str>,
     pub args: &'a [i64],
+}
+
+fn names_of<'a>(order: &BoundOrder<'a>) -> FileNames<'a>
+    ensures { names_in result ≡ names_of (words_in order.now) }
+{
+    let none = nameless();
+    FileNames {
+        source: order.source,
+        derivation: order.proof.unwrap_or(""),
+        ..none
+    }
 }
 
 // The words that name what is certified.
@@ -60,11 +72,7 @@ fn report<O: Sink, L: Sink>(
             put_bounded(streams.0, &made.image, made.bound),
             Status::Done,
         ),
-        Err(status) => refuse(
-            streams.1,
-            &certified_names(order.source, order.proof),
-            status,
-        ),
+        Err(status) => refuse(streams.1, &names_of(order), status),
     }
 }
 

@@ -1,17 +1,30 @@
 // `check`: whether the derivations of a source are right.
+ghost use Rattle.std.specs.Prelude.{◌≡◌};
 ghost use Rattle.qs_driver.specs.Certified.{words_in};
+ghost use Rattle.qs_driver.specs.Names.{names_in};
 ghost use Rattle.qs_driver.specs.Task.{AnswersOn};
-ghost use Rattle.qs_driver.specs.commands.Check.{to_do, Checks};
+ghost use Rattle.qs_driver.specs.commands.Check.{names_of, to_do, Checks};
 
 use crate::Status;
 use crate::certified::{CertifyOrder, read_certified};
 use crate::counts::report_count;
 use crate::devices::Devices;
-use crate::names::certified_names;
+use crate::names::{FileNames, nameless};
 use qs_lower::lower;
 use qs_ports::{Sink, Store};
 use qs_report::Count;
 use std::alloc::Global;
+
+fn names_of<'a>(order: &CertifyOrder<'a>) -> FileNames<'a>
+    ensures { names_in result ≡ names_of (words_in order.now) }
+{
+    let none = nameless();
+    FileNames {
+        source: order.source,
+        derivation: order.proof.unwrap_or(""),
+        ..none
+    }
+}
 
 // The counts of entries of the proof file, and of those that are filled in. The unit is lowered
 // too: what is checked has linear code, and where memory is wanting for that, it is told here.
@@ -39,9 +52,5 @@ pub fn check<S: Store, O: Sink, L: Sink>(
 {
     let Devices { store, out, log } = devices;
     let work = check_entries(alloc, order, store);
-    report_count(
-        work,
-        &certified_names(order.source, order.proof),
-        (out, log),
-    )
+    report_count(work, &names_of(order), (out, log))
 }

@@ -7,4 +7,4 @@ pub returns-in-Ok : goal.returns-in-Ok
 returns-in-Ok g c = rw c.in-Ok.is (bound_put (words_in c.args.order.now) c.in-Ok.made _ _ _ _ (rw c.status_after.ensures (ends_with _ _ _ _ _ c.put_bounded.ensures)))
 
 pub returns-in-Err : goal.returns-in-Err
-returns-in-Err g c = rw c.in-Err.is (fault_put (words_in c.args.order.now) c.in-Err.status _ _ _ _ (rw c.certified_names.ensures at c.refuse.ensures))
+returns-in-Err g c = rw c.in-Err.is (fault_put (words_in c.args.order.now) c.in-Err.status _ _ _ _ (rw c.names_of.ensures at c.refuse.ensures))

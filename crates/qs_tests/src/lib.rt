@@ -1,6 +1,6 @@
-//! Tests of what no clause says and no row of a table can show: the
-//! tool over real files, calls of the system that are interrupted,
-//! and that memory is found by the calls that no command makes yet.
+//! Tests of what no clause says and no row of a table can show: calls
+//! of the system that are interrupted, and that memory is found by the
+//! calls that no command makes yet.
 #![tactic(auto)]
 
 #[cfg(test)]
@@ -9,8 +9,6 @@ mod assertions;
 mod blanks;
 #[cfg(test)]
 mod certificates;
-#[cfg(test)]
-mod files;
 #[cfg(test)]
 mod images;
 #[cfg(test)]

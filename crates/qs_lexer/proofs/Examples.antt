@@ -23,11 +23,17 @@ too_large = refl
 unsigned_by_suffix : number_of (codes "2147483648u") ≡ Ok (kinds.Number 2147483648 true)
 unsigned_by_suffix = refl
 
+small_by_suffix : number_of (codes "1u") ≡ Ok (kinds.Number 1 true)
+small_by_suffix = refl
+
 unsigned_by_value : number_of (codes "0x80000000") ≡ Ok (kinds.Number 2147483648 true)
 unsigned_by_value = refl
 
 octal : number_of (codes "010") ≡ Ok (kinds.Number 8 false)
 octal = refl
+
+unsigned_octal : number_of (codes "020000000000") ≡ Ok (kinds.Number 2147483648 true)
+unsigned_octal = refl
 
 octal_8 : number_of (codes "08") ≡ Err faults.BadLiteral
 octal_8 = refl

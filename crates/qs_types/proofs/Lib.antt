@@ -16,8 +16,10 @@ mod DeclarationExamples
 mod ExpressionExamples
 mod PlacedExamples
 mod ValueExamples
+mod ConstantExamples
 mod HeldBackExamples
 mod FaultExamples
 mod LimitExamples
+mod UnitExamples
 mod ReferenceExamples
 mod RecordedExamples

@@ -15,7 +15,7 @@ use Rattle.qs_syntax.specs.declared.operators.Access.TheVariants as accesses
 use Rattle.qs_syntax.specs.declared.operators.StepOperator.TheVariants as steps
 use Rattle.qs_syntax.specs.declared.types.TypeName.{TypeName}
 use Rattle.qs_syntax.specs.Trees.{unnumbered, ExprTree, expr, ShapeTree, constant, text, name, unary, step, cast, sizeof_type, sizeof_expr, binary, assign, conditional, comma, subscript, member, call, Exprs, no_exprs, expr_and, exprs_of}
-use Rattle.qs_syntax.specs.Operators.{punctuator_of_unary, punctuator_of_binary, precedence, conditional_precedence, assignment_precedence, comma_precedence, punctuator_of_assign, punctuator_of_access, binary_of, assign_of, access_of}
+use Rattle.qs_syntax.specs.Operators.{punctuator_of_unary, punctuator_of_binary, precedence, weakest, conditional_precedence, assignment_precedence, comma_precedence, punctuator_of_assign, punctuator_of_access, binary_of, assign_of, access_of}
 use Rattle.qs_syntax.specs.ReadsTypes.{ReadsTypeName}
 use Rattle.qs_syntax.specs.Reads.{Form, Postfix, Unary, Level, Conditional, Assignment, Expression, place, at_first, ReadsTexts, no_text, a_further_text, Reads, ReadsArguments, a_name, an_empty_call, a_call, a_constant, a_text, in_parentheses, an_index, a_member, an_increment_after, a_decrement_after, a_postfix, an_increment, a_decrement, an_operator, a_size_of_type, a_size_of_value, a_cast, an_operand, stronger, an_operation, a_plain_level, a_choice, a_plain_conditional, an_assignment, a_plain_assignment, a_comma, a_last_argument, an_argument}
 use Rattle.qs_grammar.specs.Heads.{is_punctuator, starts, begins_type, operator_at}
@@ -469,21 +469,21 @@ for_operation {j} {h} {k} {xs} {ys} {a} {b} operator at w r s left right m le re
 
 -- ---- conditional
 
-after_or_reads : (m : ℕ) (l rest : List Terminal) (t : ExprTree) (h : ℕ) → expression m (part m) (Level 10) l ≡ found t h rest → expression m (part m) Conditional l ≡ parse.after_or m (part m) (place l) (t, h) rest
+after_or_reads : (m : ℕ) (l rest : List Terminal) (t : ExprTree) (h : ℕ) → expression m (part m) (Level weakest) l ≡ found t h rest → expression m (part m) Conditional l ≡ parse.after_or m (part m) (place l) (t, h) rest
 unfolding expression
 after_or_reads m l rest t h e =
-    bind_assoc (parse.cast_or_unary m (part m) l) (parse.climb m (part m) 10 (place l)) (parse.after_or m (part m) (place l)) ∙ ap (λ q. bind q (parse.after_or m (part m) (place l))) e
+    bind_assoc (parse.cast_or_unary m (part m) l) (parse.climb m (part m) weakest (place l)) (parse.after_or m (part m) (place l)) ∙ ap (λ q. bind q (parse.after_or m (part m) (place l))) e
 
-for_plain_level : {h : ℕ} {ts : List Terminal} {e : ExprTree} → Reads (Level 10) h ts e → Claim (Level 10) h ts e → Claim Conditional h ts e
+for_plain_level : {h : ℕ} {ts : List Terminal} {e : ExprTree} → Reads (Level weakest) h ts e → Claim (Level weakest) h ts e → Claim Conditional h ts e
 for_plain_level {h} {ts} {e} r claim m le rest stop =
-    after_or_reads m (ts ++ rest) rest e h (level_found 10 h ts e claim m le rest (omega arith)) ∙ rw (not_starts punctuators.Question rest stop) refl
+    after_or_reads m (ts ++ rest) rest e h (level_found weakest h ts e claim m le rest (omega arith)) ∙ rw (not_starts punctuators.Question rest stop) refl
 
-for_choice : {h k l : ℕ} {xs ys zs : List Terminal} {a b c : ExprTree} (q s : ℕ) → Reads (Level 10) h xs a → Reads Expression k ys b → Reads Conditional l zs c → Claim (Level 10) h xs a → Claim Expression k ys b → Claim Conditional l zs c
+for_choice : {h k l : ℕ} {xs ys zs : List Terminal} {a b c : ExprTree} (q s : ℕ) → Reads (Level weakest) h xs a → Reads Expression k ys b → Reads Conditional l zs c → Claim (Level weakest) h xs a → Claim Expression k ys b → Claim Conditional l zs c
     → Claim Conditional (suc (max h (max k l))) (xs ++ Punctuator q punctuators.Question ∷ (ys ++ Punctuator s punctuators.Colon ∷ zs)) (at_first xs (conditional a b c))
 for_choice {h} {k} {l} {xs} {ys} {zs} {a} {b} {c} q s ra rb rc first second third m le rest stop =
     let low : h ≤ m = omega arith in
-    let condition : expression m (part m) (Level 10) (xs ++ Punctuator q punctuators.Question ∷ (ys ++ Punctuator s punctuators.Colon ∷ (zs ++ rest))) ≡ found a h (Punctuator q punctuators.Question ∷ (ys ++ Punctuator s punctuators.Colon ∷ (zs ++ rest))) =
-    level_found 10 h xs a first m (omega arith) (Punctuator q punctuators.Question ∷ (ys ++ Punctuator s punctuators.Colon ∷ (zs ++ rest))) (omega arith) in
+    let condition : expression m (part m) (Level weakest) (xs ++ Punctuator q punctuators.Question ∷ (ys ++ Punctuator s punctuators.Colon ∷ (zs ++ rest))) ≡ found a h (Punctuator q punctuators.Question ∷ (ys ++ Punctuator s punctuators.Colon ∷ (zs ++ rest))) =
+    level_found weakest h xs a first m (omega arith) (Punctuator q punctuators.Question ∷ (ys ++ Punctuator s punctuators.Colon ∷ (zs ++ rest))) (omega arith) in
     let inner : part m Expression (ys ++ Punctuator s punctuators.Colon ∷ (zs ++ rest)) ≡ found b k (Punctuator s punctuators.Colon ∷ (zs ++ rest)) = part_finds Expression k ys b second (high rb) m (omega arith) (Punctuator s punctuators.Colon ∷ (zs ++ rest)) (omega arith) in
     let last : part m Conditional (zs ++ rest) ≡ found c l rest = part_finds Conditional l zs c third (high rc) m (omega arith) rest stop in
     ap (expression m (part m) Conditional) (spelled xs ys zs rest (Punctuator q punctuators.Question) (Punctuator s punctuators.Colon))
@@ -506,7 +506,7 @@ plain_same m start (Ok x) t h rest eq stop = go (operator_at assign_of x.1) refl
     go None e = eq
     go (Some operator) e =
         let ahead : precedence_at x.1 ≡ assignment_precedence = assign_at_precedence x.1 operator e in
-        let stays : parse.after_operand m (part m) start x.0 x.1 ≡ Ok (x.0, x.1) = rw (climb_stops m 10 start x.0 x.1 (omega arith), not_starts punctuators.Question x.1 (omega arith)) refl in
+        let stays : parse.after_operand m (part m) start x.0 x.1 ≡ Ok (x.0, x.1) = rw (climb_stops m weakest start x.0 x.1 (omega arith), not_starts punctuators.Question x.1 (omega arith)) refl in
         let same : precedence_at x.1 ≡ precedence_at rest = ap precedence_at (no_rest x.0 (t, h) x.1 rest (sym stays ∙ eq)) in
         absurd (omega arith)
 

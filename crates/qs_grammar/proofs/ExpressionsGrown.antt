@@ -14,7 +14,7 @@ use Rattle.qs_syntax.specs.declared.operators.Access.{Access}
 use Rattle.qs_syntax.specs.declared.operators.StepOperator.{StepOperator}
 use Rattle.qs_syntax.specs.declared.operators.StepOperator.TheVariants as steps
 use Rattle.qs_syntax.specs.Trees.{ExprTree}
-use Rattle.qs_syntax.specs.Operators.{unary_of, binary_of, assign_of, access_of, number_of}
+use Rattle.qs_syntax.specs.Operators.{weakest, unary_of, binary_of, assign_of, access_of, number_of}
 use Rattle.qs_syntax.specs.Reads.{Form, Postfix, Unary, Level, Conditional, Assignment, Expression, place}
 use Rattle.qs_grammar.specs.Heads.{is_punctuator, is_keyword, starts, operator_at}
 use Rattle.qs_grammar.specs.Parse as parse
@@ -137,7 +137,7 @@ module _ (m n : ℕ) (le : m ≤ n) (p q : Form → Parse E) (g : (form : Form) 
         Grown-refl
 
     grown_after_operand : (start : ℕ) (a : E) (ts : List Terminal) → Grown (parse.after_operand m p start a ts) (parse.after_operand n q start a ts)
-    grown_after_operand start a ts = Grown-bind _ _ (grown_climb 10 start a ts) (λ b us. grown_after_or start b us)
+    grown_after_operand start a ts = Grown-bind _ _ (grown_climb weakest start a ts) (λ b us. grown_after_or start b us)
 
     grown_assignment_of : (start : ℕ) (a : E) (o : Option AssignmentOperator) (ts : List Terminal) → Grown (parse.assignment_of m p start a o ts) (parse.assignment_of n q start a o ts)
     grown_assignment_of start a None ts = grown_after_operand start a ts

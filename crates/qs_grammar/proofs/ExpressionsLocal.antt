@@ -15,7 +15,7 @@ use Rattle.qs_syntax.specs.declared.operators.Access.{Access}
 use Rattle.qs_syntax.specs.declared.operators.StepOperator.{StepOperator}
 use Rattle.qs_syntax.specs.declared.operators.StepOperator.TheVariants as steps
 use Rattle.qs_syntax.specs.Trees.{unnumbered, ExprTree, expr, text, unary, step, sizeof_type, sizeof_expr, comma}
-use Rattle.qs_syntax.specs.Operators.{unary_of, binary_of, assign_of, access_of, number_of}
+use Rattle.qs_syntax.specs.Operators.{weakest, unary_of, binary_of, assign_of, access_of, number_of}
 use Rattle.qs_syntax.specs.Reads.{Form, Postfix, Unary, Level, Conditional, Assignment, Expression, place}
 use Rattle.qs_grammar.specs.Heads.{is_punctuator, is_keyword, starts, operator_at, begins_type}
 use Rattle.qs_grammar.specs.Parse as parse
@@ -466,7 +466,7 @@ module _ (m : ℕ) (p : Form → Parse E) (good : (form : Form) → Local 0 (p f
         (Local-ok a)
 
     Local-after_operand : (start : ℕ) (a : E) → Local 0 (parse.after_operand m p start a)
-    Local-after_operand start a = Local-bind _ (λ b. Local-after_or start b) (parse.climb m p 10 start a) (Local-climb 10 start a)
+    Local-after_operand start a = Local-bind _ (λ b. Local-after_or start b) (parse.climb m p weakest start a) (Local-climb weakest start a)
 
     Local-assignment_of : (start : ℕ) (a : E) (o : Option AssignmentOperator) → Local 0 (parse.assignment_of m p start a o)
     Local-assignment_of start a None = Local-after_operand start a

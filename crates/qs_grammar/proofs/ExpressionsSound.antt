@@ -13,7 +13,7 @@ use Rattle.qs_syntax.specs.declared.operators.AssignmentOperator.{AssignmentOper
 use Rattle.qs_syntax.specs.declared.operators.Access.{Access}
 use Rattle.qs_syntax.specs.declared.operators.StepOperator.TheVariants as steps
 use Rattle.qs_syntax.specs.Trees.{unnumbered, ExprTree, expr, ShapeTree, text, step, binary, assign, conditional, comma, subscript, member, Exprs, no_exprs, expr_and, exprs_of}
-use Rattle.qs_syntax.specs.Operators.{punctuator_of_unary, punctuator_of_binary, precedence, punctuator_of_assign, punctuator_of_access, number_of, unary_of, binary_of, assign_of, access_of}
+use Rattle.qs_syntax.specs.Operators.{punctuator_of_unary, punctuator_of_binary, precedence, weakest, punctuator_of_assign, punctuator_of_access, number_of, unary_of, binary_of, assign_of, access_of}
 use Rattle.qs_syntax.specs.Reads.{Form, Postfix, Unary, Level, Conditional, Assignment, Expression, place, at_first, ReadsTexts, no_text, a_further_text, Reads, ReadsArguments, a_name, an_empty_call, a_call, a_constant, a_text, in_parentheses, an_index, a_member, an_increment_after, a_decrement_after, a_postfix, an_increment, a_decrement, an_operator, a_size_of_type, a_size_of_value, a_cast, an_operand, stronger, an_operation, a_plain_level, a_choice, a_plain_conditional, an_assignment, a_plain_assignment, a_comma, a_last_argument, an_argument}
 use Rattle.qs_grammar.specs.Heads.{is_punctuator, is_keyword, starts, operator_at}
 use Rattle.qs_grammar.specs.Parse as parse
@@ -310,7 +310,7 @@ module _ (m : ℕ) (p : Form → Parse E) (sound : (form : Form) (ts : List Term
 
   -- ---- conditional, assignment, comma
 
-  sound_after_or : (start : ℕ) (a : E) (done : List Terminal) → Begun (m + 1) (Level 10) start a done → (ts : List Terminal) → Sound (Begun (m + 1) Conditional start) done ts (parse.after_or m p start a ts)
+  sound_after_or : (start : ℕ) (a : E) (done : List Terminal) → Begun (m + 1) (Level weakest) start a done → (ts : List Terminal) → Sound (Begun (m + 1) Conditional start) done ts (parse.after_or m p start a ts)
   sound_after_or start a done r ts =
       Sound-if (starts punctuators.Question ts)
       (λ _. Sound-above m a.1 (Sound-err at_end)
@@ -322,7 +322,7 @@ module _ (m : ℕ) (p : Form → Parse E) (sound : (form : Form) (ts : List Term
       (λ _. Sound-ok (a_plain_level r.0, r.1, r.2))
 
   pub sound_after_operand : (start : ℕ) (a : E) (done : List Terminal) → Begun (m + 1) (Level 0) start a done → (ts : List Terminal) → Sound (Begun (m + 1) Conditional start) done ts (parse.after_operand m p start a ts)
-  sound_after_operand start a done r ts = Sound-then (parse.after_or m p start) (sound_climb 10 start a done r ts) (λ b done us q. sound_after_or start b done q us)
+  sound_after_operand start a done r ts = Sound-then (parse.after_or m p start) (sound_climb weakest start a done r ts) (λ b done us q. sound_after_or start b done q us)
 
   plain_conditional : (start : ℕ) (x : E) (l : List Terminal) → Begun (m + 1) Conditional start x l → Begun (m + 1) Assignment start x l
   plain_conditional start x l r = (a_plain_conditional r.0, r.1, r.2)

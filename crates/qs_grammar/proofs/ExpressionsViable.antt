@@ -13,7 +13,7 @@ use Rattle.qs_syntax.specs.declared.operators.BinaryOperator.{BinaryOperator}
 use Rattle.qs_syntax.specs.declared.operators.AssignmentOperator.{AssignmentOperator}
 use Rattle.qs_syntax.specs.declared.operators.Access.{Access}
 use Rattle.qs_syntax.specs.Trees.{ExprTree, Exprs}
-use Rattle.qs_syntax.specs.Operators.{punctuator_of_unary, punctuator_of_binary, precedence, punctuator_of_assign, punctuator_of_access, number_of, unary_of, binary_of, assign_of, access_of}
+use Rattle.qs_syntax.specs.Operators.{punctuator_of_unary, punctuator_of_binary, precedence, weakest, punctuator_of_assign, punctuator_of_access, number_of, unary_of, binary_of, assign_of, access_of}
 use Rattle.qs_syntax.specs.ReadsTypes.{ReadsConsts, no_const, ReadsBase, an_int, a_struct, ReadsType, a_type, no_star, ReadsTypeName, a_type_name}
 use Rattle.qs_syntax.specs.Reads.{Form, Postfix, Unary, Level, Conditional, Assignment, Expression, place, Reads, ReadsArguments, a_name, an_empty_call, a_call, a_constant, a_text, no_text, in_parentheses, an_index, a_member, an_increment_after, a_decrement_after, a_postfix, an_increment, a_decrement, an_operator, a_size_of_type, a_size_of_value, a_cast, an_operand, stronger, an_operation, a_plain_level, a_choice, a_plain_conditional, an_assignment, a_plain_assignment, a_comma, a_last_argument, an_argument}
 use Rattle.qs_grammar.specs.Heads.{is_punctuator, is_keyword, starts, operator_at, begins_type}
@@ -87,7 +87,7 @@ level_of : (j : ℕ) {xs : List Terminal} → IsSome (Level 0) xs → IsSome (Le
 level_of zero s = s
 level_of (suc j) (h, e, r) = let s = level_of j (h, e, r) in (s.0, s.1, stronger s.2)
 
-conditional_of : {xs : List Terminal} → IsSome (Level 10) xs → IsSome Conditional xs
+conditional_of : {xs : List Terminal} → IsSome (Level weakest) xs → IsSome Conditional xs
 conditional_of (h, e, r) = (h, e, a_plain_level r)
 
 assignment_of : {xs : List Terminal} → IsSome Conditional xs → IsSome Assignment xs
@@ -106,16 +106,16 @@ pub from_postfix : (form : Form) {xs : List Terminal} → IsSome Postfix xs → 
 from_postfix Postfix s = s
 from_postfix Unary s = unary_some s
 from_postfix (Level j) s = level_of j (cast_some (unary_some s))
-from_postfix Conditional s = conditional_of (level_of 10 (cast_some (unary_some s)))
-from_postfix Assignment s = assignment_of (conditional_of (level_of 10 (cast_some (unary_some s))))
-from_postfix Expression s = expression_of (assignment_of (conditional_of (level_of 10 (cast_some (unary_some s)))))
+from_postfix Conditional s = conditional_of (level_of weakest (cast_some (unary_some s)))
+from_postfix Assignment s = assignment_of (conditional_of (level_of weakest (cast_some (unary_some s))))
+from_postfix Expression s = expression_of (assignment_of (conditional_of (level_of weakest (cast_some (unary_some s)))))
 
 level_has : (j : ℕ) (h : ℕ) (xs : List Terminal) → Has (Level 0) h xs → Has (Level j) h xs
 level_has zero h xs r = r
 level_has (suc j) h xs r = let s = level_has j h xs r in (s.0, stronger s.1)
 
 conditional_has : (h : ℕ) (xs : List Terminal) → Has (Level 0) h xs → Has Conditional h xs
-conditional_has h xs r = let s = level_has 10 h xs r in (s.0, a_plain_level s.1)
+conditional_has h xs r = let s = level_has weakest h xs r in (s.0, a_plain_level s.1)
 
 assignment_has : (h : ℕ) (xs : List Terminal) → Has (Level 0) h xs → Has Assignment h xs
 assignment_has h xs r = let s = conditional_has h xs r in (s.0, a_plain_conditional s.1)
@@ -145,9 +145,9 @@ from_unary : (form : Form) → is_part form ≡ true → {xs : List Terminal} �
 from_unary Postfix e s = absurd cc
 from_unary Unary e s = s
 from_unary (Level j) e s = level_of j (cast_some s)
-from_unary Conditional e s = conditional_of (level_of 10 (cast_some s))
-from_unary Assignment e s = assignment_of (conditional_of (level_of 10 (cast_some s)))
-from_unary Expression e s = expression_of (assignment_of (conditional_of (level_of 10 (cast_some s))))
+from_unary Conditional e s = conditional_of (level_of weakest (cast_some s))
+from_unary Assignment e s = assignment_of (conditional_of (level_of weakest (cast_some s)))
+from_unary Expression e s = expression_of (assignment_of (conditional_of (level_of weakest (cast_some s))))
 
 -- what goes on with this token
 abbrev BegunBy : Form → Terminal → Type 0
@@ -473,13 +473,13 @@ module _ (m : ℕ) (p : Form → Parse E) (sound : (form : Form) (ts : List Term
   -- ---- conditional, assignment, comma
 
   module _ (start : ℕ) (Q : Claims) (c : OfFronts Q) (w : Wants Conditional (m + 1) Q) where
-    choice_begun : (done : List Terminal) (g : ℕ) → Has (Level 10) g done → 0 < g → g ≤ m → (o : ℕ) (h : ℕ) (xs : List Terminal) → Has Expression h xs → Both Q m h (done ++ Punctuator o punctuators.Question ∷ xs)
+    choice_begun : (done : List Terminal) (g : ℕ) → Has (Level weakest) g done → 0 < g → g ≤ m → (o : ℕ) (h : ℕ) (xs : List Terminal) → Has Expression h xs → Both Q m h (done ++ Punctuator o punctuators.Question ∷ xs)
     choice_begun done g d some fits o h xs s = under (behind done c) (Punctuator o punctuators.Question ∷ xs) (Punctuator 0 punctuators.Colon ∷ number) (m + 1) (suc (max g (max h 1))) (w (suc (max g (max h 1))) _ (_, a_choice o 0 d.1 s.1 (one Conditional refl).1)) m h (λ le. omega arith)
 
-    any_choice : (done : List Terminal) (g : ℕ) → Has (Level 10) g done → (o : ℕ) → Q false (done ++ Punctuator o punctuators.Question ∷ [])
+    any_choice : (done : List Terminal) (g : ℕ) → Has (Level weakest) g done → (o : ℕ) → Q false (done ++ Punctuator o punctuators.Question ∷ [])
     any_choice done g d o = (behind done c).front false (Punctuator o punctuators.Question ∷ []) (number ++ Punctuator 0 punctuators.Colon ∷ number) (w (suc (max g (max 1 1))) _ (_, a_choice o 0 d.1 (one Expression refl).1 (one Conditional refl).1)).0
 
-    viable_after_or : (a : E) (done : List Terminal) → Has (Level 10) a.1 done → a.1 ≤ m + 1 → (ts : List Terminal) → Viable (λ b l. Q b (done ++ l)) ts (parse.after_or m p start a ts)
+    viable_after_or : (a : E) (done : List Terminal) → Has (Level weakest) a.1 done → a.1 ≤ m + 1 → (ts : List Terminal) → Viable (λ b l. Q b (done ++ l)) ts (parse.after_or m p start a ts)
     viable_after_or a done d low [] = Viable-ok
     viable_after_or a done d low (t ∷ ts) =
         let there : Q true (done ++ []) = here Q done ((w a.1 done (d.0, a_plain_level d.1)).1 low) in
@@ -502,7 +502,7 @@ module _ (m : ℕ) (p : Form → Parse E) (sound : (form : Form) (ts : List Term
 
     viable_after_operand : (a : E) (done : List Terminal) → Begun (m + 1) (Level 0) start a done → (ts : List Terminal) → Viable (λ b l. Q b (done ++ l)) ts (parse.after_operand m p start a ts)
     viable_after_operand a done r ts =
-        Viable-then Q (parse.after_or m p start) (sound_climb m p sound 10 start a done r ts) (viable_climb 10 start a done r Q c (λ h xs s. w h xs (s.0, a_plain_level s.1)) ts) (λ b all us q. viable_after_or b all (b.0, q.0) q.1 us)
+        Viable-then Q (parse.after_or m p start) (sound_climb m p sound weakest start a done r ts) (viable_climb weakest start a done r Q c (λ h xs s. w h xs (s.0, a_plain_level s.1)) ts) (λ b all us q. viable_after_or b all (b.0, q.0) q.1 us)
 
   module _ (Q : Claims) (c : OfFronts Q) (w : Wants Assignment (m + 1) Q) where
     viable_assignment_of : (start : ℕ) (a : E) (done : List Terminal) → Begun (m + 1) Unary start a done → (ts : List Terminal) (o : Option AssignmentOperator) → operator_at assign_of ts ≡ o

@@ -16,7 +16,7 @@ use Rattle.qs_syntax.specs.declared.operators.BinaryOperator.{BinaryOperator}
 use Rattle.qs_syntax.specs.declared.operators.AssignmentOperator.{AssignmentOperator}
 use Rattle.qs_syntax.specs.declared.operators.Access.{Access}
 use Rattle.qs_syntax.specs.Trees.{unnumbered, ExprTree, expr, constant, text, name, unary, step, cast, sizeof_type, sizeof_expr, binary, assign, conditional, comma, subscript, member, call, exprs_of}
-use Rattle.qs_syntax.specs.Operators.{precedence, unary_of, binary_of, assign_of, access_of}
+use Rattle.qs_syntax.specs.Operators.{precedence, weakest, unary_of, binary_of, assign_of, access_of}
 use Rattle.qs_syntax.specs.Reads.{Form, Postfix, Unary, Level, Conditional, Assignment, Expression, place}
 use Rattle.qs_grammar.specs.Heads.{is_punctuator, is_keyword, starts, operator_at, begins_type}
 
@@ -294,7 +294,7 @@ module _ (m : ℕ) (part : Form → Parse E) where
 
   -- behind an operand that is no left side of an assignment
   abbrev pub after_operand : (start : ℕ) → E → Parse E
-  after_operand start a ts = bind (climb 10 start a ts) (after_or start)
+  after_operand start a ts = bind (climb weakest start a ts) (after_or start)
 
   abbrev pub assignment_of : (start : ℕ) → E → Option AssignmentOperator → Parse E
   assignment_of start a None ts = after_operand start a ts

@@ -13,10 +13,10 @@ use Rattle.qs_syntax.specs.declared.operators.Access.{Access}
 use Rattle.qs_syntax.specs.declared.operators.StepOperator.TheVariants as steps
 use Rattle.qs_syntax.specs.declared.types.TypeName.{TypeName}
 use Rattle.qs_syntax.specs.Trees.{unnumbered, ExprTree, expr, ShapeTree, constant, text, name, unary, step, cast, sizeof_type, sizeof_expr, binary, assign, conditional, comma, subscript, member, call, Exprs, no_exprs, expr_and}
-use Rattle.qs_syntax.specs.Operators.{punctuator_of_unary, punctuator_of_binary, precedence, punctuator_of_assign, punctuator_of_access, number_of}
+use Rattle.qs_syntax.specs.Operators.{punctuator_of_unary, punctuator_of_binary, precedence, weakest, punctuator_of_assign, punctuator_of_access, number_of}
 use Rattle.qs_syntax.specs.ReadsTypes.{ReadsTypeName}
 
--- what an expression is read as; Level 0 is `cast`, Level 1 to 10 are the operators from `* / %` to `||`
+-- what an expression is read as; Level 0 is `cast`, Level 1 to `weakest` are the operators from `* / %` to `||`
 pub data Form : Type 0 where
   Postfix : Form
   Unary : Form
@@ -76,8 +76,8 @@ mutual
     an_operation : {j h k : ℕ} {xs ys : List Terminal} {a b : ExprTree} (operator : BinaryOperator) (at : ℕ) → precedence operator ≡ suc j → Reads (Level (suc j)) h xs a → Reads (Level j) k ys b
         → Reads (Level (suc j)) (suc (max h k)) (xs ++ Punctuator at (punctuator_of_binary operator) ∷ ys) (at_first xs (binary operator a b))
     -- conditional = or [ "?" expression ":" conditional ]
-    a_plain_level : {h : ℕ} {ts : List Terminal} {e : ExprTree} → Reads (Level 10) h ts e → Reads Conditional h ts e
-    a_choice : {h k l : ℕ} {xs ys zs : List Terminal} {a b c : ExprTree} (q s : ℕ) → Reads (Level 10) h xs a → Reads Expression k ys b → Reads Conditional l zs c
+    a_plain_level : {h : ℕ} {ts : List Terminal} {e : ExprTree} → Reads (Level weakest) h ts e → Reads Conditional h ts e
+    a_choice : {h k l : ℕ} {xs ys zs : List Terminal} {a b c : ExprTree} (q s : ℕ) → Reads (Level weakest) h xs a → Reads Expression k ys b → Reads Conditional l zs c
         → Reads Conditional (suc (max h (max k l))) (xs ++ Punctuator q punctuators.Question ∷ (ys ++ Punctuator s punctuators.Colon ∷ zs)) (at_first xs (conditional a b c))
     -- assignment = conditional | unary asgop assignment
     a_plain_conditional : {h : ℕ} {ts : List Terminal} {e : ExprTree} → Reads Conditional h ts e → Reads Assignment h ts e

@@ -10,7 +10,7 @@ use Rattle.qs_grammar.specs.ParseStatements.{unit}
 use Rattle.qs_grammar.proofs.UnitsComplete.{finds_unit}
 use Rattle.qs_grammar.proofs.Local.{left, extend, Local, zero_or_more}
 use Rattle.qs_grammar.proofs.StatementsLocal.{Local-unit}
-use Rattle.qs_grammar.proofs.StatementsGrown.{unexpected_in_all}
+use Rattle.qs_grammar.proofs.StatementsMoreRoom.{unexpected_in_all}
 use Rattle.qs_grammar.proofs.Viable.{Claims, OfFronts, Both}
 use Rattle.qs_grammar.proofs.UnitsViable.{IsSomeUnit, viable_unit}
 

@@ -7,6 +7,7 @@ use Rattle.qs_syntax.specs.declared.terminal.Terminal.TheVariants.{Name, Keyword
 use Rattle.qs_base.specs.declared.keyword.Keyword as key
 use Rattle.qs_base.specs.declared.keyword.Keyword.TheVariants as keywords
 use Rattle.qs_syntax.specs.declared.punctuator.Punctuator as punctuator
+use Rattle.qs_syntax.specs.declared.punctuator.Punctuator.TheVariants as punctuators
 
 abbrev pub is_punctuator : punctuator.Punctuator → Terminal → Bool
 is_punctuator m (Name at x) = false
@@ -31,6 +32,10 @@ starts m (t ∷ ts) = is_punctuator m t
 abbrev pub starts_with : key.Keyword → List Terminal → Bool
 starts_with k [] = false
 starts_with k (t ∷ ts) = is_keyword k t
+
+-- the first token is `++` or `--`
+abbrev pub starts_step : List Terminal → Bool
+starts_step ts = starts punctuators.Increment ts || starts punctuators.Decrement ts
 
 -- what the first token is as a punctuator, by one of the tables of operators
 abbrev pub operator_at : {A : Type 0} → (punctuator.Punctuator → Option A) → List Terminal → Option A

@@ -18,7 +18,7 @@ use Rattle.qs_syntax.specs.declared.operators.Access.{Access}
 use Rattle.qs_syntax.specs.Trees.{unnumbered, ExprTree, expr, constant, text, name, unary, step, cast, sizeof_type, sizeof_expr, binary, assign, conditional, comma, subscript, member, call, exprs_of}
 use Rattle.qs_syntax.specs.Operators.{precedence, weakest, unary_of, binary_of, assign_of, access_of}
 use Rattle.qs_syntax.specs.Reads.{Form, Postfix, Unary, Level, Conditional, Assignment, Expression, place}
-use Rattle.qs_grammar.specs.Heads.{is_punctuator, is_keyword, starts, operator_at, begins_type}
+use Rattle.qs_grammar.specs.Heads.{is_punctuator, is_keyword, starts, starts_step, operator_at, begins_type}
 
 pub data Stop : Type 0 where
   Unexpected : ℕ → Stop
@@ -123,7 +123,7 @@ begins_one (Name at x ∷ ts) = true
 begins_one (Keyword at k ∷ ts) = is_keyword keywords.Sizeof (Keyword at k)
 begins_one (Constant at n unsigned ∷ ts) = true
 begins_one (Text at bytes ∷ ts) = true
-begins_one (Punctuator at m ∷ ts) = is_some (unary_of m) || (is_punctuator punctuators.OpenParenthesis (Punctuator at m) || (is_punctuator punctuators.Increment (Punctuator at m) || is_punctuator punctuators.Decrement (Punctuator at m)))
+begins_one (Punctuator at m ∷ ts) = is_some (unary_of m) || (is_punctuator punctuators.OpenParenthesis (Punctuator at m) || starts_step (Punctuator at m ∷ ts))
 
 -- where no level is left for a part: what begins an expression is too deep, and nothing else may stand there
 abbrev pub beyond : {A : Type 0} → Parse A
@@ -140,7 +140,7 @@ begins_cast (t ∷ ts) = is_punctuator punctuators.OpenParenthesis t && begins_t
 
 -- what goes on with an operand
 abbrev pub starts_suffix : List Terminal → Bool
-starts_suffix ts = starts punctuators.OpenBracket ts || (is_some (operator_at access_of ts) || (starts punctuators.Increment ts || starts punctuators.Decrement ts))
+starts_suffix ts = starts punctuators.OpenBracket ts || (is_some (operator_at access_of ts) || starts_step ts)
 
 -- the operator, where it is of level j + 1
 abbrev pub operator_of_level : ℕ → Option BinaryOperator → Option BinaryOperator

@@ -3,11 +3,11 @@ use Rattle.std.specs.Prelude.{List, Bool, ◌||◌}
 use Rattle.qs_syntax.specs.declared.terminal.Terminal.{Terminal}
 use Rattle.qs_syntax.specs.declared.punctuator.Punctuator.TheVariants as punctuators
 use Rattle.qs_base.specs.declared.keyword.Keyword.TheVariants as keywords
-use Rattle.qs_grammar.specs.Heads.{is_keyword, starts}
+use Rattle.qs_grammar.specs.Heads.{is_keyword, starts, starts_step}
 
 -- a parenthesis or a step by one stands first
 abbrev pub opens_or_steps : List Terminal → Bool
-opens_or_steps ts = starts punctuators.OpenParenthesis ts || (starts punctuators.Increment ts || starts punctuators.Decrement ts)
+opens_or_steps ts = starts punctuators.OpenParenthesis ts || starts_step ts
 
 -- `if`, `while`, `do` or `for` stands here (C11 6.8.4, 6.8.5)
 abbrev pub is_nesting : Terminal → Bool

@@ -3,7 +3,7 @@ ghost use Rattle.std.specs.Prelude.{◌≡◌, Ok, is_some, IfSome};
 ghost use Rattle.qs_syntax.specs.Reads.{place};
 ghost use Rattle.qs_syntax.specs.Operators.{access_of, assign_of, binary_of};
 ghost use Rattle.qs_grammar.specs.Heads.{is_punctuator, is_keyword, starts, starts_with};
-ghost use Rattle.qs_grammar.specs.Heads.{operator_at, begins_type};
+ghost use Rattle.qs_grammar.specs.Heads.{starts_step, operator_at, begins_type};
 ghost use Rattle.qs_grammar.specs.Parse.{expect, expect_name, begins_one, begins_cast};
 ghost use Rattle.qs_grammar.specs.Parse.{starts_suffix, operator_of_level};
 ghost use Rattle.qs_parser.specs.View.{Gives, rest_of, name_of};
@@ -162,13 +162,18 @@ pub fn level_operator_at(level: u8, tokens: &[Terminal]) -> Option<BinaryOperato
     }
 }
 
+/// Whether a step by one stands first (C11 6.5.2.4, 6.5.3.1).
+fn starts_step(tokens: &[Terminal]) -> bool
+    ensures { result ≡ starts_step tokens.now }
+{
+    starts(Punctuator::Increment, tokens) || starts(Punctuator::Decrement, tokens)
+}
+
 /// Whether a parenthesis or a step by one stands first.
 fn opens_or_steps(tokens: &[Terminal]) -> bool
     ensures { result ≡ opens_or_steps tokens.now }
 {
-    starts(Punctuator::OpenParenthesis, tokens)
-        || starts(Punctuator::Increment, tokens)
-        || starts(Punctuator::Decrement, tokens)
+    starts(Punctuator::OpenParenthesis, tokens) || starts_step(tokens)
 }
 
 /// Whether an expression begins here.
@@ -189,10 +194,7 @@ pub fn begins_one(tokens: &[Terminal]) -> bool
 pub fn starts_suffix(tokens: &[Terminal]) -> bool
     ensures { result ≡ starts_suffix tokens.now }
 {
-    starts(Punctuator::OpenBracket, tokens)
-        || access_at(tokens).is_some()
-        || starts(Punctuator::Increment, tokens)
-        || starts(Punctuator::Decrement, tokens)
+    starts(Punctuator::OpenBracket, tokens) || access_at(tokens).is_some() || starts_step(tokens)
 }
 
 /// Whether a parenthesis stands before a type.

@@ -5,7 +5,7 @@ use Rattle.qs_syntax.specs.declared.terminal.Terminal.TheVariants.{Punctuator}
 use Rattle.qs_syntax.specs.declared.punctuator.Punctuator as punctuator
 use Rattle.qs_syntax.specs.declared.punctuator.Punctuator.TheVariants as punctuators
 use Rattle.qs_grammar.specs.Heads.{starts}
-use Rattle.qs_grammar.specs.Parse.{Parse, bind, expect}
+use Rattle.qs_grammar.specs.Parse.{Parse, read_on, expect}
 use Rattle.qs_grammar.proofs.Sound.{Sound, Sound-ok, Sound-mono}
 use Rattle.qs_grammar.proofs.SoundSteps.{Sound-if}
 use Rattle.qs_grammar.proofs.DeclarationsSteps.{Sound-punctuator-next}
@@ -45,7 +45,7 @@ module _ {X : Type 0} (closing : punctuator.Punctuator) (One : ℕ → List Term
   -- the punctuator at the end, or a comma and the others
   pub sound_after : (n : ℕ) (others : List X → ℕ → Parse (List X × ℕ)) → ((done : List X) (h : ℕ) (ts : List Terminal) → Sound (Closed closing All n done h) [] ts (others done h ts))
       → (done : List X) (h : ℕ) (x : X) (k : ℕ) (front : List Terminal) → One k front x → k ≤ n → (ts : List Terminal)
-      → Sound (λ y l. Closed closing All n done h y (front ++ l)) [] ts (if starts closing ts then bind (expect closing ts) (λ _ us. Ok ((done ++ x ∷ [], max h k), us)) else bind (expect punctuators.Comma ts) (λ _ us. others (done ++ x ∷ []) (max h k) us))
+      → Sound (λ y l. Closed closing All n done h y (front ++ l)) [] ts (if starts closing ts then read_on (expect closing ts) (λ _ us. Ok ((done ++ x ∷ [], max h k), us)) else read_on (expect punctuators.Comma ts) (λ _ us. others (done ++ x ∷ []) (max h k) us))
   sound_after n others good done h x k front r le ts =
       Sound-if (starts closing ts)
       (λ _. Sound-punctuator-next closing ts _ (λ c us. Sound-ok (closed_last n done h x k front c r le)))

@@ -11,7 +11,7 @@ use Rattle.qs_syntax.specs.Reads.{Conditional, Assignment, place}
 use Rattle.qs_grammar.specs.Heads.{starts}
 use Rattle.qs_grammar.specs.Parse.{Parse, unexpected, deep, expect, expect_name, type, stars, begins_one}
 use Rattle.qs_grammar.specs.ParseDeclarations.{given_lengths, is_empty_brackets, behind_open, lengths, declarator, initialisers, begins_initialiser, initialiser, variable, variables, declared, declaration, declaration_within, declarators, members, groups, with_name, is_void_alone, parameter, parameters, is_void_head, head}
-use Rattle.qs_grammar.proofs.MoreRoom.{DeepOrSame, DeepOrSame-refl, DeepOrSame-deep, DeepOrSame-bind, DeepOrSame-then, DeepOrSame-last, DeepOrSame-some, DeepOrSame-cond}
+use Rattle.qs_grammar.proofs.MoreRoom.{DeepOrSame, DeepOrSame-refl, DeepOrSame-deep, DeepOrSame-read_on, DeepOrSame-then, DeepOrSame-last, DeepOrSame-some, DeepOrSame-cond}
 use Rattle.qs_grammar.proofs.ExpressionsMoreRoom.{not_begun, more_room_part}
 
 module _ (m n : ℕ) (le : m ≤ n) where
@@ -20,7 +20,7 @@ module _ (m n : ℕ) (le : m ≤ n) where
   more_room_given zero done h ts = DeepOrSame-refl
   more_room_given (suc k) done h ts =
       DeepOrSame-cond (starts punctuators.OpenBracket ts)
-      (DeepOrSame-then (expect punctuators.OpenBracket ts) _ _ (λ _ us. DeepOrSame-bind _ _ (more_room_part m n le Conditional us) (λ e vs. DeepOrSame-then (expect punctuators.CloseBracket vs) _ _ (λ _ ws. more_room_given k (done ++ e.0 ∷ []) (max h e.1) ws)))) DeepOrSame-refl
+      (DeepOrSame-then (expect punctuators.OpenBracket ts) _ _ (λ _ us. DeepOrSame-read_on _ _ (more_room_part m n le Conditional us) (λ e vs. DeepOrSame-then (expect punctuators.CloseBracket vs) _ _ (λ _ ws. more_room_given k (done ++ e.0 ∷ []) (max h e.1) ws)))) DeepOrSame-refl
 
   more_room_behind_open : (ts : List Terminal) → DeepOrSame (behind_open m ts) (behind_open n ts)
   more_room_behind_open ts = by_case (m == 0) (n == 0) (starts punctuators.OpenBracket ts) (λ e. eq-eqb m 0 (let none : n ≡ 0 = eqb-true n 0 e in omega arith))
@@ -46,7 +46,7 @@ more_room_initialisers : (p q : Parse (InitialiserTree × ℕ)) → ((ts : List 
 unfolding initialisers
 more_room_initialisers p q g zero done h ts = DeepOrSame-refl
 more_room_initialisers p q g (suc k) done h ts =
-    DeepOrSame-bind _ _ (g ts) (λ i us. DeepOrSame-cond (starts punctuators.CloseBrace us) DeepOrSame-refl
+    DeepOrSame-read_on _ _ (g ts) (λ i us. DeepOrSame-cond (starts punctuators.CloseBrace us) DeepOrSame-refl
     (DeepOrSame-then (expect punctuators.Comma us) _ _ (λ _ vs. DeepOrSame-cond (starts punctuators.CloseBrace vs) DeepOrSame-refl (more_room_initialisers p q g k (done ++ i.0 ∷ []) (max h i.1) vs))))
 
 begins_neither : (b c : Bool) → cond b true c ≡ false → (b ≡ false) × (c ≡ false)
@@ -75,13 +75,13 @@ module _ (m n : ℕ) (le : m ≤ n) where
   more_room_variable : (ts : List Terminal) → DeepOrSame (variable m ts) (variable n ts)
   unfolding variable
   more_room_variable ts =
-      DeepOrSame-bind _ _ (more_room_declarator m n le ts) (λ d us. DeepOrSame-cond (starts punctuators.Assign us) (DeepOrSame-some (length us) m n le (DeepOrSame-then (expect punctuators.Assign us) _ _ (λ _ vs. DeepOrSame-last _ (more_room_initialiser m n le vs)))) DeepOrSame-refl)
+      DeepOrSame-read_on _ _ (more_room_declarator m n le ts) (λ d us. DeepOrSame-cond (starts punctuators.Assign us) (DeepOrSame-some (length us) m n le (DeepOrSame-then (expect punctuators.Assign us) _ _ (λ _ vs. DeepOrSame-last _ (more_room_initialiser m n le vs)))) DeepOrSame-refl)
 
   more_room_variables : (k : ℕ) (done : List VariableTree) (h : ℕ) (ts : List Terminal) → DeepOrSame (variables m k done h ts) (variables n k done h ts)
   unfolding variables
   more_room_variables zero done h ts = DeepOrSame-refl
   more_room_variables (suc k) done h ts =
-      DeepOrSame-bind _ _ (more_room_variable ts) (λ v us. DeepOrSame-cond (starts punctuators.Semicolon us) DeepOrSame-refl (DeepOrSame-then (expect punctuators.Comma us) _ _ (λ _ vs. more_room_variables k (done ++ v.0 ∷ []) (max h v.1) vs)))
+      DeepOrSame-read_on _ _ (more_room_variable ts) (λ v us. DeepOrSame-cond (starts punctuators.Semicolon us) DeepOrSame-refl (DeepOrSame-then (expect punctuators.Comma us) _ _ (λ _ vs. more_room_variables k (done ++ v.0 ∷ []) (max h v.1) vs)))
 
   pub more_room_declared : (b : Base) (ts : List Terminal) → DeepOrSame (declared m b ts) (declared n b ts)
   more_room_declared b ts = DeepOrSame-last _ (more_room_variables (length ts) [] 0 ts)
@@ -90,7 +90,7 @@ module _ (m n : ℕ) (le : m ≤ n) where
   unfolding declarators
   more_room_declarators zero done h ts = DeepOrSame-refl
   more_room_declarators (suc k) done h ts =
-      DeepOrSame-bind _ _ (more_room_declarator m n le ts) (λ d us. DeepOrSame-cond (starts punctuators.Semicolon us) DeepOrSame-refl (DeepOrSame-then (expect punctuators.Comma us) _ _ (λ _ vs. more_room_declarators k (done ++ d.0 ∷ []) (max h (d.1 + 1)) vs)))
+      DeepOrSame-read_on _ _ (more_room_declarator m n le ts) (λ d us. DeepOrSame-cond (starts punctuators.Semicolon us) DeepOrSame-refl (DeepOrSame-then (expect punctuators.Comma us) _ _ (λ _ vs. more_room_declarators k (done ++ d.0 ∷ []) (max h (d.1 + 1)) vs)))
 
   more_room_members : (ts : List Terminal) → DeepOrSame (members m ts) (members n ts)
   unfolding members
@@ -99,7 +99,7 @@ module _ (m n : ℕ) (le : m ≤ n) where
   pub more_room_groups : (k : ℕ) (done : List MembersTree) (h : ℕ) (ts : List Terminal) → DeepOrSame (groups m k done h ts) (groups n k done h ts)
   unfolding groups
   more_room_groups zero done h ts = DeepOrSame-refl
-  more_room_groups (suc k) done h ts = DeepOrSame-bind _ _ (more_room_members ts) (λ g us. DeepOrSame-cond (starts punctuators.CloseBrace us) DeepOrSame-refl (more_room_groups k (done ++ g.0 ∷ []) (max h g.1) us))
+  more_room_groups (suc k) done h ts = DeepOrSame-read_on _ _ (more_room_members ts) (λ g us. DeepOrSame-cond (starts punctuators.CloseBrace us) DeepOrSame-refl (more_room_groups k (done ++ g.0 ∷ []) (max h g.1) us))
 
   more_room_with_name : (start : ℕ) (b : Base) (s : ℕ) (ts : List Terminal) → DeepOrSame (with_name m start b s ts) (with_name n start b s ts)
   more_room_with_name start b s [] = DeepOrSame-last _ (more_room_lengths m n le [])
@@ -117,7 +117,7 @@ module _ (m n : ℕ) (le : m ≤ n) where
   unfolding parameters
   more_room_parameters zero done h ts = DeepOrSame-refl
   more_room_parameters (suc k) done h ts =
-      DeepOrSame-bind _ _ (more_room_parameter ts) (λ p us. DeepOrSame-cond (starts punctuators.CloseParenthesis us) DeepOrSame-refl (DeepOrSame-then (expect punctuators.Comma us) _ _ (λ _ vs. more_room_parameters k (done ++ p.0 ∷ []) (max h p.1) vs)))
+      DeepOrSame-read_on _ _ (more_room_parameter ts) (λ p us. DeepOrSame-cond (starts punctuators.CloseParenthesis us) DeepOrSame-refl (DeepOrSame-then (expect punctuators.Comma us) _ _ (λ _ vs. more_room_parameters k (done ++ p.0 ∷ []) (max h p.1) vs)))
 
   pub more_room_head : (ts : List Terminal) → DeepOrSame (head m ts) (head n ts)
   unfolding head

@@ -11,7 +11,7 @@ use Rattle.qs_syntax.specs.ReadsTypes.{no_const, a_const, ReadsBase, a_void, an_
 use Rattle.qs_syntax.specs.Reads.{place}
 use Rattle.qs_syntax.specs.ReadsDeclarations.{ReadsParameter, a_named_parameter, an_unnamed_parameter, ReadsParameters, a_last_parameter, a_parameter, ReadsHead, no_parameter, a_void_head, some_parameters}
 use Rattle.qs_grammar.specs.Heads.{is_keyword, starts}
-use Rattle.qs_grammar.specs.Parse.{bind, type, stars, unexpected}
+use Rattle.qs_grammar.specs.Parse.{read_on, type, stars, unexpected}
 use Rattle.qs_grammar.specs.ParseDeclarations.{with_name, is_void_alone, without_first, parameter, after_parameter, parameters, is_void_head, head}
 use Rattle.qs_grammar.proofs.HeadsLaws.{keyword_is}
 use Rattle.qs_grammar.proofs.Sound.{Sound, Sound-ok, Sound-err, at_end, Sound-after, Sound-mono}
@@ -105,7 +105,7 @@ pub void_is_refused : (m : ℕ) (ts : List Terminal) (x : ParameterTree × ℕ) 
 unfolding parameter
 void_is_refused m ts x us e = by_case (is_void_alone ts) e
   where
-    by_case : (b : Bool) → cond b (unexpected (without_first ts)) (bind (type ts) (λ b us. with_name m (place ts) b (stars us).0 (stars us).1)) ≡ Ok (x, us) → b ≡ false
+    by_case : (b : Bool) → cond b (unexpected (without_first ts)) (read_on (type ts) (λ b us. with_name m (place ts) b (stars us).0 (stars us).1)) ≡ Ok (x, us) → b ≡ false
     by_case true e = absurd cc
     by_case false e = refl
 

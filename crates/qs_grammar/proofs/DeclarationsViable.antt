@@ -15,7 +15,7 @@ use Rattle.qs_syntax.specs.ReadsTypes.{no_const, a_const, ReadsPrefixes, ReadsBa
 use Rattle.qs_syntax.specs.Reads.{Conditional, Assignment, place}
 use Rattle.qs_syntax.specs.ReadsDeclarations.{ReadsGiven, no_length, a_length, ReadsLengths, are_given, first_open, ReadsDeclarator, a_declarator, ReadsInitialiser, a_value, a_list, ReadsInitialisers, a_last_initialiser, a_last_with_comma, an_initialiser, ReadsVariable, an_unset_variable, a_set_variable, ReadsVariables, a_last_variable, a_variable, ReadsDeclaration, a_declaration, ReadsDeclarators, a_last_member, a_member, ReadsMembers, a_group, ReadsAllMembers, a_last_group, a_further_group, ReadsParameter, a_named_parameter, an_unnamed_parameter, ReadsParameters, a_last_parameter, a_parameter, ReadsHead, no_parameter, a_void_head, some_parameters}
 use Rattle.qs_grammar.specs.Heads.{is_punctuator, is_keyword, starts, begins_type}
-use Rattle.qs_grammar.specs.Parse.{Parse, bind, unexpected, deep, expect, skip_consts, stars, begins_one}
+use Rattle.qs_grammar.specs.Parse.{Parse, read_on, unexpected, deep, expect, skip_consts, stars, begins_one}
 use Rattle.qs_grammar.specs.ParseDeclarations.{skip_prefixes, outer_type, given_lengths, is_empty_brackets, behind_open, lengths, named, declarator, initialisers, begins_initialiser, initialiser, initialised, variable, variables, declared, declaration, declaration_within, declarators, members, groups, with_name, is_void_alone, without_first, parameter, after_parameter, parameters, is_void_head, head}
 use Rattle.qs_grammar.proofs.HeadsLaws.{punctuator_is, keyword_is}
 use Rattle.qs_grammar.proofs.Sound.{Sound}
@@ -27,7 +27,7 @@ use Rattle.qs_grammar.proofs.DeclarationsMembers.{sound_members}
 use Rattle.qs_grammar.proofs.DeclarationsParameters.{IsVoidOrNot, void_or_not, IsParameter, sound_parameter, void_is_refused, nothing_ends}
 use Rattle.qs_grammar.proofs.ExpressionsViable.{viable_base, viable_type, Has, number, one, one_begun, viable_part}
 use Rattle.qs_grammar.proofs.ExpressionsBegin.{high}
-use Rattle.qs_grammar.proofs.Viable.{Claims, OfFronts, behind_token, behind, Both, under, some_room, Viable, Viable-ok, Viable-unexpected, Viable-deep, Viable-after, Viable-token, Viable-if, Viable-bind, Viable-bind-is, Viable-done, here, Viable-is_punctuator, Viable-keyword, Viable-punctuator, Viable-no-punctuator, Viable-name, Viable-some}
+use Rattle.qs_grammar.proofs.Viable.{Claims, OfFronts, behind_token, behind, Both, under, some_room, Viable, Viable-ok, Viable-unexpected, Viable-deep, Viable-after, Viable-token, Viable-if, Viable-read_on, Viable-read_on-is, Viable-done, here, Viable-is_punctuator, Viable-keyword, Viable-punctuator, Viable-no-punctuator, Viable-name, Viable-some}
 
 abbrev pub a_punctuator : punctuator.Punctuator → Terminal
 a_punctuator k = Punctuator 0 k
@@ -94,7 +94,7 @@ viable_given m zero done h Q c w ts bracket = Viable-ok
 viable_given m (suc n) done h Q c w ts bracket =
     Viable-if (starts punctuators.OpenBracket ts)
     (λ there. Viable-punctuator punctuators.OpenBracket ts _ ((w 0 [] ([], no_length)).1 (omega arith))
-    (λ o us. Viable-bind _ (sound_part m Conditional us) (viable_part m Conditional refl _ (behind_token (Punctuator o punctuators.OpenBracket) c) (length_begun m Q c w o) (bracket there o) us)
+    (λ o us. Viable-read_on _ (sound_part m Conditional us) (viable_part m Conditional refl _ (behind_token (Punctuator o punctuators.OpenBracket) c) (length_begun m Q c w o) (bracket there o) us)
     (λ e front vs r. let fits : e.1 ≤ m = r.1 in let some : 0 < e.1 = high r.0 in
     Viable-punctuator punctuators.CloseBracket vs _ (here (λ b l. Q b (Punctuator o punctuators.OpenBracket ∷ l)) front ((length_begun m Q c w o e.1 front (e.0, r.0)).1 r.1))
     (λ k ws. let further : (g : ℕ) (xs : List Terminal) → AreGiven g xs → Both Q m g (Punctuator o punctuators.OpenBracket ∷ (front ++ Punctuator k punctuators.CloseBracket ∷ xs)) = λ g xs s. (let both = w (max e.1 g) _ (_, a_length o k r.0 s.1) in (both.0, λ le. both.1 (omega arith))) in
@@ -164,7 +164,7 @@ module _ (closing : punctuator.Punctuator) (n : ℕ) (One All : ℕ → List Ter
 
   pub viable_after : {B : Type 0} (all : B) (others : Parse B) (g : ℕ) (front : List Terminal) → One g front → g ≤ n → (Q : Claims) → OfFronts Q → Closes Q
       → ((P : Claims) → OfFronts P → Closes P → P true [] → (ts : List Terminal) → Viable P ts (others ts))
-      → (us : List Terminal) → Viable (λ b l. Q b (front ++ l)) us (cond (starts closing us) (bind (expect closing us) (λ _ vs. Ok (all, vs))) (bind (expect punctuators.Comma us) (λ _ vs. others vs)))
+      → (us : List Terminal) → Viable (λ b l. Q b (front ++ l)) us (cond (starts closing us) (read_on (expect closing us) (λ _ vs. Ok (all, vs))) (read_on (expect punctuators.Comma us) (λ _ vs. others vs)))
   viable_after all others g front r fits Q c w again us =
       let q : Q true (front ++ []) = here Q front (c.front true front (a_punctuator closing ∷ []) ((w g front (last g front r)).1 fits)) in
       Viable-if (starts closing us)
@@ -193,7 +193,7 @@ module _ (n : ℕ) (one : Parse (InitialiserTree × ℕ)) (sound : (ts : List Te
   unfolding initialisers
   viable_initialisers zero done h Q c w low ts = Viable-unexpected low
   viable_initialisers (suc turns) done h Q c w low ts =
-      Viable-bind _ (sound ts) (viable Q c begun low ts)
+      Viable-read_on _ (sound ts) (viable Q c begun low ts)
       (λ i front us r. let fits : i.1 ≤ n = r.1 in let q : Q true (front ++ []) = here Q front ((begun i.1 front (i.0, r.0)).1 r.1) in
       Viable-if (starts punctuators.CloseBrace us)
       (λ _. Viable-punctuator punctuators.CloseBrace us _ q (λ at vs. Viable-ok))
@@ -260,7 +260,7 @@ module _ (m : ℕ) (Q : Claims) (c : OfFronts Q) (w : (h : ℕ) (xs : List Termi
   viable_variable : (ts : List Terminal) → Viable Q ts (variable m ts)
   unfolding variable
   viable_variable ts =
-      Viable-bind (initialised m) (sound_declarator m ts) (viable_declarator m Q c (λ h xs s. let both = w (suc h) xs (_, an_unset_variable s.1) in (both.0, λ le. both.1 (omega arith))) ts) (λ d front us r. viable_initialised d front r.0 r.1 us)
+      Viable-read_on (initialised m) (sound_declarator m ts) (viable_declarator m Q c (λ h xs s. let both = w (suc h) xs (_, an_unset_variable s.1) in (both.0, λ le. both.1 (omega arith))) ts) (λ d front us r. viable_initialised d front r.0 r.1 us)
 
 further_variable : (h k : ℕ) (xs ys : List Terminal) (at : ℕ) → IsVariable h xs → AreVariables k ys → AreVariables (max h k) (xs ++ Punctuator at punctuators.Comma ∷ ys)
 further_variable h k xs ys at r s = (_, a_variable at r.1 s.1)
@@ -269,7 +269,7 @@ viable_variables : (m n : ℕ) (done : List VariableTree) (h : ℕ) (Q : Claims)
 unfolding variables
 viable_variables m zero done h Q c w low ts = Viable-unexpected low
 viable_variables m (suc n) done h Q c w low ts =
-    Viable-bind _ (sound_variable m ts) (viable_variable m Q c (λ h xs s. under c xs (a_punctuator punctuators.Semicolon ∷ []) (suc m) h (w h xs (only_variable h xs s)) (suc m) h (λ le. le)) ts)
+    Viable-read_on _ (sound_variable m ts) (viable_variable m Q c (λ h xs s. under c xs (a_punctuator punctuators.Semicolon ∷ []) (suc m) h (w h xs (only_variable h xs s)) (suc m) h (λ le. le)) ts)
     (λ v front us r. viable_after punctuators.Semicolon (suc m) IsVariable AreVariables only_variable further_variable (Name 0 [] ∷ []) one_variable (omega arith) (done ++ v.0 ∷ [], max h v.1) (variables m n (done ++ v.0 ∷ []) (max h v.1)) v.1 front (v.0, r.0) r.1 Q c w
     (λ P d u l vs. viable_variables m n (done ++ v.0 ∷ []) (max h v.1) P d u l vs) us)
 
@@ -297,7 +297,7 @@ unfolding declaration_within declaration
 viable_declaration_within zero Q c w low t ts e = let by = type_begun t ts e in Viable-deep low (c.front false (t ∷ []) by.0 (any_typed 0 Q c w (t ∷ by.0) by.1 by.2))
 viable_declaration_within (suc m) Q c w low t ts e =
     let typed : (xs : List Terminal) (b : Base) → ReadsType xs b → Q true xs = low_typed (suc m) Q c w (omega arith) in
-    Viable-bind (declared m) (sound_type (t ∷ ts)) (viable_type Q c typed (t ∷ ts))
+    Viable-read_on (declared m) (sound_type (t ∷ ts)) (viable_type Q c typed (t ∷ ts))
     (λ b front us r. viable_declared m b (λ b l. Q b (front ++ l)) (behind front c) (behind_type (suc m) Q c w front b r) (here Q front (typed front b r)) us)
 
 -- ---- members
@@ -324,7 +324,7 @@ viable_declarators : (m n : ℕ) (done : List DeclaratorTree) (h : ℕ) (Q : Cla
 unfolding declarators
 viable_declarators m zero done h Q c w low ts = Viable-unexpected low
 viable_declarators m (suc n) done h Q c w low ts =
-    Viable-bind _ (sound_declarator m ts) (viable_declarator m Q c (λ h xs s. under c xs (a_punctuator punctuators.Semicolon ∷ []) (suc m) (suc h) (w (suc h) xs (_, a_last_member s.1)) m h (λ le. omega arith)) ts)
+    Viable-read_on _ (sound_declarator m ts) (viable_declarator m Q c (λ h xs s. under c xs (a_punctuator punctuators.Semicolon ∷ []) (suc m) (suc h) (w (suc h) xs (_, a_last_member s.1)) m h (λ le. omega arith)) ts)
     (λ d front us r. let fits : d.1 ≤ m = r.1 in
     viable_after punctuators.Semicolon (suc m) IsMember AreDeclarators only_member further_member (Name 0 [] ∷ []) one_member (omega arith) (done ++ d.0 ∷ [], max h (d.1 + 1)) (declarators m n (done ++ d.0 ∷ []) (max h (d.1 + 1))) (suc d.1) front (d.1, refl, (d.0, r.0)) (omega arith) Q c w
     (λ P e u l vs. viable_declarators m n (done ++ d.0 ∷ []) (max h (d.1 + 1)) P e u l vs) us)
@@ -345,7 +345,7 @@ module _ (m : ℕ) (Q : Claims) (c : OfFronts Q) (w : (h : ℕ) (xs : List Termi
   viable_members : (ts : List Terminal) → Viable Q ts (members m ts)
   unfolding members
   viable_members ts =
-      Viable-bind _ (sound_type ts) (viable_type Q c group_typed ts)
+      Viable-read_on _ (sound_type ts) (viable_type Q c group_typed ts)
       (λ b front us t. Viable-done _ (viable_declarators m (length us) [] 0 (λ b l. Q b (front ++ l)) (behind front c) (group_begun front b t) (here Q front (group_typed front b t)) us))
 
 -- the shortest
@@ -357,7 +357,7 @@ pub viable_groups : (m n : ℕ) (done : List MembersTree) (h : ℕ) (Q : Claims)
 unfolding groups
 viable_groups m zero done h Q c w low ts = Viable-unexpected low
 viable_groups m (suc n) done h Q c w low ts =
-    Viable-bind _ (sound_members m ts) (viable_members m Q c one_group ts)
+    Viable-read_on _ (sound_members m ts) (viable_members m Q c one_group ts)
     (λ g front us r. let fits : g.1 ≤ suc m = r.1 in let there : Q true (front ++ []) = here Q front ((one_group g.1 front (g.0, r.0)).1 fits) in
     Viable-if (starts punctuators.CloseBrace us)
     (λ _. Viable-punctuator punctuators.CloseBrace us _ there (λ at vs. Viable-ok))
@@ -426,7 +426,7 @@ module _ (m : ℕ) (Q : Claims) (c : OfFronts Q) (w : (h : ℕ) (xs : List Termi
   unfolding parameter
   viable_parameter ts =
       Viable-if (is_void_alone ts) (void_alone ts)
-      (λ _. Viable-bind _ (sound_type ts) (viable_type Q c parameter_begun ts)
+      (λ _. Viable-read_on _ (sound_type ts) (viable_type Q c parameter_begun ts)
       (λ b front us t. let first : StarsRead us (stars us) = stars_read us in Viable-after us first.front (stars us).1 first.split _ (viable_with_name (place ts) b (stars us).0 front first.front t first.is (stars us).1)))
     where
       void_alone : (ts : List Terminal) → is_void_alone ts ≡ true → Viable {A = ParameterTree × ℕ} Q ts (unexpected (without_first ts))
@@ -440,7 +440,7 @@ viable_parameters : (m n : ℕ) (done : List ParameterTree) (h : ℕ) (Q : Claim
 unfolding parameters
 viable_parameters m zero done h Q c w low ts = Viable-unexpected low
 viable_parameters m (suc n) done h Q c w low ts =
-    Viable-bind-is _ (sound_parameter m ts) (viable_parameter m Q c one_there ts) (λ p front us read split r. by_case p (λ P e u l vs. viable_parameters m n (done ++ p.0 ∷ []) (max h p.1) P e u l vs) front us read split r)
+    Viable-read_on-is _ (sound_parameter m ts) (viable_parameter m Q c one_there ts) (λ p front us read split r. by_case p (λ P e u l vs. viable_parameters m n (done ++ p.0 ∷ []) (max h p.1) P e u l vs) front us read split r)
   where
     one_there : (h : ℕ) (xs : List Terminal) → IsOneParameter h xs → Both Q (suc m) h xs
     one_there h xs s = under c xs (a_punctuator punctuators.CloseParenthesis ∷ []) (suc m) h (w h xs (only_parameter h xs s)) (suc m) h (λ le. le)
@@ -468,7 +468,7 @@ viable_head m Q c w ts =
     (λ _. Viable-punctuator punctuators.CloseParenthesis ts _ low (λ at us. Viable-ok))
     (λ _. Viable-if (is_void_head ts) (void_head ts) (λ _. viable_parameters m (length ts) [] 0 Q c (λ h xs s. w h xs (_, some_parameters s.1)) low ts))
   where
-    void_head : (ts : List Terminal) → is_void_head ts ≡ true → Viable {A = List ParameterTree × ℕ} Q ts (bind (expect punctuators.CloseParenthesis (without_first ts)) (λ _ us. Ok (([], 0), us)))
+    void_head : (ts : List Terminal) → is_void_head ts ≡ true → Viable {A = List ParameterTree × ℕ} Q ts (read_on (expect punctuators.CloseParenthesis (without_first ts)) (λ _ us. Ok (([], 0), us)))
     void_head [] e = absurd cc
     void_head (t ∷ ts) e =
         Viable-keyword keywords.Void t (and_parts (is_keyword keywords.Void t) _ e).0

@@ -21,7 +21,7 @@ use Rattle.qs_syntax.specs.Reads.{Form, Postfix, Unary, Level, Conditional, Assi
 use Rattle.qs_grammar.specs.Heads.{is_punctuator, starts, begins_type, operator_at}
 use Rattle.qs_grammar.specs.Stops.{precedence_at, Stops}
 use Rattle.qs_grammar.specs.Parse as parse
-use Rattle.qs_grammar.specs.Parse.{Stop, Parse, bind, E, begins_cast, texts_from, part, expression}
+use Rattle.qs_grammar.specs.Parse.{Stop, Parse, read_on, E, begins_cast, texts_from, part, expression}
 use Rattle.qs_grammar.proofs.HeadsLaws.{punctuator_is, binary_punctuator, binary_precedence, assign_punctuator, assign_precedence, not_starts, binary_at_precedence, assign_at_precedence, access_at_precedence}
 use Rattle.qs_grammar.proofs.TypesComplete.{finds_type_name, type_name_begins}
 use Rattle.qs_grammar.proofs.ExpressionsBegin.{arguments_no_parenthesis, place_more, no_cast, high, opens_high}
@@ -74,9 +74,9 @@ Claim Conditional h f t = (m : ℕ) → h ≤ suc m → (rest : List Terminal) �
 Claim Assignment h f t = (m : ℕ) → h ≤ suc m → (rest : List Terminal) → assignment_precedence < precedence_at rest → expression m (part m) Assignment (f ++ rest) ≡ found t h rest
 Claim Expression h f t = (m : ℕ) → h ≤ suc m → (rest : List Terminal) → assignment_precedence < precedence_at rest → Goes rest (λ n. expression m (part m) Expression (f ++ rest) ≡ parse.commas m (part m) n (place f) (t, h) rest)
 
-bind_assoc : {A B C : Type 0} (r : Result (A × List Terminal) Stop) (f : A → Parse B) (g : B → Parse C) → bind r (λ x ts. bind (f x ts) g) ≡ bind (bind r f) g
-bind_assoc (Ok x) f g = refl
-bind_assoc (Err e) f g = refl
+read_on_assoc : {A B C : Type 0} (r : Result (A × List Terminal) Stop) (f : A → Parse B) (g : B → Parse C) → read_on r (λ x ts. read_on (f x ts) g) ≡ read_on (read_on r f) g
+read_on_assoc (Ok x) f g = refl
+read_on_assoc (Err e) f g = refl
 
 some_room : (m : ℕ) → 0 < m → (m == 0) ≡ false
 some_room m lt = ne_eqb m 0 (λ e. omega arith)
@@ -417,7 +417,7 @@ for_cast {h} {ts} {us} {t} {e} at c r s claim m le rest stop =
     let type : parse.type_name (ts ++ Punctuator c punctuators.CloseParenthesis ∷ (us ++ rest)) ≡ Ok (t, Punctuator c punctuators.CloseParenthesis ∷ (us ++ rest)) = finds_type_name r (Punctuator c punctuators.CloseParenthesis ∷ (us ++ rest)) refl in
     let inner : part m (Level 0) (us ++ rest) ≡ found e h rest = part_finds (Level 0) h us e claim lt m (omega arith) rest stop in
     ap (λ l. expression m (part m) (Level 0) (Punctuator at punctuators.OpenParenthesis ∷ l)) (append_assoc ts (Punctuator c punctuators.CloseParenthesis ∷ us) rest)
-    ∙ ap (λ r. bind r (parse.climb m (part m) 0 at)) (cast_read m at (ts ++ Punctuator c punctuators.CloseParenthesis ∷ (us ++ rest)) t c (us ++ rest) e h rest before room type inner)
+    ∙ ap (λ r. read_on r (parse.climb m (part m) 0 at)) (cast_read m at (ts ++ Punctuator c punctuators.CloseParenthesis ∷ (us ++ rest)) t c (us ++ rest) e h rest before room type inner)
     ∙ later (expr (unnumbered at) (cast t e)) (h + 1) (suc h) rest (omega arith)
   where
     cast_read : (m at : ℕ) (ts : List Terminal) (t : TypeName) (c : ℕ) (us : List Terminal) (e : ExprTree) (h : ℕ) (rest : List Terminal) → begins_type ts ≡ true → (m == 0) ≡ false → parse.type_name ts ≡ Ok (t, Punctuator c punctuators.CloseParenthesis ∷ us)
@@ -430,15 +430,15 @@ for_operand {h} {ts} {e} r claim m le rest stop = let plain : begins_cast (ts ++
 
 -- ---- operators between operands
 
-level_suc : (m j : ℕ) (l : List Terminal) → expression m (part m) (Level (suc j)) l ≡ bind (expression m (part m) (Level j) l) (λ b us. parse.operations m (part m) (length us) j (place l) b us)
+level_suc : (m j : ℕ) (l : List Terminal) → expression m (part m) (Level (suc j)) l ≡ read_on (expression m (part m) (Level j) l) (λ b us. parse.operations m (part m) (length us) j (place l) b us)
 unfolding expression parse.climb
-level_suc m j l = bind_assoc (parse.cast_or_unary m (part m) l) (parse.climb m (part m) j (place l)) (λ b us. parse.operations m (part m) (length us) j (place l) b us)
+level_suc m j l = read_on_assoc (parse.cast_or_unary m (part m) l) (parse.climb m (part m) j (place l)) (λ b us. parse.operations m (part m) (length us) j (place l) b us)
 
 for_stronger : {j h : ℕ} {ts : List Terminal} {e : ExprTree} → Reads (Level j) h ts e → Claim (Level j) h ts e → Claim (Level (suc j)) h ts e
 for_stronger {j} {h} {ts} {e} r claim m le rest stop = record {
   turns = length rest;
   enough = omega arith;
-  is = level_suc m j (ts ++ rest) ∙ ap (λ q. bind q (λ b us. parse.operations m (part m) (length us) j (place (ts ++ rest)) b us)) (level_found j h ts e claim m le rest stop)
+  is = level_suc m j (ts ++ rest) ∙ ap (λ q. read_on q (λ b us. parse.operations m (part m) (length us) j (place (ts ++ rest)) b us)) (level_found j h ts e claim m le rest stop)
       ∙ ap (λ s. parse.operations m (part m) (length rest) j s (e, h) rest) (place_more r rest);
 }
 
@@ -472,7 +472,7 @@ for_operation {j} {h} {k} {xs} {ys} {a} {b} operator at w r s left right m le re
 after_or_reads : (m : ℕ) (l rest : List Terminal) (t : ExprTree) (h : ℕ) → expression m (part m) (Level weakest) l ≡ found t h rest → expression m (part m) Conditional l ≡ parse.after_or m (part m) (place l) (t, h) rest
 unfolding expression
 after_or_reads m l rest t h e =
-    bind_assoc (parse.cast_or_unary m (part m) l) (parse.climb m (part m) weakest (place l)) (parse.after_or m (part m) (place l)) ∙ ap (λ q. bind q (parse.after_or m (part m) (place l))) e
+    read_on_assoc (parse.cast_or_unary m (part m) l) (parse.climb m (part m) weakest (place l)) (parse.after_or m (part m) (place l)) ∙ ap (λ q. read_on q (parse.after_or m (part m) (place l))) e
 
 for_plain_level : {h : ℕ} {ts : List Terminal} {e : ExprTree} → Reads (Level weakest) h ts e → Claim (Level weakest) h ts e → Claim Conditional h ts e
 for_plain_level {h} {ts} {e} r claim m le rest stop =
@@ -498,7 +498,7 @@ for_choice {h} {k} {l} {xs} {ys} {zs} {a} {b} {c} q s ra rb rc first second thir
 no_rest : (a b : E) (us rest : List Terminal) → ◌≡◌ {A = Out} (Ok (a, us)) (Ok (b, rest)) → us ≡ rest
 no_rest a b us rest e = let pair : ◌≡◌ {A = E × List Terminal} (a, us) (b, rest) = cc in ap (λ (p : E × List Terminal). p.1) pair
 
-plain_same : (m start : ℕ) (r : Out) (t : ExprTree) (h : ℕ) (rest : List Terminal) → bind r (parse.after_operand m (part m) start) ≡ found t h rest → assignment_precedence < precedence_at rest → bind r (parse.after_unary m (part m) start) ≡ found t h rest
+plain_same : (m start : ℕ) (r : Out) (t : ExprTree) (h : ℕ) (rest : List Terminal) → read_on r (parse.after_operand m (part m) start) ≡ found t h rest → assignment_precedence < precedence_at rest → read_on r (parse.after_unary m (part m) start) ≡ found t h rest
 plain_same m start (Err e) t h rest eq stop = eq
 plain_same m start (Ok x) t h rest eq stop = go (operator_at assign_of x.1) refl
   where
@@ -514,7 +514,7 @@ for_plain_conditional : {h : ℕ} {ts : List Terminal} {e : ExprTree} → Reads 
 unfolding expression
 for_plain_conditional {h} {ts} {e} r claim m le rest stop = go (begins_cast (ts ++ rest)) refl (claim m le rest (omega arith))
   where
-    go : (b : Bool) → begins_cast (ts ++ rest) ≡ b → bind (parse.cast_or_unary m (part m) (ts ++ rest)) (parse.after_operand m (part m) (place (ts ++ rest))) ≡ found e h rest → parse.assignment m (part m) (ts ++ rest) ≡ found e h rest
+    go : (b : Bool) → begins_cast (ts ++ rest) ≡ b → read_on (parse.cast_or_unary m (part m) (ts ++ rest)) (parse.after_operand m (part m) (place (ts ++ rest))) ≡ found e h rest → parse.assignment m (part m) (ts ++ rest) ≡ found e h rest
     go true c d = rw c (rw c at d)
     go false c d = rw c (plain_same m (place (ts ++ rest)) (parse.unary_of_all m (part m) (ts ++ rest)) e h rest (rw c at d) stop)
 
@@ -537,7 +537,7 @@ unfolding expression
 for_plain_assignment {h} {ts} {e} r claim m le rest stop = record {
   turns = length rest;
   enough = omega arith;
-  is = ap (λ q. bind q (λ a us. parse.commas m (part m) (length us) (place (ts ++ rest)) a us)) (claim m le rest stop) ∙ ap (λ s. parse.commas m (part m) (length rest) s (e, h) rest) (place_more r rest);
+  is = ap (λ q. read_on q (λ a us. parse.commas m (part m) (length us) (place (ts ++ rest)) a us)) (claim m le rest stop) ∙ ap (λ s. parse.commas m (part m) (length rest) s (e, h) rest) (place_more r rest);
 }
 
 comma_turn : (m n start : ℕ) (a b : ExprTree) (h k : ℕ) (at : ℕ) (ts rest : List Terminal) → h ≤ m → part m Assignment ts ≡ found b k rest → length (Punctuator at punctuators.Comma ∷ ts) ≤ n → length rest ≤ length ts

@@ -19,9 +19,9 @@ use Rattle.qs_syntax.specs.Operators.{weakest, unary_of, binary_of, assign_of, a
 use Rattle.qs_syntax.specs.Reads.{Form, Postfix, Unary, Level, Conditional, Assignment, Expression, place}
 use Rattle.qs_grammar.specs.Heads.{is_punctuator, is_keyword, starts, operator_at, begins_type}
 use Rattle.qs_grammar.specs.Parse as parse
-use Rattle.qs_grammar.specs.Parse.{Stop, Parse, bind, E, unexpected, deep, skip_consts, after_unsigned, after_signed, tagged, base, type, stars_from, stars, type_name, begins_one, begins_cast, beyond, starts_suffix, texts_from, expect}
+use Rattle.qs_grammar.specs.Parse.{Stop, Parse, read_on, E, unexpected, deep, skip_consts, after_unsigned, after_signed, tagged, base, type, stars_from, stars, type_name, begins_one, begins_cast, beyond, starts_suffix, texts_from, expect}
 use Rattle.qs_grammar.proofs.HeadsLaws.{punctuator_is}
-use Rattle.qs_grammar.proofs.Local.{left, Local, bind-left, Local-bind, Local-look, Local-weak, Local-cons, Local-cond, Local-ok, Local-here, Local-unexpected, Local-deep, Local-unexpected-all, Local-deep-all, Local-above, Local-if, Local-starts, Local-operator, Local-place, Local-punctuator, Local-name, Looks, cond-left, Local-two, bind_same, bind_nothing, cond_same, expect_takes, leaves_less, Turns, Local-turns, Local-same, Local-after, after_same}
+use Rattle.qs_grammar.proofs.Local.{left, Local, read_on-left, Local-read_on, Local-look, Local-weak, Local-cons, Local-cond, Local-ok, Local-here, Local-unexpected, Local-deep, Local-unexpected-all, Local-deep-all, Local-above, Local-if, Local-starts, Local-operator, Local-place, Local-punctuator, Local-name, Looks, cond-left, Local-two, read_on_same, read_on_nothing, cond_same, expect_takes, leaves_less, Turns, Local-turns, Local-same, Local-after, after_same}
 
 -- ---- types
 
@@ -54,7 +54,7 @@ Local-skip x = record { shrinks = λ ts. omega (arith, skip_shrinks ts); stable 
 
 -- behind what is skipped
 pub Local-skipped : {A : Type 0} (p : Parse A) → Local 0 p → Local 0 (λ ts. p (skip_consts ts))
-Local-skipped {A} p g = Local-bind (λ (u : Unit {0}) ts. p ts) (λ u. g) (λ ts. Ok (tt, skip_consts ts)) (Local-skip tt)
+Local-skipped {A} p g = Local-read_on (λ (u : Unit {0}) ts. p ts) (λ u. g) (λ ts. Ok (tt, skip_consts ts)) (Local-skip tt)
 
 Local-after_unsigned : Local 0 after_unsigned
 Local-after_unsigned = Local-look after_unsigned refl
@@ -77,7 +77,7 @@ Local-base = Local-look base refl
 
 pub Local-type : Local 0 type
 unfolding type
-Local-type = Local-skipped (λ ts. bind (base ts) (λ b us. Ok (b, skip_consts us))) (Local-bind (λ b us. Ok (b, skip_consts us)) (λ b. Local-skip b) base Local-base)
+Local-type = Local-skipped (λ ts. read_on (base ts) (λ b us. Ok (b, skip_consts us))) (Local-read_on (λ b us. Ok (b, skip_consts us)) (λ b. Local-skip b) base Local-base)
 
 -- behind a star, with as many before
 abbrev next_stars : (b c : Bool) → ℕ × List Terminal → ℕ × List Terminal → ℕ × List Terminal → ℕ × List Terminal
@@ -132,7 +132,7 @@ Local-stars = Local-same (λ ts. cond (starts punctuators.Star ts) (Ok (stars_fr
 
 pub Local-type_name : Local 0 type_name
 unfolding type_name
-Local-type_name = Local-bind _ (λ b. Local-bind (λ (n : ℕ) us. Ok (record { base = b; stars = n }, us)) (λ n. Local-ok (record { base = b; stars = n })) (λ us. Ok (stars us)) Local-stars) type Local-type
+Local-type_name = Local-read_on _ (λ b. Local-read_on (λ (n : ℕ) us. Ok (record { base = b; stars = n }, us)) (λ n. Local-ok (record { base = b; stars = n })) (λ us. Ok (stars us)) Local-stars) type Local-type
 
 -- ---- texts
 
@@ -208,29 +208,29 @@ Some_done = List ExprTree × ℕ
 
 module _ (m : ℕ) (p : Form → Parse E) (good : (form : Form) → Local 0 (p form)) (nothing : (form : Form) → p form [] ≡ unexpected []) where
   abbrev arguments_turn : (Some_done → Parse Some_done) → Some_done → Parse Some_done
-  arguments_turn f x ts = bind (p Assignment ts) (λ e us. parse.after_argument m p (λ es h. f (es, h)) (x.0 ++ e.0 ∷ []) (max x.1 e.1) us)
+  arguments_turn f x ts = read_on (p Assignment ts) (λ e us. parse.after_argument m p (λ es h. f (es, h)) (x.0 ++ e.0 ∷ []) (max x.1 e.1) us)
 
   arguments_turns : Turns (λ n x. parse.arguments m p n x.0 x.1) arguments_turn
   unfolding parse.arguments
   arguments_turns = record {
     turn = λ n x ts. refl;
-    none = λ x. bind_nothing _ (nothing Assignment);
-    takes = λ f g x ts same. bind_same (p Assignment ts) _ _ (λ e us is. after_same punctuators.CloseParenthesis punctuators.Comma (x.0 ++ e.0 ∷ [], max x.1 e.1) (f (x.0 ++ e.0 ∷ [], max x.1 e.1)) (g (x.0 ++ e.0 ∷ [], max x.1 e.1)) us
+    none = λ x. read_on_nothing _ (nothing Assignment);
+    takes = λ f g x ts same. read_on_same (p Assignment ts) _ _ (λ e us is. after_same punctuators.CloseParenthesis punctuators.Comma (x.0 ++ e.0 ∷ [], max x.1 e.1) (f (x.0 ++ e.0 ∷ [], max x.1 e.1)) (g (x.0 ++ e.0 ∷ [], max x.1 e.1)) us
         (λ vs lt. same _ vs (let less = leaves_less (p Assignment) (good Assignment) ts e us is in omega arith)));
     last = λ x. Local-unexpected-all;
-    further = λ f local x. Local-bind _ (λ e. Local-after punctuators.CloseParenthesis punctuators.Comma _ _ (local (x.0 ++ e.0 ∷ [], max x.1 e.1))) (p Assignment) (good Assignment);
+    further = λ f local x. Local-read_on _ (λ e. Local-after punctuators.CloseParenthesis punctuators.Comma _ _ (local (x.0 ++ e.0 ∷ [], max x.1 e.1))) (p Assignment) (good Assignment);
   }
 
   Local-call : (at : ℕ) (f : List ℕ) → Local 0 (parse.call_of m p at f)
   Local-call at f =
       Local-starts punctuators.CloseParenthesis _ _ (Local-punctuator punctuators.CloseParenthesis _ (λ _. Local-ok _))
-      (Local-bind _ (λ es. Local-ok _) (λ ts. parse.arguments m p (length ts) [] 0 ts) (Local-turns _ _ arguments_turns ([], 0)))
+      (Local-read_on _ (λ es. Local-ok _) (λ ts. parse.arguments m p (length ts) [] 0 ts) (Local-turns _ _ arguments_turns ([], 0)))
 
   Local-after_name : (at : ℕ) (x : List ℕ) → Local 0 (parse.after_name m p at x)
   Local-after_name at x = Local-starts punctuators.OpenParenthesis _ _ (Local-punctuator punctuators.OpenParenthesis _ (λ _. Local-call at x)) (Local-ok _)
 
   Local-parentheses : Local 0 (parse.in_parentheses m p)
-  Local-parentheses = Local-bind _ (λ e. Local-punctuator punctuators.CloseParenthesis _ (λ _. Local-ok _)) (p Expression) (good Expression)
+  Local-parentheses = Local-read_on _ (λ e. Local-punctuator punctuators.CloseParenthesis _ (λ _. Local-ok _)) (p Expression) (good Expression)
 
   Local-primary : Local 0 (parse.primary m p)
   unfolding parse.primary
@@ -240,14 +240,14 @@ module _ (m : ℕ) (p : Form → Parse E) (good : (form : Form) → Local 0 (p f
       each (Name at x) = Local-weak _ (Local-after_name at x)
       each (Keyword at k) = Local-unexpected
       each (Constant at n unsigned) = Local-weak _ (Local-ok _)
-      each (Text at bytes) = Local-weak _ (Local-bind (λ (x : List ℕ) us. Ok ((expr (unnumbered at) (text x), 1), us)) (λ x. Local-ok _) (λ ts. Ok (texts_from bytes ts)) (Local-texts bytes))
+      each (Text at bytes) = Local-weak _ (Local-read_on (λ (x : List ℕ) us. Ok ((expr (unnumbered at) (text x), 1), us)) (λ x. Local-ok _) (λ ts. Ok (texts_from bytes ts)) (Local-texts bytes))
       each (Punctuator at k) = Local-cond (is_punctuator punctuators.OpenParenthesis (Punctuator at k)) _ _ (Local-cond (m == 0) _ _ Local-deep (Local-weak _ Local-parentheses)) Local-unexpected
 
   Local-member : (start : ℕ) (a : E) (access : Access) → Local 0 (parse.member_of m p start a access)
   Local-member start a access = Local-name _ (λ x. Local-ok _)
 
   Local-index : (start : ℕ) (a : E) → Local 0 (parse.index_of m p start a)
-  Local-index start a = Local-bind _ (λ b. Local-punctuator punctuators.CloseBracket _ (λ _. Local-ok _)) (p Expression) (good Expression)
+  Local-index start a = Local-read_on _ (λ b. Local-punctuator punctuators.CloseBracket _ (λ _. Local-ok _)) (p Expression) (good Expression)
 
   Local-suffix : (start : ℕ) (a : E) → Local 0 (parse.suffix m p start a)
   Local-suffix start a = Local-look (parse.suffix m p start a) refl
@@ -268,7 +268,7 @@ module _ (m : ℕ) (p : Form → Parse E) (good : (form : Form) → Local 0 (p f
       access (Punctuator at k) = Local-weak _ (of_access (access_of k))
 
   abbrev suffixes_turn : ℕ → (E → Parse E) → E → Parse E
-  suffixes_turn start f a ts = cond (parse.begins_suffix m p ts) (parse.above m a.1 (λ us. bind (parse.suffix m p start a us) f) ts) (Ok (a, ts))
+  suffixes_turn start f a ts = cond (parse.begins_suffix m p ts) (parse.above m a.1 (λ us. read_on (parse.suffix m p start a us) f) ts) (Ok (a, ts))
 
   suffix_takes : (start : ℕ) (a : E) (ts : List Terminal) (x : E) (us : List Terminal) → parse.suffix m p start a ts ≡ Ok (x, us) → length us < length ts
   suffix_takes start a [] x us e = absurd cc
@@ -296,13 +296,13 @@ module _ (m : ℕ) (p : Form → Parse E) (good : (form : Form) → Local 0 (p f
   suffixes_turns start = record {
     turn = λ n a ts. refl;
     none = λ a. refl;
-    takes = λ f g a ts same. cond_same (starts_suffix ts) (cond_same (nat_le a.1 m) (bind_same (parse.suffix m p start a ts) f g (λ x us is. same x us (suffix_takes start a ts x us is))) refl) refl;
+    takes = λ f g a ts same. cond_same (starts_suffix ts) (cond_same (nat_le a.1 m) (read_on_same (parse.suffix m p start a ts) f g (λ x us is. same x us (suffix_takes start a ts x us is))) refl) refl;
     last = λ a. Local-ok a;
-    further = λ f local a. Local-if starts_suffix suffix_same _ _ (Local-above m a.1 _ (Local-bind f local (parse.suffix m p start a) (Local-suffix start a))) (Local-ok a);
+    further = λ f local a. Local-if starts_suffix suffix_same _ _ (Local-above m a.1 _ (Local-read_on f local (parse.suffix m p start a) (Local-suffix start a))) (Local-ok a);
   }
 
   Local-postfix : Local 0 (parse.postfix m p)
-  Local-postfix = Local-place (λ start ts. bind (parse.primary m p ts) (λ a us. parse.suffixes m p (length us) start a us)) (λ start. Local-bind _ (λ a. Local-turns _ _ (suffixes_turns start) a) (parse.primary m p) Local-primary)
+  Local-postfix = Local-place (λ start ts. read_on (parse.primary m p ts) (λ a us. parse.suffixes m p (length us) start a us)) (λ start. Local-read_on _ (λ a. Local-turns _ _ (suffixes_turns start) a) (parse.primary m p) Local-primary)
 
   -- ---- unary
 
@@ -310,9 +310,9 @@ module _ (m : ℕ) (p : Form → Parse E) (good : (form : Form) → Local 0 (p f
   unfolding parse.primary
   opens_postfix at us e = by_case (m == 0) e
     where
-      by_case : (b : Bool) → b ≡ false → left (bind (cond b (deep (Punctuator at punctuators.OpenParenthesis ∷ us)) (parse.in_parentheses m p us)) (λ a vs. parse.suffixes m p (length vs) at a vs)) ≤ length us
+      by_case : (b : Bool) → b ≡ false → left (read_on (cond b (deep (Punctuator at punctuators.OpenParenthesis ∷ us)) (parse.in_parentheses m p us)) (λ a vs. parse.suffixes m p (length vs) at a vs)) ≤ length us
       by_case true e = absurd cc
-      by_case false e = omega (arith, bind-left _ (λ a. Local-turns _ _ (suffixes_turns at) a) (parse.in_parentheses m p us), Local-parentheses.shrinks us)
+      by_case false e = omega (arith, read_on-left _ (λ a. Local-turns _ _ (suffixes_turns at) a) (parse.in_parentheses m p us), Local-parentheses.shrinks us)
 
   opens_unary : (at : ℕ) (us : List Terminal) → (m == 0) ≡ false → left (parse.unary_of_all m p (Punctuator at punctuators.OpenParenthesis ∷ us)) ≤ length us
   unfolding parse.unary_of_all
@@ -323,17 +323,17 @@ module _ (m : ℕ) (p : Form → Parse E) (good : (form : Form) → Local 0 (p f
   deep_unary at us e = rw e refl
 
   module _ (opens : (at : ℕ) (us : List Terminal) → 1 < m → left (p Unary (Punctuator at punctuators.OpenParenthesis ∷ us)) ≤ length us) where
-    Local-operand : (f : E → E) (form : Form) → Local 0 (λ ts. bind (p form ts) (λ e us. Ok (f e, us)))
-    Local-operand f form = Local-bind _ (λ e. Local-ok (f e)) (p form) (good form)
+    Local-operand : (f : E → E) (form : Form) → Local 0 (λ ts. read_on (p form ts) (λ e us. Ok (f e, us)))
+    Local-operand f form = Local-read_on _ (λ e. Local-ok (f e)) (p form) (good form)
 
     abbrev typed_size : ℕ → Parse E
-    typed_size at ts = bind (expect punctuators.OpenParenthesis ts) (λ _ us. bind (type_name us) (λ t vs. bind (expect punctuators.CloseParenthesis vs) (λ _ ws. Ok ((expr (unnumbered at) (sizeof_type t), 1), ws))))
+    typed_size at ts = read_on (expect punctuators.OpenParenthesis ts) (λ _ us. read_on (type_name us) (λ t vs. read_on (expect punctuators.CloseParenthesis vs) (λ _ ws. Ok ((expr (unnumbered at) (sizeof_type t), 1), ws))))
 
     abbrev valued_size : ℕ → Parse E
-    valued_size at ts = cond (nat_le m 1 && starts punctuators.OpenParenthesis ts) (parse.size_at_limit ts) (bind (p Unary ts) (λ e us. Ok ((expr (unnumbered at) (sizeof_expr e.0), e.1 + 1), us)))
+    valued_size at ts = cond (nat_le m 1 && starts punctuators.OpenParenthesis ts) (parse.size_at_limit ts) (read_on (p Unary ts) (λ e us. Ok ((expr (unnumbered at) (sizeof_expr e.0), e.1 + 1), us)))
 
-    Local-in_size : (at : ℕ) → Local {A = E} 0 (λ us. bind (type_name us) (λ t vs. bind (expect punctuators.CloseParenthesis vs) (λ _ ws. Ok ((expr (unnumbered at) (sizeof_type t), 1), ws))))
-    Local-in_size at = Local-bind _ (λ t. Local-punctuator punctuators.CloseParenthesis _ (λ _. Local-ok _)) type_name Local-type_name
+    Local-in_size : (at : ℕ) → Local {A = E} 0 (λ us. read_on (type_name us) (λ t vs. read_on (expect punctuators.CloseParenthesis vs) (λ _ ws. Ok ((expr (unnumbered at) (sizeof_type t), 1), ws))))
+    Local-in_size at = Local-read_on _ (λ t. Local-punctuator punctuators.CloseParenthesis _ (λ _. Local-ok _)) type_name Local-type_name
 
     Local-valued_size : (at : ℕ) → Local 0 (valued_size at)
     Local-valued_size at = Local-if (λ ts. nat_le m 1 && starts punctuators.OpenParenthesis ts) (λ t ts us. refl) _ _ Local-at_limit (Local-operand (λ e. (expr (unnumbered at) (sizeof_expr e.0), e.1 + 1)) Unary)
@@ -341,9 +341,9 @@ module _ (m : ℕ) (p : Form → Parse E) (good : (form : Form) → Local 0 (p f
     valued_opens : (at o : ℕ) (us : List Terminal) → left (valued_size at (Punctuator o punctuators.OpenParenthesis ∷ us)) ≤ length us
     valued_opens at o us = by_case (nat_le m 1) (λ e. leb-false m 1 e)
       where
-        by_case : (b : Bool) → (b ≡ false → 1 < m) → left {A = E} (cond (b && true) (beyond us) (bind (p Unary (Punctuator o punctuators.OpenParenthesis ∷ us)) (λ e us. Ok ((expr (unnumbered at) (sizeof_expr e.0), e.1 + 1), us)))) ≤ length us
+        by_case : (b : Bool) → (b ≡ false → 1 < m) → left {A = E} (cond (b && true) (beyond us) (read_on (p Unary (Punctuator o punctuators.OpenParenthesis ∷ us)) (λ e us. Ok ((expr (unnumbered at) (sizeof_expr e.0), e.1 + 1), us)))) ≤ length us
         by_case true h = omega (arith, (Local-beyond {A = E}).shrinks us)
-        by_case false h = omega (arith, bind-left {B = E} _ (λ (e : E). Local-ok (expr (unnumbered at) (sizeof_expr e.0), e.1 + 1)) (p Unary (Punctuator o punctuators.OpenParenthesis ∷ us)), opens o us (h refl))
+        by_case false h = omega (arith, read_on-left {B = E} _ (λ (e : E). Local-ok (expr (unnumbered at) (sizeof_expr e.0), e.1 + 1)) (p Unary (Punctuator o punctuators.OpenParenthesis ∷ us)), opens o us (h refl))
 
     Local-size : (at : ℕ) → Local 0 (parse.size_of m p at)
     Local-size at =
@@ -398,13 +398,13 @@ module _ (m : ℕ) (p : Form → Parse E) (good : (form : Form) → Local 0 (p f
         by_case false e = Local-two begins_cast q r gq gr (parenthesis_looks q r (λ at us. f at us e) (λ at us. g at us e))
 
     Local-cast : (at : ℕ) → Local 0 (parse.cast_of m p at)
-    Local-cast at = Local-bind _ (λ t. Local-punctuator punctuators.CloseParenthesis _ (λ _. Local-bind _ (λ e. Local-ok _) (p (Level 0)) (good (Level 0)))) type_name Local-type_name
+    Local-cast at = Local-read_on _ (λ t. Local-punctuator punctuators.CloseParenthesis _ (λ _. Local-read_on _ (λ e. Local-ok _) (p (Level 0)) (good (Level 0)))) type_name Local-type_name
 
     abbrev cast_here : Parse E
-    cast_here ts = parse.deeper m (λ us. bind (expect punctuators.OpenParenthesis us) (λ _ vs. parse.cast_of m p (place ts) vs)) ts
+    cast_here ts = parse.deeper m (λ us. read_on (expect punctuators.OpenParenthesis us) (λ _ vs. parse.cast_of m p (place ts) vs)) ts
 
     Local-cast_here : Local 0 cast_here
-    Local-cast_here = Local-place (λ at ts. parse.deeper m (λ us. bind (expect punctuators.OpenParenthesis us) (λ _ vs. parse.cast_of m p at vs)) ts) (λ at. Local-cond (m == 0) _ _ Local-deep-all (Local-punctuator punctuators.OpenParenthesis _ (λ _. Local-cast at)))
+    Local-cast_here = Local-place (λ at ts. parse.deeper m (λ us. read_on (expect punctuators.OpenParenthesis us) (λ _ vs. parse.cast_of m p at vs)) ts) (λ at. Local-cond (m == 0) _ _ Local-deep-all (Local-punctuator punctuators.OpenParenthesis _ (λ _. Local-cast at)))
 
     opens_cast_here : (at : ℕ) (us : List Terminal) → (m == 0) ≡ false → left (cast_here (Punctuator at punctuators.OpenParenthesis ∷ us)) ≤ length us
     opens_cast_here at us e = by_case (m == 0) e
@@ -438,11 +438,11 @@ module _ (m : ℕ) (p : Form → Parse E) (good : (form : Form) → Local 0 (p f
     operation_same j start a None f g ts same = refl
     operation_same j start a (Some operator) f g [] same = refl
     operation_same j start a (Some operator) f g (t ∷ ts) same =
-        cond_same (nat_le a.1 m) (bind_same (p (Level j) ts) _ _ (λ b us is. same _ us (let less = leaves_less (p (Level j)) (good (Level j)) ts b us is in omega arith))) refl
+        cond_same (nat_le a.1 m) (read_on_same (p (Level j) ts) _ _ (λ b us is. same _ us (let less = leaves_less (p (Level j)) (good (Level j)) ts b us is in omega arith))) refl
 
     Local-operation : (j start : ℕ) (a : E) (f : E → Parse E) → ((y : E) → Local 0 (f y)) → (o : Option BinaryOperator) → Local 0 (parse.operation_at m p j start a o f)
     Local-operation j start a f local None = Local-ok a
-    Local-operation j start a f local (Some operator) = Local-above m a.1 _ (Local-look (parse.operation m p j start a operator f) refl (λ t. Local-weak _ (Local-bind _ (λ b. local _) (p (Level j)) (good (Level j)))))
+    Local-operation j start a f local (Some operator) = Local-above m a.1 _ (Local-look (parse.operation m p j start a operator f) refl (λ t. Local-weak _ (Local-read_on _ (λ b. local _) (p (Level j)) (good (Level j)))))
 
     operations_turns : (j start : ℕ) → Turns (λ n a. parse.operations m p n j start a) (operations_turn j start)
     unfolding parse.operations
@@ -457,46 +457,46 @@ module _ (m : ℕ) (p : Form → Parse E) (good : (form : Form) → Local 0 (p f
     Local-climb : (j start : ℕ) (a : E) → Local 0 (parse.climb m p j start a)
     unfolding parse.climb
     Local-climb zero start a = Local-ok a
-    Local-climb (suc j) start a = Local-bind _ (λ b. Local-turns _ _ (operations_turns j start) b) (parse.climb m p j start a) (Local-climb j start a)
+    Local-climb (suc j) start a = Local-read_on _ (λ b. Local-turns _ _ (operations_turns j start) b) (parse.climb m p j start a) (Local-climb j start a)
 
     Local-after_or : (start : ℕ) (a : E) → Local 0 (parse.after_or m p start a)
     Local-after_or start a =
         Local-starts punctuators.Question _ _
-        (Local-above m a.1 _ (Local-punctuator punctuators.Question _ (λ _. Local-bind _ (λ b. Local-punctuator punctuators.Colon _ (λ _. Local-bind _ (λ c. Local-ok _) (p Conditional) (good Conditional))) (p Expression) (good Expression))))
+        (Local-above m a.1 _ (Local-punctuator punctuators.Question _ (λ _. Local-read_on _ (λ b. Local-punctuator punctuators.Colon _ (λ _. Local-read_on _ (λ c. Local-ok _) (p Conditional) (good Conditional))) (p Expression) (good Expression))))
         (Local-ok a)
 
     Local-after_operand : (start : ℕ) (a : E) → Local 0 (parse.after_operand m p start a)
-    Local-after_operand start a = Local-bind _ (λ b. Local-after_or start b) (parse.climb m p weakest start a) (Local-climb weakest start a)
+    Local-after_operand start a = Local-read_on _ (λ b. Local-after_or start b) (parse.climb m p weakest start a) (Local-climb weakest start a)
 
     Local-assignment_of : (start : ℕ) (a : E) (o : Option AssignmentOperator) → Local 0 (parse.assignment_of m p start a o)
     Local-assignment_of start a None = Local-after_operand start a
-    Local-assignment_of start a (Some operator) = Local-look (parse.assignment_of m p start a (Some operator)) refl (λ t. Local-cond (nat_le a.1 m) _ _ (Local-weak _ (Local-bind _ (λ b. Local-ok _) (p Assignment) (good Assignment))) Local-deep)
+    Local-assignment_of start a (Some operator) = Local-look (parse.assignment_of m p start a (Some operator)) refl (λ t. Local-cond (nat_le a.1 m) _ _ (Local-weak _ (Local-read_on _ (λ b. Local-ok _) (p Assignment) (good Assignment))) Local-deep)
 
     Local-after_unary : (start : ℕ) (a : E) → Local 0 (parse.after_unary m p start a)
     Local-after_unary start a = Local-operator assign_of (parse.assignment_of m p start a) (Local-assignment_of start a)
 
     abbrev cast_operand : Parse E
-    cast_operand ts = bind (parse.cast_or_unary m p ts) (parse.after_operand m p (place ts))
+    cast_operand ts = read_on (parse.cast_or_unary m p ts) (parse.after_operand m p (place ts))
 
     abbrev left_side : Parse E
-    left_side ts = bind (parse.unary_of_all m p ts) (parse.after_unary m p (place ts))
+    left_side ts = read_on (parse.unary_of_all m p ts) (parse.after_unary m p (place ts))
 
     Local-cast_operand : Local 0 cast_operand
-    Local-cast_operand = Local-place (λ start ts. bind (parse.cast_or_unary m p ts) (parse.after_operand m p start)) (λ start. Local-bind _ (λ a. Local-after_operand start a) (parse.cast_or_unary m p) Local-cast_or_unary)
+    Local-cast_operand = Local-place (λ start ts. read_on (parse.cast_or_unary m p ts) (parse.after_operand m p start)) (λ start. Local-read_on _ (λ a. Local-after_operand start a) (parse.cast_or_unary m p) Local-cast_or_unary)
 
     Local-left_side : Local 0 left_side
-    Local-left_side = Local-place (λ start ts. bind (parse.unary_of_all m p ts) (parse.after_unary m p start)) (λ start. Local-bind _ (λ a. Local-after_unary start a) (parse.unary_of_all m p) Local-unary)
+    Local-left_side = Local-place (λ start ts. read_on (parse.unary_of_all m p ts) (parse.after_unary m p start)) (λ start. Local-read_on _ (λ a. Local-after_unary start a) (parse.unary_of_all m p) Local-unary)
 
     Local-assignment : Local 0 (parse.assignment m p)
     Local-assignment =
         Local-cast_or cast_operand left_side Local-cast_operand Local-left_side
-        (λ at us e. ap (λ r. bind r (parse.after_unary m p at)) (deep_unary at us e) ∙ sym (ap (λ r. bind r (parse.after_operand m p at)) (deep_cast_or_unary at us e)))
-        (λ at us e. omega (arith, bind-left _ (λ a. Local-after_operand at a) (parse.cast_or_unary m p (Punctuator at punctuators.OpenParenthesis ∷ us)), opens_cast_or_unary at us e))
-        (λ at us e. omega (arith, bind-left _ (λ a. Local-after_unary at a) (parse.unary_of_all m p (Punctuator at punctuators.OpenParenthesis ∷ us)), opens_unary at us e))
+        (λ at us e. ap (λ r. read_on r (parse.after_unary m p at)) (deep_unary at us e) ∙ sym (ap (λ r. read_on r (parse.after_operand m p at)) (deep_cast_or_unary at us e)))
+        (λ at us e. omega (arith, read_on-left _ (λ a. Local-after_operand at a) (parse.cast_or_unary m p (Punctuator at punctuators.OpenParenthesis ∷ us)), opens_cast_or_unary at us e))
+        (λ at us e. omega (arith, read_on-left _ (λ a. Local-after_unary at a) (parse.unary_of_all m p (Punctuator at punctuators.OpenParenthesis ∷ us)), opens_unary at us e))
 
     abbrev commas_turn : ℕ → (E → Parse E) → E → Parse E
     commas_turn start f a ts =
-        cond (starts punctuators.Comma ts) (parse.above m a.1 (λ us. bind (expect punctuators.Comma us) (λ _ vs. bind (p Assignment vs) (λ b ws. f (expr (unnumbered start) (comma a.0 b.0), max a.1 b.1 + 1) ws))) ts) (Ok (a, ts))
+        cond (starts punctuators.Comma ts) (parse.above m a.1 (λ us. read_on (expect punctuators.Comma us) (λ _ vs. read_on (p Assignment vs) (λ b ws. f (expr (unnumbered start) (comma a.0 b.0), max a.1 b.1 + 1) ws))) ts) (Ok (a, ts))
 
     commas_turns : (start : ℕ) → Turns (λ n a. parse.commas m p n start a) (commas_turn start)
     unfolding parse.commas
@@ -504,19 +504,19 @@ module _ (m : ℕ) (p : Form → Parse E) (good : (form : Form) → Local 0 (p f
       turn = λ n a ts. refl;
       none = λ a. refl;
       takes = λ f g a ts same. cond_same (starts punctuators.Comma ts) (cond_same (nat_le a.1 m)
-          (bind_same (expect punctuators.Comma ts) _ _ (λ x us is. bind_same (p Assignment us) _ _ (λ b vs read. same _ vs (let took = expect_takes punctuators.Comma ts x us is in let less = leaves_less (p Assignment) (good Assignment) us b vs read in omega arith)))) refl) refl;
+          (read_on_same (expect punctuators.Comma ts) _ _ (λ x us is. read_on_same (p Assignment us) _ _ (λ b vs read. same _ vs (let took = expect_takes punctuators.Comma ts x us is in let less = leaves_less (p Assignment) (good Assignment) us b vs read in omega arith)))) refl) refl;
       last = λ a. Local-ok a;
-      further = λ f local a. Local-starts punctuators.Comma _ _ (Local-above m a.1 _ (Local-punctuator punctuators.Comma _ (λ _. Local-bind _ (λ b. local _) (p Assignment) (good Assignment)))) (Local-ok a);
+      further = λ f local a. Local-starts punctuators.Comma _ _ (Local-above m a.1 _ (Local-punctuator punctuators.Comma _ (λ _. Local-read_on _ (λ b. local _) (p Assignment) (good Assignment)))) (Local-ok a);
     }
 
     pub Local-expression : (form : Form) → Local 0 (parse.expression m p form)
     unfolding parse.expression
     Local-expression Postfix = Local-postfix
     Local-expression Unary = Local-unary
-    Local-expression (Level j) = Local-place (λ start ts. bind (parse.cast_or_unary m p ts) (parse.climb m p j start)) (λ start. Local-bind _ (λ a. Local-climb j start a) (parse.cast_or_unary m p) Local-cast_or_unary)
+    Local-expression (Level j) = Local-place (λ start ts. read_on (parse.cast_or_unary m p ts) (parse.climb m p j start)) (λ start. Local-read_on _ (λ a. Local-climb j start a) (parse.cast_or_unary m p) Local-cast_or_unary)
     Local-expression Conditional = Local-cast_operand
     Local-expression Assignment = Local-assignment
-    Local-expression Expression = Local-place (λ start ts. bind (parse.assignment m p ts) (λ a us. parse.commas m p (length us) start a us)) (λ start. Local-bind _ (λ a. Local-turns _ _ (commas_turns start) a) (parse.assignment m p) Local-assignment)
+    Local-expression Expression = Local-place (λ start ts. read_on (parse.assignment m p ts) (λ a us. parse.commas m p (length us) start a us)) (λ start. Local-read_on _ (λ a. Local-turns _ _ (commas_turns start) a) (parse.assignment m p) Local-assignment)
 
 record Parts (n : ℕ) : Type 0 where
   local : (form : Form) → Local 0 (parse.part n form)

@@ -18,15 +18,15 @@ use Rattle.qs_syntax.specs.Operators.{weakest, unary_of, binary_of, assign_of, a
 use Rattle.qs_syntax.specs.Reads.{Form, Postfix, Unary, Level, Conditional, Assignment, Expression, place}
 use Rattle.qs_grammar.specs.Heads.{is_punctuator, is_keyword, starts, operator_at}
 use Rattle.qs_grammar.specs.Parse as parse
-use Rattle.qs_grammar.specs.Parse.{Parse, bind, E, unexpected, deep, begins_one, begins_cast, starts_suffix, expect}
+use Rattle.qs_grammar.specs.Parse.{Parse, read_on, E, unexpected, deep, begins_one, begins_cast, starts_suffix, expect}
 use Rattle.qs_grammar.proofs.HeadsLaws.{punctuator_is}
-use Rattle.qs_grammar.proofs.MoreRoom.{DeepOrSame, DeepOrSame-refl, DeepOrSame-deep, DeepOrSame-bind, DeepOrSame-then, DeepOrSame-last, DeepOrSame-above, DeepOrSame-some, DeepOrSame-cond}
+use Rattle.qs_grammar.proofs.MoreRoom.{DeepOrSame, DeepOrSame-refl, DeepOrSame-deep, DeepOrSame-read_on, DeepOrSame-then, DeepOrSame-last, DeepOrSame-above, DeepOrSame-some, DeepOrSame-cond}
 
 module _ (m n : ℕ) (le : m ≤ n) (p q : Form → Parse E) (g : (form : Form) (ts : List Terminal) → DeepOrSame (p form ts) (q form ts)) where
   more_room_arguments : (k : ℕ) (es : List ExprTree) (h : ℕ) (ts : List Terminal) → DeepOrSame (parse.arguments m p k es h ts) (parse.arguments n q k es h ts)
   unfolding parse.arguments
   more_room_arguments zero es h ts = DeepOrSame-refl
-  more_room_arguments (suc k) es h ts = DeepOrSame-bind _ _ (g Assignment ts) (λ e us. DeepOrSame-cond (starts punctuators.CloseParenthesis us) DeepOrSame-refl (DeepOrSame-then (expect punctuators.Comma us) _ _ (λ _ vs. more_room_arguments k (es ++ e.0 ∷ []) (max h e.1) vs)))
+  more_room_arguments (suc k) es h ts = DeepOrSame-read_on _ _ (g Assignment ts) (λ e us. DeepOrSame-cond (starts punctuators.CloseParenthesis us) DeepOrSame-refl (DeepOrSame-then (expect punctuators.Comma us) _ _ (λ _ vs. more_room_arguments k (es ++ e.0 ∷ []) (max h e.1) vs)))
 
   more_room_call : (at : ℕ) (f : List ℕ) (ts : List Terminal) → DeepOrSame (parse.call_of m p at f ts) (parse.call_of n q at f ts)
   more_room_call at f ts = DeepOrSame-cond (starts punctuators.CloseParenthesis ts) DeepOrSame-refl (DeepOrSame-last _ (more_room_arguments (length ts) [] 0 ts))
@@ -58,27 +58,27 @@ module _ (m n : ℕ) (le : m ≤ n) (p q : Form → Parse E) (g : (form : Form) 
   more_room_suffixes : (k start : ℕ) (a : E) (ts : List Terminal) → DeepOrSame (parse.suffixes m p k start a ts) (parse.suffixes n q k start a ts)
   unfolding parse.suffixes
   more_room_suffixes zero start a ts = DeepOrSame-refl
-  more_room_suffixes (suc k) start a ts = DeepOrSame-cond (starts_suffix ts) (DeepOrSame-above (length ts) a.1 m n le (DeepOrSame-bind _ _ (more_room_suffix start a ts) (λ b us. more_room_suffixes k start b us))) DeepOrSame-refl
+  more_room_suffixes (suc k) start a ts = DeepOrSame-cond (starts_suffix ts) (DeepOrSame-above (length ts) a.1 m n le (DeepOrSame-read_on _ _ (more_room_suffix start a ts) (λ b us. more_room_suffixes k start b us))) DeepOrSame-refl
 
   more_room_postfix : (ts : List Terminal) → DeepOrSame (parse.postfix m p ts) (parse.postfix n q ts)
-  more_room_postfix ts = DeepOrSame-bind _ _ (more_room_primary ts) (λ a us. more_room_suffixes (length us) (place ts) a us)
+  more_room_postfix ts = DeepOrSame-read_on _ _ (more_room_primary ts) (λ a us. more_room_suffixes (length us) (place ts) a us)
 
   -- ---- unary
 
   module _ (refused : (at : ℕ) (us : List Terminal) → 1 < n → begins_one us ≡ false → q Unary (Punctuator at punctuators.OpenParenthesis ∷ us) ≡ unexpected us) where
-    refuses : (at : ℕ) (us : List Terminal) (f : E → Parse E) → 1 < n → (b : Bool) → begins_one us ≡ b → DeepOrSame (cond b (deep us) (unexpected us)) (bind (q Unary (Punctuator at punctuators.OpenParenthesis ∷ us)) f)
+    refuses : (at : ℕ) (us : List Terminal) (f : E → Parse E) → 1 < n → (b : Bool) → begins_one us ≡ b → DeepOrSame (cond b (deep us) (unexpected us)) (read_on (q Unary (Punctuator at punctuators.OpenParenthesis ∷ us)) f)
     refuses at us f some true e = DeepOrSame-deep
     refuses at us f some false e = rw (refused at us some e) DeepOrSame-refl
 
-    at_limit : (ts : List Terminal) (f : E → Parse E) → 1 < n → starts punctuators.OpenParenthesis ts ≡ true → DeepOrSame (parse.size_at_limit ts) (bind (q Unary ts) f)
+    at_limit : (ts : List Terminal) (f : E → Parse E) → 1 < n → starts punctuators.OpenParenthesis ts ≡ true → DeepOrSame (parse.size_at_limit ts) (read_on (q Unary ts) f)
     at_limit [] f some e = absurd cc
     at_limit (t ∷ ts) f some e = rw (punctuator_is punctuators.OpenParenthesis t e) (refuses (number_of t) ts f some (begins_one ts) refl)
 
-    more_room_valued : (at : ℕ) (ts : List Terminal) (f : E → Parse E) → DeepOrSame (cond (nat_le m 1 && starts punctuators.OpenParenthesis ts) (parse.size_at_limit ts) (bind (p Unary ts) f)) (cond (nat_le n 1 && starts punctuators.OpenParenthesis ts) (parse.size_at_limit ts) (bind (q Unary ts) f))
+    more_room_valued : (at : ℕ) (ts : List Terminal) (f : E → Parse E) → DeepOrSame (cond (nat_le m 1 && starts punctuators.OpenParenthesis ts) (parse.size_at_limit ts) (read_on (p Unary ts) f)) (cond (nat_le n 1 && starts punctuators.OpenParenthesis ts) (parse.size_at_limit ts) (read_on (q Unary ts) f))
     more_room_valued at ts f = by_case (nat_le m 1) (nat_le n 1) (starts punctuators.OpenParenthesis ts) (λ e. le-leb m 1 (omega (arith, leb-true n 1 e))) (λ e. leb-false n 1 e) refl
       where
         by_case : (b c d : Bool) → (c ≡ true → b ≡ true) → (c ≡ false → 1 < n) → starts punctuators.OpenParenthesis ts ≡ d
-            → DeepOrSame (cond (b && d) (parse.size_at_limit ts) (bind (p Unary ts) f)) (cond (c && d) (parse.size_at_limit ts) (bind (q Unary ts) f))
+            → DeepOrSame (cond (b && d) (parse.size_at_limit ts) (read_on (p Unary ts) f)) (cond (c && d) (parse.size_at_limit ts) (read_on (q Unary ts) f))
         by_case b c false lower more e = rw (and_right b false refl, and_right c false refl) (DeepOrSame-last f (g Unary ts))
         by_case true true true lower more e = DeepOrSame-refl
         by_case true false true lower more e = at_limit ts f (more refl) e
@@ -118,7 +118,7 @@ module _ (m n : ℕ) (le : m ≤ n) (p q : Form → Parse E) (g : (form : Form) 
     more_room_operation : (j start : ℕ) (a : E) (o : Option BinaryOperator) (f h : E → Parse E) → ((b : E) (us : List Terminal) → DeepOrSame (f b us) (h b us)) → (ts : List Terminal) → DeepOrSame (parse.operation_at m p j start a o f ts) (parse.operation_at n q j start a o h ts)
     more_room_operation j start a None f h others ts = DeepOrSame-refl
     more_room_operation j start a (Some operator) f h others [] = DeepOrSame-above 0 a.1 m n le DeepOrSame-refl
-    more_room_operation j start a (Some operator) f h others (t ∷ ts) = DeepOrSame-above (suc (length ts)) a.1 m n le (DeepOrSame-bind _ _ (g (Level j) ts) (λ b us. others _ us))
+    more_room_operation j start a (Some operator) f h others (t ∷ ts) = DeepOrSame-above (suc (length ts)) a.1 m n le (DeepOrSame-read_on _ _ (g (Level j) ts) (λ b us. others _ us))
 
     more_room_operations : (k j start : ℕ) (a : E) (ts : List Terminal) → DeepOrSame (parse.operations m p k j start a ts) (parse.operations n q k j start a ts)
     unfolding parse.operations
@@ -128,16 +128,16 @@ module _ (m n : ℕ) (le : m ≤ n) (p q : Form → Parse E) (g : (form : Form) 
     more_room_climb : (j start : ℕ) (a : E) (ts : List Terminal) → DeepOrSame (parse.climb m p j start a ts) (parse.climb n q j start a ts)
     unfolding parse.climb
     more_room_climb zero start a ts = DeepOrSame-refl
-    more_room_climb (suc j) start a ts = DeepOrSame-bind _ _ (more_room_climb j start a ts) (λ b us. more_room_operations (length us) j start b us)
+    more_room_climb (suc j) start a ts = DeepOrSame-read_on _ _ (more_room_climb j start a ts) (λ b us. more_room_operations (length us) j start b us)
 
     more_room_after_or : (start : ℕ) (a : E) (ts : List Terminal) → DeepOrSame (parse.after_or m p start a ts) (parse.after_or n q start a ts)
     more_room_after_or start a ts =
         DeepOrSame-cond (starts punctuators.Question ts)
-        (DeepOrSame-above (length ts) a.1 m n le (DeepOrSame-then (expect punctuators.Question ts) _ _ (λ _ us. DeepOrSame-bind _ _ (g Expression us) (λ b vs. DeepOrSame-then (expect punctuators.Colon vs) _ _ (λ _ ws. DeepOrSame-last _ (g Conditional ws))))))
+        (DeepOrSame-above (length ts) a.1 m n le (DeepOrSame-then (expect punctuators.Question ts) _ _ (λ _ us. DeepOrSame-read_on _ _ (g Expression us) (λ b vs. DeepOrSame-then (expect punctuators.Colon vs) _ _ (λ _ ws. DeepOrSame-last _ (g Conditional ws))))))
         DeepOrSame-refl
 
     more_room_after_operand : (start : ℕ) (a : E) (ts : List Terminal) → DeepOrSame (parse.after_operand m p start a ts) (parse.after_operand n q start a ts)
-    more_room_after_operand start a ts = DeepOrSame-bind _ _ (more_room_climb weakest start a ts) (λ b us. more_room_after_or start b us)
+    more_room_after_operand start a ts = DeepOrSame-read_on _ _ (more_room_climb weakest start a ts) (λ b us. more_room_after_or start b us)
 
     more_room_assignment_of : (start : ℕ) (a : E) (o : Option AssignmentOperator) (ts : List Terminal) → DeepOrSame (parse.assignment_of m p start a o ts) (parse.assignment_of n q start a o ts)
     more_room_assignment_of start a None ts = more_room_after_operand start a ts
@@ -146,23 +146,23 @@ module _ (m n : ℕ) (le : m ≤ n) (p q : Form → Parse E) (g : (form : Form) 
 
     more_room_assignment : (ts : List Terminal) → DeepOrSame (parse.assignment m p ts) (parse.assignment n q ts)
     more_room_assignment ts =
-        DeepOrSame-cond (begins_cast ts) (DeepOrSame-bind _ _ (more_room_cast_or_unary ts) (λ a us. more_room_after_operand (place ts) a us))
-        (DeepOrSame-bind _ _ (more_room_unary ts) (λ a us. more_room_assignment_of (place ts) a (operator_at assign_of us) us))
+        DeepOrSame-cond (begins_cast ts) (DeepOrSame-read_on _ _ (more_room_cast_or_unary ts) (λ a us. more_room_after_operand (place ts) a us))
+        (DeepOrSame-read_on _ _ (more_room_unary ts) (λ a us. more_room_assignment_of (place ts) a (operator_at assign_of us) us))
 
     more_room_commas : (k start : ℕ) (a : E) (ts : List Terminal) → DeepOrSame (parse.commas m p k start a ts) (parse.commas n q k start a ts)
     unfolding parse.commas
     more_room_commas zero start a ts = DeepOrSame-refl
     more_room_commas (suc k) start a ts =
-        DeepOrSame-cond (starts punctuators.Comma ts) (DeepOrSame-above (length ts) a.1 m n le (DeepOrSame-then (expect punctuators.Comma ts) _ _ (λ _ us. DeepOrSame-bind _ _ (g Assignment us) (λ b vs. more_room_commas k start _ vs)))) DeepOrSame-refl
+        DeepOrSame-cond (starts punctuators.Comma ts) (DeepOrSame-above (length ts) a.1 m n le (DeepOrSame-then (expect punctuators.Comma ts) _ _ (λ _ us. DeepOrSame-read_on _ _ (g Assignment us) (λ b vs. more_room_commas k start _ vs)))) DeepOrSame-refl
 
     pub more_room_expression : (form : Form) (ts : List Terminal) → DeepOrSame (parse.expression m p form ts) (parse.expression n q form ts)
     unfolding parse.expression
     more_room_expression Postfix ts = more_room_postfix ts
     more_room_expression Unary ts = more_room_unary ts
-    more_room_expression (Level j) ts = DeepOrSame-bind _ _ (more_room_cast_or_unary ts) (λ a us. more_room_climb j (place ts) a us)
-    more_room_expression Conditional ts = DeepOrSame-bind _ _ (more_room_cast_or_unary ts) (λ a us. more_room_after_operand (place ts) a us)
+    more_room_expression (Level j) ts = DeepOrSame-read_on _ _ (more_room_cast_or_unary ts) (λ a us. more_room_climb j (place ts) a us)
+    more_room_expression Conditional ts = DeepOrSame-read_on _ _ (more_room_cast_or_unary ts) (λ a us. more_room_after_operand (place ts) a us)
     more_room_expression Assignment ts = more_room_assignment ts
-    more_room_expression Expression ts = DeepOrSame-bind _ _ (more_room_assignment ts) (λ a us. more_room_commas (length us) (place ts) a us)
+    more_room_expression Expression ts = DeepOrSame-read_on _ _ (more_room_assignment ts) (λ a us. more_room_commas (length us) (place ts) a us)
 
 -- ---- what begins no expression
 

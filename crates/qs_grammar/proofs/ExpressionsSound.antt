@@ -19,7 +19,7 @@ use Rattle.qs_grammar.specs.Heads.{is_punctuator, is_keyword, starts, operator_a
 use Rattle.qs_grammar.specs.Parse as parse
 use Rattle.qs_grammar.specs.Parse.{Stop, Parse, E, begins_one, begins_cast, texts_from}
 use Rattle.qs_grammar.proofs.HeadsLaws.{punctuator_is, keyword_is, unary_is, binary_is, assign_is, access_is, operator_is}
-use Rattle.qs_grammar.proofs.Sound.{Sound, Sound-ok, Sound-err, at_end, Sound-token, Sound-mono, Sound-bind, Sound-then}
+use Rattle.qs_grammar.proofs.Sound.{Sound, Sound-ok, Sound-err, at_end, Sound-token, Sound-mono, Sound-read_on, Sound-then}
 use Rattle.qs_grammar.proofs.SoundSteps.{Sound-if, Sound-above, Sound-ends, Sound-from, Sound-punctuator, sound_expect, sound_expect_name}
 use Rattle.qs_grammar.proofs.TypesSound.{sound_type_name}
 use Rattle.qs_grammar.proofs.ExpressionsBegin.{place_more}
@@ -115,7 +115,7 @@ module _ (m : ℕ) (p : Form → Parse E) (sound : (form : Form) (ts : List Term
   unfolding parse.arguments
   sound_arguments zero ds k xs j le ts = Sound-err at_end
   sound_arguments (suc n) ds k xs j le ts =
-      Sound-bind _ (sound Assignment ts)
+      Sound-read_on _ (sound Assignment ts)
       (λ e front us r. let low : max k e.1 ≤ m = omega (arith, r.1) in
       Sound-if (starts punctuators.CloseParenthesis us)
       (λ _. Sound-punctuator punctuators.CloseParenthesis _ (λ c vs. Sound-ok (closed m k e.1 c xs front ds e.0 j r.0 low)))
@@ -125,7 +125,7 @@ module _ (m : ℕ) (p : Form → Parse E) (sound : (form : Form) (ts : List Term
   sound_call at o f ts =
       Sound-if (starts punctuators.CloseParenthesis ts)
       (λ _. Sound-punctuator punctuators.CloseParenthesis _ (λ c us. Sound-ok (an_empty_call at o c f, omega arith)))
-      (λ _. Sound-bind _ (sound_arguments (length ts) [] 0 [] joins_none (omega arith) ts)
+      (λ _. Sound-read_on _ (sound_arguments (length ts) [] 0 [] joins_none (omega arith) ts)
       (λ es front us c. Sound-ok (cast_read (omega arith) (ap (λ l. Name at f ∷ Punctuator o punctuators.OpenParenthesis ∷ l) (sym c.split)) refl (a_call at o c.at f c.are), let low : es.1 ≤ m = c.low in omega arith)))
 
   sound_name : (at : ℕ) (x : List ℕ) (ts : List Terminal) → Sound (IsRead (m + 1) Postfix) (Name at x ∷ []) ts (parse.after_name m p at x ts)
@@ -134,7 +134,7 @@ module _ (m : ℕ) (p : Form → Parse E) (sound : (form : Form) (ts : List Term
 
   sound_parentheses : (o : ℕ) (ts : List Terminal) → Sound (IsRead (m + 1) Postfix) (Punctuator o punctuators.OpenParenthesis ∷ []) ts (parse.in_parentheses m p ts)
   sound_parentheses o ts =
-      Sound-bind _ (sound Expression ts)
+      Sound-read_on _ (sound Expression ts)
       (λ e front us r. Sound-punctuator punctuators.CloseParenthesis _ (λ c vs. Sound-ok (cast_read (omega arith) refl refl (in_parentheses o c r.0), let low : e.1 ≤ m = r.1 in omega arith)))
 
   -- with the punctuator that was looked at before what goes on
@@ -162,7 +162,7 @@ module _ (m : ℕ) (p : Form → Parse E) (sound : (form : Form) (ts : List Term
 
   sound_index : (start o : ℕ) (a : E) (done : List Terminal) → Begun (m + 1) Postfix start a done → a.1 ≤ m → (ts : List Terminal) → Sound (Begun (m + 1) Postfix start) (done ++ Punctuator o punctuators.OpenBracket ∷ []) ts (parse.index_of m p start a ts)
   sound_index start o a done r le ts =
-      Sound-bind _ (sound Expression ts)
+      Sound-read_on _ (sound Expression ts)
       (λ b front us q. Sound-punctuator punctuators.CloseBracket _ (λ c vs. Sound-ok
       (let low : max a.1 b.1 ≤ m = omega (arith, q.1) in
       built Postfix start a.1 (max a.1 b.1) done (Punctuator o punctuators.OpenBracket ∷ (front ++ Punctuator c punctuators.CloseBracket ∷ [])) _ a.0 (subscript a.0 b.0) r.0 r.2 (an_index o c r.0 q.0) (simp append_assoc) low)))
@@ -170,7 +170,7 @@ module _ (m : ℕ) (p : Form → Parse E) (sound : (form : Form) (ts : List Term
   sound_member : (start d : ℕ) (a : E) (access : Access) (done : List Terminal) → Begun (m + 1) Postfix start a done → a.1 ≤ m → (ts : List Terminal)
       → Sound (Begun (m + 1) Postfix start) (done ++ Punctuator d (punctuator_of_access access) ∷ []) ts (parse.member_of m p start a access ts)
   sound_member start d a access done r le ts =
-      Sound-bind _ (sound_expect_name ts)
+      Sound-read_on _ (sound_expect_name ts)
       (λ x front us is. Sound-ok (built Postfix start a.1 a.1 done (Punctuator d (punctuator_of_access access) ∷ Name x.0 x.1 ∷ []) _ a.0 (member access a.0 x.1) r.0 r.2 (a_member access d x.0 x.1 r.0) (rw is (simp append_assoc)) le))
 
   sound_access : (start : ℕ) (a : E) (done : List Terminal) → Begun (m + 1) Postfix start a done → a.1 ≤ m → (t : Terminal) (ts : List Terminal) (o : Option Access) → operator_at access_of (t ∷ ts) ≡ o
@@ -216,13 +216,13 @@ module _ (m : ℕ) (p : Form → Parse E) (sound : (form : Form) (ts : List Term
   as_unary x l r = (a_postfix r.0, r.1)
 
   sound_operator : (operator : UnaryOperator) (at : ℕ) (ts : List Terminal) → Sound (IsRead (m + 1) Unary) (Punctuator at (punctuator_of_unary operator) ∷ []) ts (parse.operator_of m p at operator ts)
-  sound_operator operator at ts = Sound-bind _ (sound (Level 0) ts) (λ e front us r. Sound-ok (cast_read (omega arith) refl refl (an_operator operator at r.0), let low : e.1 ≤ m = r.1 in omega arith))
+  sound_operator operator at ts = Sound-read_on _ (sound (Level 0) ts) (λ e front us r. Sound-ok (cast_read (omega arith) refl refl (an_operator operator at r.0), let low : e.1 ≤ m = r.1 in omega arith))
 
   sound_increment : (at : ℕ) (ts : List Terminal) → Sound (IsRead (m + 1) Unary) (Punctuator at punctuators.Increment ∷ []) ts (parse.step_of m p at steps.IncrementBefore ts)
-  sound_increment at ts = Sound-bind _ (sound Unary ts) (λ e front us r. Sound-ok (cast_read (omega arith) refl refl (an_increment at r.0), let low : e.1 ≤ m = r.1 in omega arith))
+  sound_increment at ts = Sound-read_on _ (sound Unary ts) (λ e front us r. Sound-ok (cast_read (omega arith) refl refl (an_increment at r.0), let low : e.1 ≤ m = r.1 in omega arith))
 
   sound_decrement : (at : ℕ) (ts : List Terminal) → Sound (IsRead (m + 1) Unary) (Punctuator at punctuators.Decrement ∷ []) ts (parse.step_of m p at steps.DecrementBefore ts)
-  sound_decrement at ts = Sound-bind _ (sound Unary ts) (λ e front us r. Sound-ok (cast_read (omega arith) refl refl (a_decrement at r.0), let low : e.1 ≤ m = r.1 in omega arith))
+  sound_decrement at ts = Sound-read_on _ (sound Unary ts) (λ e front us r. Sound-ok (cast_read (omega arith) refl refl (a_decrement at r.0), let low : e.1 ≤ m = r.1 in omega arith))
 
   -- nothing is read where no level is left
   Sound-at_limit : {R : E → List Terminal → Type 0} {done : List Terminal} (ts : List Terminal) → Sound R done ts (parse.size_at_limit ts)
@@ -231,10 +231,10 @@ module _ (m : ℕ) (p : Form → Parse E) (sound : (form : Form) (ts : List Term
   sound_size : (at : ℕ) (ts : List Terminal) → Sound (IsRead (m + 1) Unary) (Keyword at keywords.Sizeof ∷ []) ts (parse.size_of m p at ts)
   sound_size at ts =
       Sound-if (begins_cast ts)
-      (λ _. Sound-punctuator punctuators.OpenParenthesis _ (λ o us. Sound-bind _ (sound_type_name us)
+      (λ _. Sound-punctuator punctuators.OpenParenthesis _ (λ o us. Sound-read_on _ (sound_type_name us)
       (λ t front vs r. Sound-punctuator punctuators.CloseParenthesis _ (λ c ws. Sound-ok (cast_read refl refl refl (a_size_of_type at o c r), omega arith)))))
       (λ _. Sound-if (nat_le m 1 && starts punctuators.OpenParenthesis ts) (λ _. Sound-at_limit ts)
-      (λ _. Sound-bind _ (sound Unary ts) (λ e front us r. Sound-ok (cast_read (omega arith) refl refl (a_size_of_value at r.0), let low : e.1 ≤ m = r.1 in omega arith))))
+      (λ _. Sound-read_on _ (sound Unary ts) (λ e front us r. Sound-ok (cast_read (omega arith) refl refl (a_size_of_value at r.0), let low : e.1 ≤ m = r.1 in omega arith))))
 
   sound_operator_at : (at : ℕ) (k : punctuator.Punctuator) (ts : List Terminal) (o : Option UnaryOperator) → unary_of k ≡ o → Sound (IsRead (m + 1) Unary) [] (Punctuator at k ∷ ts) (parse.unary_operator_at m p at o k ts)
   sound_operator_at at k ts None e = Sound-mono as_unary (sound_postfix (Punctuator at k ∷ ts))
@@ -257,8 +257,8 @@ module _ (m : ℕ) (p : Form → Parse E) (sound : (form : Form) (ts : List Term
 
   pub sound_cast : (at : ℕ) (ts : List Terminal) → Sound (IsRead (m + 1) (Level 0)) (Punctuator at punctuators.OpenParenthesis ∷ []) ts (parse.cast_of m p at ts)
   sound_cast at ts =
-      Sound-bind _ (sound_type_name ts)
-      (λ t front us r. Sound-punctuator punctuators.CloseParenthesis _ (λ c vs. Sound-bind _ (sound (Level 0) vs)
+      Sound-read_on _ (sound_type_name ts)
+      (λ t front us r. Sound-punctuator punctuators.CloseParenthesis _ (λ c vs. Sound-read_on _ (sound (Level 0) vs)
       (λ e more ws q. Sound-ok (cast_read (omega arith) (ap (λ l. Punctuator at punctuators.OpenParenthesis ∷ l) (sym (append_assoc front (Punctuator c punctuators.CloseParenthesis ∷ []) more))) refl (a_cast at c r q.0), let low : e.1 ≤ m = q.1 in omega arith))))
 
   pub sound_cast_or_unary : (ts : List Terminal) → Sound (IsRead (m + 1) (Level 0)) [] ts (parse.cast_or_unary m p ts)
@@ -288,7 +288,7 @@ module _ (m : ℕ) (p : Form → Parse E) (sound : (form : Form) (ts : List Term
       let level = of_level_is j (operator_at binary_of (t ∷ ts)) operator e in
       let is = operator_is binary_of punctuator_of_binary binary_is (t ∷ ts) operator level.0 in
       Sound-above m a.1 (Sound-err at_end)
-      (λ le. Sound-token (Sound-bind _ (sound (Level j) ts)
+      (λ le. Sound-token (Sound-read_on _ (sound (Level j) ts)
       (λ b front us q. again (expr (unnumbered start) (binary operator a.0 b.0), max a.1 b.1 + 1) ((done ++ t ∷ []) ++ front) us
       (let low : max a.1 b.1 ≤ m = omega (arith, q.1) in
       built (Level (suc j)) start a.1 (max a.1 b.1) done (Punctuator is.0 (punctuator_of_binary operator) ∷ front) _ a.0 (binary operator a.0 b.0) r.0 r.2 (an_operation operator is.0 level.1 r.0 q.0)
@@ -314,8 +314,8 @@ module _ (m : ℕ) (p : Form → Parse E) (sound : (form : Form) (ts : List Term
   sound_after_or start a done r ts =
       Sound-if (starts punctuators.Question ts)
       (λ _. Sound-above m a.1 (Sound-err at_end)
-      (λ le. Sound-punctuator punctuators.Question _ (λ o us. Sound-bind _ (sound Expression us)
-      (λ b front vs q. Sound-punctuator punctuators.Colon _ (λ c ws. Sound-bind _ (sound Conditional ws)
+      (λ le. Sound-punctuator punctuators.Question _ (λ o us. Sound-read_on _ (sound Expression us)
+      (λ b front vs q. Sound-punctuator punctuators.Colon _ (λ c ws. Sound-read_on _ (sound Conditional ws)
       (λ d more xs s. Sound-ok
       (let low : max a.1 (max b.1 d.1) ≤ m = omega (arith, q.1, s.1) in
       built Conditional start a.1 (max a.1 (max b.1 d.1)) done (Punctuator o punctuators.Question ∷ (front ++ Punctuator c punctuators.Colon ∷ more)) _ a.0 (conditional a.0 b.0 d.0) r.0 r.2 (a_choice o c r.0 q.0 s.0) (simp append_assoc) low)))))))
@@ -334,7 +334,7 @@ module _ (m : ℕ) (p : Form → Parse E) (sound : (form : Form) (ts : List Term
   sound_assignment_of start a done r (t ∷ ts) (Some operator) e =
       let is = operator_is assign_of punctuator_of_assign assign_is (t ∷ ts) operator e in
       Sound-above m a.1 (Sound-err at_end)
-      (λ le. Sound-token (Sound-bind _ (sound Assignment ts)
+      (λ le. Sound-token (Sound-read_on _ (sound Assignment ts)
       (λ b front us q. Sound-ok
       (let low : max a.1 b.1 ≤ m = omega (arith, q.1) in
       built Assignment start a.1 (max a.1 b.1) done (Punctuator is.0 (punctuator_of_assign operator) ∷ front) _ a.0 (assign operator a.0 b.0) r.0 r.2 (an_assignment operator is.0 r.0 q.0)
@@ -357,7 +357,7 @@ module _ (m : ℕ) (p : Form → Parse E) (sound : (form : Form) (ts : List Term
   sound_commas (suc n) start a done r ts =
       Sound-if (starts punctuators.Comma ts)
       (λ _. Sound-above m a.1 (Sound-err at_end)
-      (λ le. Sound-punctuator punctuators.Comma _ (λ c us. Sound-bind _ (sound Assignment us)
+      (λ le. Sound-punctuator punctuators.Comma _ (λ c us. Sound-read_on _ (sound Assignment us)
       (λ b front vs q. sound_commas n start (expr (unnumbered start) (comma a.0 b.0), max a.1 b.1 + 1) ((done ++ Punctuator c punctuators.Comma ∷ []) ++ front)
       (let low : max a.1 b.1 ≤ m = omega (arith, q.1) in
       built Expression start a.1 (max a.1 b.1) done (Punctuator c punctuators.Comma ∷ front) _ a.0 (comma a.0 b.0) r.0 r.2 (a_comma c r.0 q.0) (simp append_assoc) low) vs))))

@@ -18,13 +18,13 @@ use Rattle.qs_syntax.specs.ReadsTypes.{ReadsConsts, no_const, ReadsBase, an_int,
 use Rattle.qs_syntax.specs.Reads.{Form, Postfix, Unary, Level, Conditional, Assignment, Expression, place, Reads, ReadsArguments, a_name, an_empty_call, a_call, a_constant, a_text, no_text, in_parentheses, an_index, a_member, an_increment_after, a_decrement_after, a_postfix, an_increment, a_decrement, an_operator, a_size_of_type, a_size_of_value, a_cast, an_operand, stronger, an_operation, a_plain_level, a_choice, a_plain_conditional, an_assignment, a_plain_assignment, a_comma, a_last_argument, an_argument}
 use Rattle.qs_grammar.specs.Heads.{is_punctuator, is_keyword, starts, operator_at, begins_type}
 use Rattle.qs_grammar.specs.Parse as parse
-use Rattle.qs_grammar.specs.Parse.{Deep, Parse, bind, E, skip_consts, after_unsigned, after_signed, tagged, base, type, type_name, begins_one, begins_cast, beyond, starts_suffix}
+use Rattle.qs_grammar.specs.Parse.{Deep, Parse, read_on, E, skip_consts, after_unsigned, after_signed, tagged, base, type, type_name, begins_one, begins_cast, beyond, starts_suffix}
 use Rattle.qs_grammar.proofs.HeadsLaws.{punctuator_is, keyword_is, unary_is, binary_is, assign_is, access_is, operator_is}
 use Rattle.qs_grammar.proofs.Sound.{Sound}
 use Rattle.qs_grammar.proofs.TypesSound.{Taken, taken_consts, sound_type_name}
 use Rattle.qs_grammar.proofs.ExpressionsSound.{IsRead, Begun, starting, sound_primary, sound_suffix, sound_unary, sound_cast_or_unary, sound_climb, sound_assignment, of_level_is, sound_part}
 use Rattle.qs_grammar.proofs.ExpressionsBegin.{high}
-use Rattle.qs_grammar.proofs.Viable.{Claims, OfFronts, behind_token, behind, Both, under, Viable, Viable-ok, Viable-unexpected, Viable-deep, Viable-after, Viable-token, Viable-if, Viable-joined, Viable-bind, Viable-bind-is, Viable-then, Viable-done, here, Viable-is_punctuator, Viable-keyword, Viable-punctuator, Viable-name, Viable-above, Viable-some}
+use Rattle.qs_grammar.proofs.Viable.{Claims, OfFronts, behind_token, behind, Both, under, Viable, Viable-ok, Viable-unexpected, Viable-deep, Viable-after, Viable-token, Viable-if, Viable-joined, Viable-read_on, Viable-read_on-is, Viable-then, Viable-done, here, Viable-is_punctuator, Viable-keyword, Viable-punctuator, Viable-name, Viable-above, Viable-some}
 
 -- ---- types
 
@@ -198,7 +198,7 @@ module _ (m : ℕ) (p : Form → Parse E) (sound : (form : Form) (ts : List Term
   unfolding parse.arguments
   viable_arguments zero es h Q c w low ts = Viable-unexpected low
   viable_arguments (suc n) es h Q c w low ts =
-      Viable-bind _ (sound Assignment ts) (viable Assignment refl Q c begun low ts)
+      Viable-read_on _ (sound Assignment ts) (viable Assignment refl Q c begun low ts)
       (λ e front us r. let q : Q true (front ++ []) = here Q front ((begun e.1 front (e.0, r.0)).1 r.1) in
       Viable-if (starts punctuators.CloseParenthesis us)
       (λ _. Viable-punctuator punctuators.CloseParenthesis us _ q (λ at vs. Viable-ok))
@@ -235,7 +235,7 @@ module _ (m : ℕ) (p : Form → Parse E) (sound : (form : Form) (ts : List Term
 
     viable_parentheses : (o : ℕ) (ts : List Terminal) → 0 < m → Viable (λ b l. Q b (Punctuator o punctuators.OpenParenthesis ∷ l)) ts (parse.in_parentheses m p ts)
     viable_parentheses o ts some =
-        Viable-bind _ (sound Expression ts) (viable Expression refl _ (behind_token (Punctuator o punctuators.OpenParenthesis) c) (inner_begun o) (c.front true (Punctuator o punctuators.OpenParenthesis ∷ []) number ((inner_begun o 1 number (one Expression refl)).1 some)) ts)
+        Viable-read_on _ (sound Expression ts) (viable Expression refl _ (behind_token (Punctuator o punctuators.OpenParenthesis) c) (inner_begun o) (c.front true (Punctuator o punctuators.OpenParenthesis ∷ []) number ((inner_begun o 1 number (one Expression refl)).1 some)) ts)
         (λ e front us r. Viable-punctuator punctuators.CloseParenthesis us _ (here (λ b l. Q b (Punctuator o punctuators.OpenParenthesis ∷ l)) front ((inner_begun o e.1 front (e.0, r.0)).1 r.1)) (λ _ vs. Viable-ok))
 
     viable_primary : (ts : List Terminal) → Viable Q ts (parse.primary m p ts)
@@ -261,7 +261,7 @@ module _ (m : ℕ) (p : Form → Parse E) (sound : (form : Form) (ts : List Term
 
       viable_index : (start o : ℕ) (a : E) → g ≤ m → (ts : List Terminal) → Viable (λ b l. Q b (done ++ Punctuator o punctuators.OpenBracket ∷ l)) ts (parse.index_of m p start a ts)
       viable_index start o a fits ts =
-          Viable-bind _ (sound Expression ts)
+          Viable-read_on _ (sound Expression ts)
           (viable Expression refl _ (behind_token (Punctuator o punctuators.OpenBracket) (behind done c)) (index_begun o fits) ((behind done c).front true (Punctuator o punctuators.OpenBracket ∷ []) number ((index_begun o fits 1 number (one Expression refl)).1 (omega arith))) ts)
           (λ b front us r. Viable-punctuator punctuators.CloseBracket us _ (here (λ b l. Q b (done ++ Punctuator o punctuators.OpenBracket ∷ l)) front ((index_begun o fits b.1 front (b.0, r.0)).1 r.1)) (λ _ vs. Viable-ok))
 
@@ -319,7 +319,7 @@ module _ (m : ℕ) (p : Form → Parse E) (sound : (form : Form) (ts : List Term
         (λ _. Viable-ok)
 
     viable_postfix : (ts : List Terminal) → Viable Q ts (parse.postfix m p ts)
-    viable_postfix ts = Viable-bind-is _ (sound_primary m p sound ts) (viable_primary ts) (λ a front us read e r. viable_suffixes (length us) (place ts) a front (starting m p sound Postfix ts front us a e r) us)
+    viable_postfix ts = Viable-read_on-is _ (sound_primary m p sound ts) (viable_primary ts) (λ a front us read e r. viable_suffixes (length us) (place ts) a front (starting m p sound Postfix ts front us a e r) us)
 
   -- ---- unary
 
@@ -331,7 +331,7 @@ module _ (m : ℕ) (p : Form → Parse E) (sound : (form : Form) (ts : List Term
     as_postfix h xs s = w h xs (s.0, a_postfix s.1)
 
     -- a token, and a part behind it
-    viable_token_and_part : (t : Terminal) (form : Form) → is_part form ≡ true → ((h : ℕ) (xs : List Terminal) → Has form h xs → Has Unary (suc h) (t ∷ xs)) → (f : E → E) (ts : List Terminal) → Viable Q (t ∷ ts) (cond (m == 0) (Err (Deep (suc (length ts)))) (bind (p form ts) (λ e us. Ok (f e, us))))
+    viable_token_and_part : (t : Terminal) (form : Form) → is_part form ≡ true → ((h : ℕ) (xs : List Terminal) → Has form h xs → Has Unary (suc h) (t ∷ xs)) → (f : E → E) (ts : List Terminal) → Viable Q (t ∷ ts) (cond (m == 0) (Err (Deep (suc (length ts)))) (read_on (p form ts) (λ e us. Ok (f e, us))))
     viable_token_and_part t form part built f ts =
         let begun : (h : ℕ) (xs : List Terminal) → Has form h xs → Both Q m h (t ∷ xs) = λ h xs s. (let both = w (suc h) (t ∷ xs) (built h xs s) in (both.0, λ le. both.1 (omega arith))) in
         Viable-some m unary_yet (c.front false (t ∷ []) number (begun 1 number (one form part)).0)
@@ -370,7 +370,7 @@ module _ (m : ℕ) (p : Form → Parse E) (sound : (form : Form) (ts : List Term
       viable_size ts =
           Viable-if (begins_cast ts)
           (λ _. Viable-punctuator punctuators.OpenParenthesis ts _ size_yet
-          (λ o us. Viable-bind _ (sound_type_name us) (viable_type_name _ (behind_token (Punctuator o punctuators.OpenParenthesis) sized) (type_begun o) us)
+          (λ o us. Viable-read_on _ (sound_type_name us) (viable_type_name _ (behind_token (Punctuator o punctuators.OpenParenthesis) sized) (type_begun o) us)
           (λ t front vs r. Viable-punctuator punctuators.CloseParenthesis vs _ (here (λ b l. Sized b (Punctuator o punctuators.OpenParenthesis ∷ l)) front (type_begun o front t r)) (λ _ ws. Viable-ok))))
           (λ _. Viable-if (nat_le m 1 && starts punctuators.OpenParenthesis ts)
           (λ _. Viable-punctuator punctuators.OpenParenthesis ts _ size_yet (λ o us. viable_beyond Expression refl _ (behind_token (Punctuator o punctuators.OpenParenthesis) sized) (operand_begun o) (size_opened o) us))
@@ -398,7 +398,7 @@ module _ (m : ℕ) (p : Form → Parse E) (sound : (form : Form) (ts : List Term
     viable_cast : 0 < m → (o at : ℕ) (ts : List Terminal) → Viable (λ b l. Q b (Punctuator o punctuators.OpenParenthesis ∷ l)) ts (parse.cast_of m p at ts)
     viable_cast some o at ts =
         let opened : OfFronts (λ b l. Q b (Punctuator o punctuators.OpenParenthesis ∷ l)) = behind_token (Punctuator o punctuators.OpenParenthesis) c in
-        Viable-bind _ (sound_type_name ts) (viable_type_name _ opened (cast_begun some o) ts)
+        Viable-read_on _ (sound_type_name ts) (viable_type_name _ opened (cast_begun some o) ts)
         (λ t front us r. Viable-punctuator punctuators.CloseParenthesis us _ (here (λ b l. Q b (Punctuator o punctuators.OpenParenthesis ∷ l)) front (cast_begun some o front t r))
         (λ k vs. let begun : (h : ℕ) (xs : List Terminal) → Has (Level 0) h xs → Both Q m h (Punctuator o punctuators.OpenParenthesis ∷ (front ++ Punctuator k punctuators.CloseParenthesis ∷ xs)) = λ h xs s. (let both = w (suc h) _ (_, a_cast o k r s.1) in (both.0, λ le. both.1 (omega arith))) in
         Viable-done _ (viable (Level 0) refl _ (behind_token (Punctuator k punctuators.CloseParenthesis) (behind front opened)) begun
@@ -449,7 +449,7 @@ module _ (m : ℕ) (p : Form → Parse E) (sound : (form : Form) (ts : List Term
         let some : 0 < a.1 = high d.1 in
         subst (λ u. Viable (λ b l. Q b (done ++ l)) (u ∷ ts) (cond (nat_le a.1 m) (parse.operation m p j start a operator others (t ∷ ts)) (Err (Deep (suc (length ts)))))) (first_same t (Punctuator is.0 (punctuator_of_binary operator)) ts is.1 is.2)
         (Viable-above m a.1 (here Q done ((w a.1 done d).1 low)) (any_operation done a.1 d some operator is.0 level.1)
-        (λ fits. Viable-token (Viable-bind _ (sound (Level j) ts)
+        (λ fits. Viable-token (Viable-read_on _ (sound (Level j) ts)
         (viable (Level j) refl _ (behind_token (Punctuator is.0 (punctuator_of_binary operator)) (behind done c)) (right_begun done a.1 d some operator is.0 level.1 fits) (low_operation done a.1 d some operator is.0 level.1 fits) ts)
         (λ b front us r. let right : b.1 ≤ m = r.1 in Viable-joined Q done (Punctuator is.0 (punctuator_of_binary operator) ∷ front)
         (again _ (done ++ Punctuator is.0 (punctuator_of_binary operator) ∷ front) us (plus_one (Level (suc j)) (max a.1 b.1) _ (_, an_operation operator is.0 level.1 d.1 r.0)) (omega arith))))))
@@ -487,7 +487,7 @@ module _ (m : ℕ) (p : Form → Parse E) (sound : (form : Form) (ts : List Term
         Viable-if (starts punctuators.Question (t ∷ ts))
         (λ e. Viable-above m a.1 there (first e)
         (λ fits. Viable-punctuator punctuators.Question (t ∷ ts) _ there
-        (λ o us. Viable-bind _ (sound Expression us)
+        (λ o us. Viable-read_on _ (sound Expression us)
         (viable Expression refl _ (behind_token (Punctuator o punctuators.Question) (behind done c)) (choice_begun done a.1 d some fits o)
         ((behind done c).front true (Punctuator o punctuators.Question ∷ []) number ((choice_begun done a.1 d some fits o 1 number (one Expression refl)).1 (omega arith))) us)
         (λ b front vs r. let middle : b.1 ≤ m = r.1 in
@@ -525,9 +525,9 @@ module _ (m : ℕ) (p : Form → Parse E) (sound : (form : Form) (ts : List Term
     viable_assignment : (ts : List Terminal) → Viable Q ts (parse.assignment m p ts)
     viable_assignment ts =
         Viable-if (begins_cast ts)
-        (λ _. Viable-bind-is _ (sound_cast_or_unary m p sound ts) (viable_cast_or_unary Q c (λ h xs s. w h xs (assignment_has h xs s)) ts)
+        (λ _. Viable-read_on-is _ (sound_cast_or_unary m p sound ts) (viable_cast_or_unary Q c (λ h xs s. w h xs (assignment_has h xs s)) ts)
         (λ a front us read e r. viable_after_operand (place ts) Q c (λ h xs s. w h xs (s.0, a_plain_conditional s.1)) a front (starting m p sound (Level 0) ts front us a e r) us))
-        (λ _. Viable-bind-is _ (sound_unary m p sound ts) (viable_unary Q c (λ h xs s. w h xs (from_cast Assignment refl h xs s)) ts)
+        (λ _. Viable-read_on-is _ (sound_unary m p sound ts) (viable_unary Q c (λ h xs s. w h xs (from_cast Assignment refl h xs s)) ts)
         (λ a front us read e r. viable_assignment_of (place ts) a front (starting m p sound Unary ts front us a e r) us (operator_at assign_of us) refl))
 
   module _ (start : ℕ) (Q : Claims) (c : OfFronts Q) (w : Wants Expression (m + 1) Q) where
@@ -547,7 +547,7 @@ module _ (m : ℕ) (p : Form → Parse E) (sound : (form : Form) (ts : List Term
         Viable-if (starts punctuators.Comma (t ∷ ts))
         (λ e. Viable-above m a.1 there (first e)
         (λ fits. Viable-punctuator punctuators.Comma (t ∷ ts) _ there
-        (λ at us. Viable-bind _ (sound Assignment us)
+        (λ at us. Viable-read_on _ (sound Assignment us)
         (viable Assignment refl _ (behind_token (Punctuator at punctuators.Comma) (behind done c)) (comma_begun done a.1 d fits at) ((behind done c).front true (Punctuator at punctuators.Comma ∷ []) number ((comma_begun done a.1 d fits at 1 number (one Assignment refl)).1 (omega arith))) us)
         (λ b front vs r. let right : b.1 ≤ m = r.1 in Viable-joined Q done (Punctuator at punctuators.Comma ∷ front)
         (viable_commas n _ (done ++ Punctuator at punctuators.Comma ∷ front) (plus_one Expression (max a.1 b.1) _ (_, a_comma at d.1 r.0)) (omega arith) vs)))))
@@ -561,13 +561,13 @@ module _ (m : ℕ) (p : Form → Parse E) (sound : (form : Form) (ts : List Term
   viable_expression Postfix Q c w ts = viable_postfix Q c w ts
   viable_expression Unary Q c w ts = viable_unary Q c w ts
   viable_expression (Level j) Q c w ts =
-      Viable-bind-is _ (sound_cast_or_unary m p sound ts) (viable_cast_or_unary Q c (λ h xs s. w h xs (level_has j h xs s)) ts) (λ a front us read e r. viable_climb j (place ts) a front (starting m p sound (Level 0) ts front us a e r) Q c w us)
+      Viable-read_on-is _ (sound_cast_or_unary m p sound ts) (viable_cast_or_unary Q c (λ h xs s. w h xs (level_has j h xs s)) ts) (λ a front us read e r. viable_climb j (place ts) a front (starting m p sound (Level 0) ts front us a e r) Q c w us)
   viable_expression Conditional Q c w ts =
-      Viable-bind-is _ (sound_cast_or_unary m p sound ts) (viable_cast_or_unary Q c (λ h xs s. w h xs (conditional_has h xs s)) ts)
+      Viable-read_on-is _ (sound_cast_or_unary m p sound ts) (viable_cast_or_unary Q c (λ h xs s. w h xs (conditional_has h xs s)) ts)
       (λ a front us read e r. viable_after_operand (place ts) Q c w a front (starting m p sound (Level 0) ts front us a e r) us)
   viable_expression Assignment Q c w ts = viable_assignment Q c w ts
   viable_expression Expression Q c w ts =
-      Viable-bind-is _ (sound_assignment m p sound ts) (viable_assignment Q c (λ h xs s. w h xs (s.0, a_plain_assignment s.1)) ts)
+      Viable-read_on-is _ (sound_assignment m p sound ts) (viable_assignment Q c (λ h xs s. w h xs (s.0, a_plain_assignment s.1)) ts)
       (λ a front us read e r. viable_commas (place ts) Q c w (length us) a front (a.0, a_plain_assignment r.0) r.1 us)
 
 pub viable_part : (n : ℕ) (form : Form) → is_part form ≡ true → (Q : Claims) → OfFronts Q → Wants form n Q → Q true [] → (ts : List Terminal) → Viable Q ts (parse.part n form ts)

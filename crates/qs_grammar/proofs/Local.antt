@@ -8,7 +8,7 @@ use Rattle.qs_syntax.specs.Reads.{place}
 use Rattle.qs_base.specs.declared.keyword.Keyword as key
 use Rattle.qs_syntax.specs.Operators.{number_of}
 use Rattle.qs_grammar.specs.Heads.{is_punctuator, is_keyword, starts, operator_at}
-use Rattle.qs_grammar.specs.Parse.{Stop, Unexpected, Deep, Parse, bind, unexpected, deep, above, deeper, expect, expect_name}
+use Rattle.qs_grammar.specs.Parse.{Stop, Unexpected, Deep, Parse, read_on, unexpected, deep, above, deeper, expect, expect_name}
 use Rattle.qs_grammar.proofs.HeadsLaws.{punctuator_is, keyword_is}
 use Rattle.qs_grammar.proofs.Sound.{Outcome, Sound}
 
@@ -36,31 +36,31 @@ zero_or_more zero = inl refl
 zero_or_more (suc n) = inr (omega arith)
 
 module _ {A B : Type 0} (f : A → Parse B) (good : (x : A) → Local 0 (f x)) where
-  pub bind-left : (r : Result (A × List Terminal) Stop) → left (bind r f) ≤ left r
-  bind-left (Ok x) = omega (arith, (good x.0).shrinks x.1)
-  bind-left (Err (Unexpected k)) = omega arith
-  bind-left (Err (Deep k)) = omega arith
+  pub read_on-left : (r : Result (A × List Terminal) Stop) → left (read_on r f) ≤ left r
+  read_on-left (Ok x) = omega (arith, (good x.0).shrinks x.1)
+  read_on-left (Err (Unexpected k)) = omega arith
+  read_on-left (Err (Deep k)) = omega arith
 
-  bind-extend : (us : List Terminal) (r : Result (A × List Terminal) Stop) → 0 < left (bind r f) → bind (extend us r) f ≡ extend us (bind r f)
-  bind-extend us (Ok x) h = (good x.0).stable x.1 us h
-  bind-extend us (Err (Unexpected k)) h = refl
-  bind-extend us (Err (Deep k)) h = refl
+  read_on-extend : (us : List Terminal) (r : Result (A × List Terminal) Stop) → 0 < left (read_on r f) → read_on (extend us r) f ≡ extend us (read_on r f)
+  read_on-extend us (Ok x) h = (good x.0).stable x.1 us h
+  read_on-extend us (Err (Unexpected k)) h = refl
+  read_on-extend us (Err (Deep k)) h = refl
 
-  bind-passes : (us : List Terminal) (r : Result (A × List Terminal) Stop) → 0 < left r → left (bind r f) ≡ 0 → left (bind (extend us r) f) ≤ length us
-  bind-passes us (Ok x) h e = (good x.0).passes x.1 us e
-  bind-passes us (Err (Unexpected k)) h e = absurd (omega arith)
-  bind-passes us (Err (Deep k)) h e = absurd (omega arith)
+  read_on-passes : (us : List Terminal) (r : Result (A × List Terminal) Stop) → 0 < left r → left (read_on r f) ≡ 0 → left (read_on (extend us r) f) ≤ length us
+  read_on-passes us (Ok x) h e = (good x.0).passes x.1 us e
+  read_on-passes us (Err (Unexpected k)) h e = absurd (omega arith)
+  read_on-passes us (Err (Deep k)) h e = absurd (omega arith)
 
-  pub Local-bind : {s : ℕ} (p : Parse A) → Local s p → Local s (λ ts. bind (p ts) f)
-  Local-bind p g = record {
-    shrinks = λ ts. omega (arith, bind-left (p ts), g.shrinks ts);
+  pub Local-read_on : {s : ℕ} (p : Parse A) → Local s p → Local s (λ ts. read_on (p ts) f)
+  Local-read_on p g = record {
+    shrinks = λ ts. omega (arith, read_on-left (p ts), g.shrinks ts);
     stable = λ ts us h.
-        let more : 0 < left (p ts) = omega (arith, bind-left (p ts)) in
-        ap (λ r. bind r f) (g.stable ts us more) ∙ bind-extend us (p ts) h;
+        let more : 0 < left (p ts) = omega (arith, read_on-left (p ts)) in
+        ap (λ r. read_on r f) (g.stable ts us more) ∙ read_on-extend us (p ts) h;
     passes = λ ts us e.
         elim (zero_or_more (left (p ts))) [
-          | inl z ↦ omega (arith, bind-left (p (ts ++ us)), g.passes ts us z)
-          | inr h ↦ subst (λ r. left (bind r f) ≤ length us) (sym (g.stable ts us h)) (bind-passes us (p ts) h e)
+          | inl z ↦ omega (arith, read_on-left (p (ts ++ us)), g.passes ts us z)
+          | inr h ↦ subst (λ r. left (read_on r f) ≤ length us) (sym (g.stable ts us h)) (read_on-passes us (p ts) h e)
         ];
   }
 
@@ -149,8 +149,8 @@ Local-place g good = Local-first place (λ t ts us. refl) g good
 Local-expect : (k : punctuator.Punctuator) → Local 0 (expect k)
 Local-expect k = Local-look (expect k) refl (λ t. Local-cond (is_punctuator k t) (λ ts. Ok (tt, ts)) (λ ts. unexpected (t ∷ ts)) (Local-weak _ (Local-ok tt)) Local-unexpected)
 
-pub Local-punctuator : {A : Type 0} (k : punctuator.Punctuator) (f : Unit {0} → Parse A) → ((x : Unit {0}) → Local 0 (f x)) → Local 0 (λ ts. bind (expect k ts) f)
-Local-punctuator k f good = Local-bind f good (expect k) (Local-expect k)
+pub Local-punctuator : {A : Type 0} (k : punctuator.Punctuator) (f : Unit {0} → Parse A) → ((x : Unit {0}) → Local 0 (f x)) → Local 0 (λ ts. read_on (expect k ts) f)
+Local-punctuator k f good = Local-read_on f good (expect k) (Local-expect k)
 
 Local-expect_name : Local 0 expect_name
 Local-expect_name = Local-look expect_name refl each
@@ -162,8 +162,8 @@ Local-expect_name = Local-look expect_name refl each
     each (Text at bytes) = Local-unexpected
     each (Punctuator at m) = Local-unexpected
 
-pub Local-name : {A : Type 0} (f : ℕ × List ℕ → Parse A) → ((x : ℕ × List ℕ) → Local 0 (f x)) → Local 0 (λ ts. bind (expect_name ts) f)
-Local-name f good = Local-bind f good expect_name Local-expect_name
+pub Local-name : {A : Type 0} (f : ℕ × List ℕ → Parse A) → ((x : ℕ × List ℕ) → Local 0 (f x)) → Local 0 (λ ts. read_on (expect_name ts) f)
+Local-name f good = Local-read_on f good expect_name Local-expect_name
 
 -- ---- two tokens are looked at
 
@@ -228,12 +228,12 @@ Local-far b p q g h far = record { shrinks = λ ts. cond-left (b ts) (p ts) (q t
 
 -- ---- turns
 
-pub bind_same : {A B : Type 0} (r : Result (A × List Terminal) Stop) (f g : A → Parse B) → ((x : A) (us : List Terminal) → r ≡ Ok (x, us) → f x us ≡ g x us) → bind r f ≡ bind r g
-bind_same (Ok x) f g same = same x.0 x.1 refl
-bind_same (Err e) f g same = refl
+pub read_on_same : {A B : Type 0} (r : Result (A × List Terminal) Stop) (f g : A → Parse B) → ((x : A) (us : List Terminal) → r ≡ Ok (x, us) → f x us ≡ g x us) → read_on r f ≡ read_on r g
+read_on_same (Ok x) f g same = same x.0 x.1 refl
+read_on_same (Err e) f g same = refl
 
-pub bind_nothing : {A B : Type 0} {r : Result (A × List Terminal) Stop} {e : Stop} (f : A → Parse B) → r ≡ Err e → bind r f ≡ Err e
-bind_nothing f e = ap (λ r. bind r f) e
+pub read_on_nothing : {A B : Type 0} {r : Result (A × List Terminal) Stop} {e : Stop} (f : A → Parse B) → r ≡ Err e → read_on r f ≡ Err e
+read_on_nothing f e = ap (λ r. read_on r f) e
 
 pub cond_same : {A : Type 0} (b : Bool) {r s u v : A} → r ≡ s → u ≡ v → cond b r u ≡ cond b s v
 cond_same true e d = e
@@ -294,13 +294,13 @@ module _ {X A : Type 0} (loop : ℕ → X → Parse A) (body : (X → Parse A) �
 -- ---- the end of a list in brackets: the punctuator, or a comma and the others
 
 pub Local-after : {B : Type 0} (closing separating : punctuator.Punctuator) (all : B) (others : Parse B) → Local 0 others
-    → Local 0 (λ ts. cond (starts closing ts) (bind (expect closing ts) (λ _ us. Ok (all, us))) (bind (expect separating ts) (λ _ us. others us)))
+    → Local 0 (λ ts. cond (starts closing ts) (read_on (expect closing ts) (λ _ us. Ok (all, us))) (read_on (expect separating ts) (λ _ us. others us)))
 Local-after closing separating all others g = Local-starts closing _ _ (Local-punctuator closing _ (λ _. Local-ok all)) (Local-punctuator separating _ (λ _. g))
 
 pub after_same : {B : Type 0} (closing separating : punctuator.Punctuator) (all : B) (p q : Parse B) (ts : List Terminal) → ((us : List Terminal) → length us < length ts → p us ≡ q us)
-    → cond (starts closing ts) (bind (expect closing ts) (λ _ us. Ok (all, us))) (bind (expect separating ts) (λ _ us. p us))
-    ≡ cond (starts closing ts) (bind (expect closing ts) (λ _ us. Ok (all, us))) (bind (expect separating ts) (λ _ us. q us))
-after_same closing separating all p q ts same = cond_same (starts closing ts) refl (bind_same (expect separating ts) _ _ (λ x us e. same us (let took = expect_takes separating ts x us e in omega arith)))
+    → cond (starts closing ts) (read_on (expect closing ts) (λ _ us. Ok (all, us))) (read_on (expect separating ts) (λ _ us. p us))
+    ≡ cond (starts closing ts) (read_on (expect closing ts) (λ _ us. Ok (all, us))) (read_on (expect separating ts) (λ _ us. q us))
+after_same closing separating all p q ts same = cond_same (starts closing ts) refl (read_on_same (expect separating ts) _ _ (λ x us e. same us (let took = expect_takes separating ts x us e in omega arith)))
 
 -- ---- tests of two tokens
 

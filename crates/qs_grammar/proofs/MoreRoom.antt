@@ -3,7 +3,7 @@ use Rattle.std.proofs.Common.{◌≡◌, ℕ, ◌≤◌, Bool, true, false, cond
 use Rattle.std.specs.Prelude.{nat_le, ◌==◌}
 use Rattle.std.proofs.lemmas.Bool.{le-leb, leb-true, eqb-true, eq-eqb}
 use Rattle.qs_syntax.specs.declared.terminal.Terminal.{Terminal}
-use Rattle.qs_grammar.specs.Parse.{Stop, Unexpected, Deep, Parse, bind}
+use Rattle.qs_grammar.specs.Parse.{Stop, Unexpected, Deep, Parse, read_on}
 
 abbrev Same : {A : Type 0} → Result (A × List Terminal) Stop → Result (A × List Terminal) Stop → Type 0
 Same (Ok x) s = s ≡ Ok x
@@ -25,21 +25,21 @@ DeepOrSame-refl {A} {r} = record { is = same_itself r }
 pub DeepOrSame-deep : {A : Type 0} {k : ℕ} {s : Result (A × List Terminal) Stop} → DeepOrSame (Err (Deep k)) s
 DeepOrSame-deep = record { is = tt }
 
-pub DeepOrSame-bind : {A B : Type 0} {r s : Result (A × List Terminal) Stop} (f g : A → Parse B) → DeepOrSame r s → ((x : A) (ts : List Terminal) → DeepOrSame (f x ts) (g x ts)) → DeepOrSame (bind r f) (bind s g)
-DeepOrSame-bind {A} {B} {r} {s} f g h each = go r s h.is
+pub DeepOrSame-read_on : {A B : Type 0} {r s : Result (A × List Terminal) Stop} (f g : A → Parse B) → DeepOrSame r s → ((x : A) (ts : List Terminal) → DeepOrSame (f x ts) (g x ts)) → DeepOrSame (read_on r f) (read_on s g)
+DeepOrSame-read_on {A} {B} {r} {s} f g h each = go r s h.is
   where
-    go : (r s : Result (A × List Terminal) Stop) → Same r s → DeepOrSame (bind r f) (bind s g)
-    go (Ok x) s e = subst (λ s. DeepOrSame (f x.0 x.1) (bind s g)) (sym e) (each x.0 x.1)
-    go (Err (Unexpected k)) s e = subst (λ s. DeepOrSame (Err (Unexpected k)) (bind s g)) (sym e) DeepOrSame-refl
+    go : (r s : Result (A × List Terminal) Stop) → Same r s → DeepOrSame (read_on r f) (read_on s g)
+    go (Ok x) s e = subst (λ s. DeepOrSame (f x.0 x.1) (read_on s g)) (sym e) (each x.0 x.1)
+    go (Err (Unexpected k)) s e = subst (λ s. DeepOrSame (Err (Unexpected k)) (read_on s g)) (sym e) DeepOrSame-refl
     go (Err (Deep k)) s e = DeepOrSame-deep
 
 -- what goes on behind a first part, which is the same
-pub DeepOrSame-then : {A B : Type 0} (r : Result (A × List Terminal) Stop) (f g : A → Parse B) → ((x : A) (ts : List Terminal) → DeepOrSame (f x ts) (g x ts)) → DeepOrSame (bind r f) (bind r g)
-DeepOrSame-then r f g each = DeepOrSame-bind f g DeepOrSame-refl each
+pub DeepOrSame-then : {A B : Type 0} (r : Result (A × List Terminal) Stop) (f g : A → Parse B) → ((x : A) (ts : List Terminal) → DeepOrSame (f x ts) (g x ts)) → DeepOrSame (read_on r f) (read_on r g)
+DeepOrSame-then r f g each = DeepOrSame-read_on f g DeepOrSame-refl each
 
 -- what gives its parts to a tree
-pub DeepOrSame-last : {A B : Type 0} {r s : Result (A × List Terminal) Stop} (f : A → Parse B) → DeepOrSame r s → DeepOrSame (bind r f) (bind s f)
-DeepOrSame-last f h = DeepOrSame-bind f f h (λ x us. DeepOrSame-refl)
+pub DeepOrSame-last : {A B : Type 0} {r s : Result (A × List Terminal) Stop} (f : A → Parse B) → DeepOrSame r s → DeepOrSame (read_on r f) (read_on s f)
+DeepOrSame-last f h = DeepOrSame-read_on f f h (λ x us. DeepOrSame-refl)
 
 -- a test for room that more room passes too
 pub DeepOrSame-above : {A : Type 0} {r s : Result (A × List Terminal) Stop} (k : ℕ) (h m n : ℕ) → m ≤ n → DeepOrSame r s → DeepOrSame (cond (nat_le h m) r (Err (Deep k))) (cond (nat_le h n) s (Err (Deep k)))

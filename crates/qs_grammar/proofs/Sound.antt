@@ -1,7 +1,7 @@
 -- What an answer of the parser takes off the front of its tokens.
 use Rattle.std.proofs.Common.{◌≡◌, ℕ, ◌+◌, ◌≤◌, length, length-append, arith, List, [], ◌∷◌, ◌++◌, Result, Ok, Err, refl, sym, ap, subst, ◌∙◌, append_assoc, append-nil}
 use Rattle.qs_syntax.specs.declared.terminal.Terminal.{Terminal}
-use Rattle.qs_grammar.specs.Parse.{Stop, left_of, Parse, bind}
+use Rattle.qs_grammar.specs.Parse.{Stop, left_of, Parse, read_on}
 
 -- a fault at the first of the tokens
 pub at_end : {n : ℕ} → n ≤ n
@@ -43,19 +43,19 @@ module _ {A : Type 0} {R : A → List Terminal → Type 0} {S : A → List Termi
       go (Err e) h = h
 
 module _ {A C : Type 0} {R : A → List Terminal → Type 0} {S : C → List Terminal → Type 0} where
-  pub Sound-bind : {done ts : List Terminal} {r : Result (A × List Terminal) Stop} (f : A → Parse C) → Sound R [] ts r
-      → ((x : A) (front us : List Terminal) → R x front → Sound S (done ++ front) us (f x us)) → Sound S done ts (bind r f)
-  Sound-bind {done} {ts} {r} f s go = by_case r s.is
+  pub Sound-read_on : {done ts : List Terminal} {r : Result (A × List Terminal) Stop} (f : A → Parse C) → Sound R [] ts r
+      → ((x : A) (front us : List Terminal) → R x front → Sound S (done ++ front) us (f x us)) → Sound S done ts (read_on r f)
+  Sound-read_on {done} {ts} {r} f s go = by_case r s.is
     where
-      by_case : (r : Result (A × List Terminal) Stop) → Outcome R [] ts r → Sound S done ts (bind r f)
+      by_case : (r : Result (A × List Terminal) Stop) → Outcome R [] ts r → Sound S done ts (read_on r f)
       by_case (Ok x) (front, e, h) = Sound-after done ts front x.1 e (f x.0 x.1) (go x.0 front x.1 h)
       by_case (Err e) h = Sound-err h
 
   -- the same, where the first speaks of all that is done
   pub Sound-then : {done ts : List Terminal} {r : Result (A × List Terminal) Stop} (f : A → Parse C) → Sound R done ts r
-      → ((x : A) (done us : List Terminal) → R x done → Sound S done us (f x us)) → Sound S done ts (bind r f)
+      → ((x : A) (done us : List Terminal) → R x done → Sound S done us (f x us)) → Sound S done ts (read_on r f)
   Sound-then {done} {ts} {r} f s go = by_case r s.is
     where
-      by_case : (r : Result (A × List Terminal) Stop) → Outcome R done ts r → Sound S done ts (bind r f)
+      by_case : (r : Result (A × List Terminal) Stop) → Outcome R done ts r → Sound S done ts (read_on r f)
       by_case (Ok x) (front, e, h) = Sound-after done ts front x.1 e (f x.0 x.1) (go x.0 (done ++ front) x.1 h)
       by_case (Err e) h = Sound-err h

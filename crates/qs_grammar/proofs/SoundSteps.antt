@@ -7,7 +7,7 @@ use Rattle.qs_syntax.specs.declared.terminal.Terminal.TheVariants.{Name, Keyword
 use Rattle.qs_syntax.specs.declared.punctuator.Punctuator as punctuator
 use Rattle.qs_syntax.specs.Operators.{number_of}
 use Rattle.qs_grammar.specs.Heads.{is_punctuator}
-use Rattle.qs_grammar.specs.Parse.{Stop, Parse, bind, expect, expect_name}
+use Rattle.qs_grammar.specs.Parse.{Stop, Parse, read_on, expect, expect_name}
 use Rattle.qs_grammar.proofs.HeadsLaws.{punctuator_is}
 use Rattle.qs_grammar.proofs.Sound.{Outcome, Sound, Sound-ok, Sound-err, at_end, Sound-after, Sound-token}
 
@@ -46,14 +46,14 @@ sound_expect_name (Punctuator at m ∷ ts) = Sound-err at_end
 module _ {A C : Type 0} {R : A → List Terminal → Type 0} {S : C → List Terminal → Type 0} where
   -- what follows a first part knows how all the tokens begin
   pub Sound-from : {done ts : List Terminal} {r : Result (A × List Terminal) Stop} (f : A → Parse C) → Sound R [] ts r
-      → ((x : A) (front us : List Terminal) → ts ≡ front ++ us → R x front → Sound S (done ++ front) us (f x us)) → Sound S done ts (bind r f)
+      → ((x : A) (front us : List Terminal) → ts ≡ front ++ us → R x front → Sound S (done ++ front) us (f x us)) → Sound S done ts (read_on r f)
   Sound-from {done} {ts} {r} f s go = by_case r s.is
     where
-      by_case : (r : Result (A × List Terminal) Stop) → Outcome R [] ts r → Sound S done ts (bind r f)
+      by_case : (r : Result (A × List Terminal) Stop) → Outcome R [] ts r → Sound S done ts (read_on r f)
       by_case (Ok x) (front, e, h) = Sound-after done ts front x.1 e (f x.0 x.1) (go x.0 front x.1 e h)
       by_case (Err e) h = Sound-err h
 
 module _ {C : Type 0} {S : C → List Terminal → Type 0} where
   -- a punctuator, and then more
-  pub Sound-punctuator : {done ts : List Terminal} (m : punctuator.Punctuator) (f : Unit {0} → Parse C) → ((at : ℕ) (us : List Terminal) → Sound S (done ++ Punctuator at m ∷ []) us (f tt us)) → Sound S done ts (bind (expect m ts) f)
+  pub Sound-punctuator : {done ts : List Terminal} (m : punctuator.Punctuator) (f : Unit {0} → Parse C) → ((at : ℕ) (us : List Terminal) → Sound S (done ++ Punctuator at m ∷ []) us (f tt us)) → Sound S done ts (read_on (expect m ts) f)
   Sound-punctuator {done} {ts} m f go = Sound-from f (sound_expect m ts) (λ x front us split is. rw is.1 (go is.0 us))

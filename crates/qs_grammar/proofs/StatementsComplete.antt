@@ -13,7 +13,7 @@ use Rattle.qs_syntax.specs.Reads.{Reads, Expression, place}
 use Rattle.qs_syntax.specs.ReadsDeclarations.{ReadsDeclaration}
 use Rattle.qs_syntax.specs.ReadsStatements.{is_open, ReadsOptional, nothing_there, something_there, ReadsStart, a_start_declaration, a_start_expression, no_start_at_all, ReadsStatement, a_block, an_empty, an_expression, an_if, an_if_with_else, a_while, a_do, a_for, a_break, a_continue, a_return, ReadsItem, a_statement, a_declared, ReadsItems, no_item, an_item}
 use Rattle.qs_grammar.specs.Heads.{starts, starts_with, begins_type}
-use Rattle.qs_grammar.specs.Parse.{Stop, Parse, bind, expect, E, begins_one, part}
+use Rattle.qs_grammar.specs.Parse.{Stop, Parse, read_on, expect, E, begins_one, part}
 use Rattle.qs_grammar.specs.ParseStatements.{S, optional, condition, start_of, item, items, after_then, statement_at, statement}
 use Rattle.qs_grammar.specs.Stops.{precedence_at}
 use Rattle.qs_grammar.proofs.HeadsLaws.{starts_with_is}
@@ -151,7 +151,7 @@ for_block h ts ss o c r m le rest stop =
     rw (append_assoc ts (Punctuator c punctuators.CloseBrace ∷ []) rest, r m (length (ts ++ Punctuator c punctuators.CloseBrace ∷ rest)) (omega arith) (omega (arith, length-append ts (Punctuator c punctuators.CloseBrace ∷ rest))) [] 0 c rest) (block_answer h ss rest)
 
 -- tokens that begin an expression are read as one
-running_at : (m : ℕ) (p : Parse S) (ts : List Terminal) → begins_one ts ≡ true → statement_at m p ts ≡ bind (part m Expression ts) (λ e us. bind (expect punctuators.Semicolon us) (λ _ vs. Ok ((expression (unnumbered (place ts)) e.0, e.1 + 1), vs)))
+running_at : (m : ℕ) (p : Parse S) (ts : List Terminal) → begins_one ts ≡ true → statement_at m p ts ≡ read_on (part m Expression ts) (λ e us. read_on (expect punctuators.Semicolon us) (λ _ vs. Ok ((expression (unnumbered (place ts)) e.0, e.1 + 1), vs)))
 running_at m p [] e = absurd (true≢false (sym e))
 running_at m p (t ∷ ts) e =
     rw (

@@ -13,7 +13,7 @@ use Rattle.qs_grammar.specs.Heads.{is_punctuator, is_keyword, starts, starts_wit
 use Rattle.qs_grammar.specs.Parse.{Parse, Unexpected, E, unexpected, deep, expect, expect_name, stars, begins_one}
 use Rattle.qs_grammar.specs.ParseDeclarations.{outer_type}
 use Rattle.qs_grammar.specs.ParseStatements.{S, optional, condition, start_of, begins_statement, item, items, after_then, after_if, after_while, expect_while, after_do, after_for, plain_statement, keyword_statement, statement_at, statement, is_named, struct_of, body_of, function_of, typed, external, is_empty, externals, unit}
-use Rattle.qs_grammar.proofs.MoreRoom.{DeepOrSame, DeepOrSame-refl, DeepOrSame-deep, DeepOrSame-bind, DeepOrSame-then, DeepOrSame-last, DeepOrSame-some, DeepOrSame-cond, DeepOrSame-unexpected}
+use Rattle.qs_grammar.proofs.MoreRoom.{DeepOrSame, DeepOrSame-refl, DeepOrSame-deep, DeepOrSame-read_on, DeepOrSame-then, DeepOrSame-last, DeepOrSame-some, DeepOrSame-cond, DeepOrSame-unexpected}
 use Rattle.qs_grammar.proofs.ExpressionsMoreRoom.{not_begun, more_room_part}
 use Rattle.qs_grammar.proofs.DeclarationsMoreRoom.{more_room_declared, more_room_declaration_within, more_room_groups, more_room_head}
 
@@ -34,28 +34,28 @@ module _ (m n : ℕ) (le : m ≤ n) where
     pub more_room_items : (k : ℕ) (done : List StmtTree) (h : ℕ) (ts : List Terminal) → DeepOrSame (items m p k done h ts) (items n q k done h ts)
     unfolding items
     more_room_items zero done h ts = DeepOrSame-refl
-    more_room_items (suc k) done h ts = DeepOrSame-cond (starts punctuators.CloseBrace ts) DeepOrSame-refl (DeepOrSame-bind _ _ (more_room_item ts) (λ s us. more_room_items k (done ++ s.0 ∷ []) (max h s.1) us))
+    more_room_items (suc k) done h ts = DeepOrSame-cond (starts punctuators.CloseBrace ts) DeepOrSame-refl (DeepOrSame-read_on _ _ (more_room_item ts) (λ s us. more_room_items k (done ++ s.0 ∷ []) (max h s.1) us))
 
     more_room_after_then : (at : ℕ) (e : E) (s : S) (ts : List Terminal) → DeepOrSame (after_then m p at e s ts) (after_then n q at e s ts)
     more_room_after_then at e s [] = DeepOrSame-refl
     more_room_after_then at e s (t ∷ ts) = DeepOrSame-cond (is_keyword keywords.Else t) (DeepOrSame-last _ (g ts)) DeepOrSame-refl
 
     more_room_if : (at : ℕ) (ts : List Terminal) → DeepOrSame (after_if m p at ts) (after_if n q at ts)
-    more_room_if at ts = DeepOrSame-bind _ _ (more_room_condition ts) (λ e us. DeepOrSame-bind _ _ (g us) (λ s vs. more_room_after_then at e s vs))
+    more_room_if at ts = DeepOrSame-read_on _ _ (more_room_condition ts) (λ e us. DeepOrSame-read_on _ _ (g us) (λ s vs. more_room_after_then at e s vs))
 
     more_room_while : (at : ℕ) (ts : List Terminal) → DeepOrSame (after_while m p at ts) (after_while n q at ts)
-    more_room_while at ts = DeepOrSame-bind _ _ (more_room_condition ts) (λ e us. DeepOrSame-last _ (g us))
+    more_room_while at ts = DeepOrSame-read_on _ _ (more_room_condition ts) (λ e us. DeepOrSame-last _ (g us))
 
     more_room_expect_while : (ts : List Terminal) → DeepOrSame (expect_while m p ts) (expect_while n q ts)
     more_room_expect_while [] = DeepOrSame-refl
     more_room_expect_while (t ∷ ts) = DeepOrSame-refl
 
     more_room_do : (at : ℕ) (ts : List Terminal) → DeepOrSame (after_do m p at ts) (after_do n q at ts)
-    more_room_do at ts = DeepOrSame-bind _ _ (g ts) (λ s us. DeepOrSame-bind _ _ (more_room_expect_while us) (λ _ vs. DeepOrSame-last _ (more_room_condition vs)))
+    more_room_do at ts = DeepOrSame-read_on _ _ (g ts) (λ s us. DeepOrSame-read_on _ _ (more_room_expect_while us) (λ _ vs. DeepOrSame-last _ (more_room_condition vs)))
 
     more_room_for : (at : ℕ) (ts : List Terminal) → DeepOrSame (after_for m p at ts) (after_for n q at ts)
     more_room_for at ts =
-        DeepOrSame-then (expect punctuators.OpenParenthesis ts) _ _ (λ _ us. DeepOrSame-bind _ _ (more_room_start us) (λ a vs. DeepOrSame-bind _ _ (more_room_optional punctuators.Semicolon vs) (λ e ws. DeepOrSame-bind _ _ (more_room_optional punctuators.CloseParenthesis ws) (λ u xs. DeepOrSame-last _ (g xs)))))
+        DeepOrSame-then (expect punctuators.OpenParenthesis ts) _ _ (λ _ us. DeepOrSame-read_on _ _ (more_room_start us) (λ a vs. DeepOrSame-read_on _ _ (more_room_optional punctuators.Semicolon vs) (λ e ws. DeepOrSame-read_on _ _ (more_room_optional punctuators.CloseParenthesis ws) (λ u xs. DeepOrSame-last _ (g xs)))))
 
     more_room_plain : (at : ℕ) (t : Terminal) (ts : List Terminal) → DeepOrSame (plain_statement m p at t ts) (plain_statement n q at t ts)
     more_room_plain at t ts =
@@ -114,7 +114,7 @@ module _ (k l : ℕ) (le : k ≤ l) where
       DeepOrSame-cond (starts punctuators.Semicolon ts) DeepOrSame-refl (DeepOrSame-then (expect punctuators.OpenBrace ts) _ _ (λ _ us. DeepOrSame-last _ (more_room_items k l le (statement k) (statement l) (λ vs. more_room_statement k l le vs) (length us) [] 0 us)))
 
   more_room_function : (start : ℕ) (b : Base) (n : ℕ) (ts : List Terminal) → DeepOrSame (function_of k start b n ts) (function_of l start b n ts)
-  more_room_function start b n ts = DeepOrSame-then (expect_name ts) _ _ (λ x us. DeepOrSame-then (expect punctuators.OpenParenthesis us) _ _ (λ _ vs. DeepOrSame-bind _ _ (more_room_head k l le vs) (λ ps ws. more_room_body start b n x.1 ps ws)))
+  more_room_function start b n ts = DeepOrSame-then (expect_name ts) _ _ (λ x us. DeepOrSame-then (expect punctuators.OpenParenthesis us) _ _ (λ _ vs. DeepOrSame-read_on _ _ (more_room_head k l le vs) (λ ps ws. more_room_body start b n x.1 ps ws)))
 
   more_room_typed : (start : ℕ) (b : Base) (ts : List Terminal) → DeepOrSame (typed k start b ts) (typed l start b ts)
   more_room_typed start b ts = DeepOrSame-cond (is_named punctuators.OpenParenthesis (stars ts).1) (more_room_function start b (stars ts).0 (stars ts).1) (DeepOrSame-last _ (more_room_declared (k + 1) (l + 1) (omega arith) b ts))
@@ -129,7 +129,7 @@ module _ (k l : ℕ) (le : k ≤ l) where
   more_room_externals : (n : ℕ) (done : List DeclTree) (h : ℕ) (ts : List Terminal) → DeepOrSame (externals k n done h ts) (externals l n done h ts)
   unfolding externals
   more_room_externals zero done h ts = DeepOrSame-refl
-  more_room_externals (suc n) done h ts = DeepOrSame-bind _ _ (more_room_external ts) (λ d us. DeepOrSame-cond (is_empty us) DeepOrSame-refl (more_room_externals n (done ++ d.0 ∷ []) (max h d.1) us))
+  more_room_externals (suc n) done h ts = DeepOrSame-read_on _ _ (more_room_external ts) (λ d us. DeepOrSame-cond (is_empty us) DeepOrSame-refl (more_room_externals n (done ++ d.0 ∷ []) (max h d.1) us))
 
   pub more_room_unit : (ts : List Terminal) → DeepOrSame (unit k ts) (unit l ts)
   unfolding unit

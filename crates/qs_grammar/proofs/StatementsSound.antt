@@ -12,7 +12,7 @@ use Rattle.qs_syntax.specs.Trees.{unnumbered, ExprTree, StartTree, StmtTree, exp
 use Rattle.qs_syntax.specs.Reads.{Reads, Expression, place}
 use Rattle.qs_syntax.specs.ReadsStatements.{is_open, ReadsOptional, nothing_there, something_there, ReadsStart, a_start_declaration, a_start_expression, no_start_at_all, ReadsStatement, a_block, an_empty, an_expression, an_if, an_if_with_else, a_while, a_do, a_for, a_break, a_continue, a_return, ReadsItem, a_statement, a_declared, ReadsItems, no_item, an_item}
 use Rattle.qs_grammar.specs.Heads.{is_punctuator, is_keyword, starts, starts_with, begins_type}
-use Rattle.qs_grammar.specs.Parse.{Stop, Parse, bind, unexpected, expect, E, part}
+use Rattle.qs_grammar.specs.Parse.{Stop, Parse, read_on, unexpected, expect, E, part}
 use Rattle.qs_grammar.specs.ParseStatements.{S, optional, condition, start_of, begins_statement, item, items, after_then, expect_while, keyword_statement, statement_at, statement}
 use Rattle.qs_grammar.proofs.HeadsLaws.{keyword_is, punctuator_is}
 use Rattle.qs_grammar.proofs.Sound.{Sound, Sound-ok, Sound-err, at_end, Sound-mono}
@@ -33,21 +33,21 @@ abbrev pub Takes : Result (S × List Terminal) Stop → Type 0
 Takes (Ok x) = is_open x.0.0 ≡ true → NoElse x.1
 Takes (Err s) = Unit {0}
 
-takes_bind : {A : Type 0} (r : Result (A × List Terminal) Stop) (f : A → Parse S) → ((x : A) (ts : List Terminal) → Takes (f x ts)) → Takes (bind r f)
-takes_bind (Ok x) f h = h x.0 x.1
-takes_bind (Err s) f h = tt
+takes_read_on : {A : Type 0} (r : Result (A × List Terminal) Stop) (f : A → Parse S) → ((x : A) (ts : List Terminal) → Takes (f x ts)) → Takes (read_on r f)
+takes_read_on (Ok x) f h = h x.0 x.1
+takes_read_on (Err s) f h = tt
 
 takes_if : (b : Bool) (r s : Result (S × List Terminal) Stop) → (b ≡ true → Takes r) → (b ≡ false → Takes s) → Takes (cond b r s)
 takes_if true r s f g = f refl
 takes_if false r s f g = g refl
 
 -- where a statement ends as its last part does
-takes_last : (r : Result (S × List Terminal) Stop) (g : S → S) → ((s : S) → is_open (g s).0 ≡ is_open s.0) → Takes r → Takes (bind r (λ s us. Ok (g s, us)))
+takes_last : (r : Result (S × List Terminal) Stop) (g : S → S) → ((s : S) → is_open (g s).0 ≡ is_open s.0) → Takes r → Takes (read_on r (λ s us. Ok (g s, us)))
 takes_last (Ok x) g same h = λ o. h (sym (same x.0) ∙ o)
 takes_last (Err s) g same h = tt
 
 -- where nothing in a statement can take an `else`
-takes_closed : {A : Type 0} (r : Result (A × List Terminal) Stop) (g : A → S) → ((x : A) → is_open (g x).0 ≡ false) → Takes (bind r (λ x us. Ok (g x, us)))
+takes_closed : {A : Type 0} (r : Result (A × List Terminal) Stop) (g : A → S) → ((x : A) → is_open (g x).0 ≡ false) → Takes (read_on r (λ x us. Ok (g x, us)))
 takes_closed (Ok x) g closed = λ o. absurd (true≢false (sym o ∙ closed x.0))
 takes_closed (Err s) g closed = tt
 
@@ -62,18 +62,18 @@ module _ (m : ℕ) (inner : Parse S) (takes : (ts : List Terminal) → Takes (in
   takes_keyword : (t : Terminal) (ts : List Terminal) → Takes (keyword_statement m inner (place (t ∷ ts)) t ts)
   takes_keyword t ts =
       takes_if (is_keyword keywords.If t) _ _
-      (λ _. takes_if (m == 0) _ _ (λ _. tt) (λ _. takes_bind (condition m ts) _ (λ e us. takes_bind (inner us) _ (λ s vs. takes_after_then (number_of t) e s vs))))
+      (λ _. takes_if (m == 0) _ _ (λ _. tt) (λ _. takes_read_on (condition m ts) _ (λ e us. takes_read_on (inner us) _ (λ s vs. takes_after_then (number_of t) e s vs))))
       (λ _. takes_if (is_keyword keywords.While t) _ _
-      (λ _. takes_if (m == 0) _ _ (λ _. tt) (λ _. takes_bind (condition m ts) _ (λ e us. takes_last (inner us) (λ s. (while_loop (unnumbered (number_of t)) e.0 s.0, max e.1 s.1 + 1)) (λ s. refl) (takes us))))
+      (λ _. takes_if (m == 0) _ _ (λ _. tt) (λ _. takes_read_on (condition m ts) _ (λ e us. takes_last (inner us) (λ s. (while_loop (unnumbered (number_of t)) e.0 s.0, max e.1 s.1 + 1)) (λ s. refl) (takes us))))
       (λ _. takes_if (is_keyword keywords.Do t) _ _
-      (λ _. takes_if (m == 0) _ _ (λ _. tt) (λ _. takes_bind (inner ts) _ (λ s us. takes_bind (expect_while m inner us) _ (λ _ vs. takes_bind (condition m vs) _ (λ e ws. takes_closed (expect punctuators.Semicolon ws) (λ _. (do_loop (unnumbered (number_of t)) s.0 e.0, max s.1 e.1 + 1)) (λ _. refl))))))
+      (λ _. takes_if (m == 0) _ _ (λ _. tt) (λ _. takes_read_on (inner ts) _ (λ s us. takes_read_on (expect_while m inner us) _ (λ _ vs. takes_read_on (condition m vs) _ (λ e ws. takes_closed (expect punctuators.Semicolon ws) (λ _. (do_loop (unnumbered (number_of t)) s.0 e.0, max s.1 e.1 + 1)) (λ _. refl))))))
       (λ _. takes_if (is_keyword keywords.For t) _ _
-      (λ _. takes_if (m == 0) _ _ (λ _. tt) (λ _. takes_bind (expect punctuators.OpenParenthesis ts) _ (λ _ us. takes_bind (start_of m us) _ (λ a vs. takes_bind (optional m punctuators.Semicolon vs) _ (λ e ws. takes_bind (optional m punctuators.CloseParenthesis ws) _
+      (λ _. takes_if (m == 0) _ _ (λ _. tt) (λ _. takes_read_on (expect punctuators.OpenParenthesis ts) _ (λ _ us. takes_read_on (start_of m us) _ (λ a vs. takes_read_on (optional m punctuators.Semicolon vs) _ (λ e ws. takes_read_on (optional m punctuators.CloseParenthesis ws) _
       (λ u xs. takes_last (inner xs) (λ s. (for_loop (unnumbered (number_of t)) a.0 e.0 u.0 s.0, max a.1 (max e.1 (max u.1 s.1)) + 1)) (λ s. refl) (takes xs)))))))
       (λ _. takes_if (is_keyword keywords.Break t) _ _ (λ _. takes_closed (expect punctuators.Semicolon ts) (λ _. (break (unnumbered (number_of t)), 1)) (λ _. refl))
       (λ _. takes_if (is_keyword keywords.Continue t) _ _ (λ _. takes_closed (expect punctuators.Semicolon ts) (λ _. (continue (unnumbered (number_of t)), 1)) (λ _. refl))
       (λ _. takes_if (is_keyword keywords.Return t) _ _ (λ _. takes_closed (optional m punctuators.Semicolon ts) (λ e. (return (unnumbered (number_of t)) e.0, e.1 + 1)) (λ e. refl))
-      (λ _. takes_bind (part m Expression (t ∷ ts)) _ (λ e us. takes_closed (expect punctuators.Semicolon us) (λ _. (expression (unnumbered (number_of t)) e.0, e.1 + 1)) (λ _. refl)))))))))
+      (λ _. takes_read_on (part m Expression (t ∷ ts)) _ (λ e us. takes_closed (expect punctuators.Semicolon us) (λ _. (expression (unnumbered (number_of t)) e.0, e.1 + 1)) (λ _. refl)))))))))
 
   takes_statement_at : (ts : List Terminal) → Takes (statement_at m inner ts)
   takes_statement_at [] = tt
@@ -93,11 +93,11 @@ module _ {A : Type 0} {R : A → List Terminal → Type 0} where
   pub Sound-keyword : (k : key.Keyword) (t : Terminal) (ts : List Terminal) {r : Result (A × List Terminal) Stop} → is_keyword k t ≡ true → Sound (λ x l. R x (Keyword (number_of t) k ∷ l)) [] ts r → Sound R [] (t ∷ ts) r
   Sound-keyword k t ts e s = rw (keyword_is k t e) (Sound-first s)
 
-  Sound-while-next : (m : ℕ) (inner : Parse S) (ts : List Terminal) (f : Unit {0} → Parse A) → ((w : ℕ) (us : List Terminal) → Sound (λ x l. R x (Keyword w keywords.While ∷ l)) [] us (f tt us)) → Sound R [] ts (bind (expect_while m inner ts) f)
+  Sound-while-next : (m : ℕ) (inner : Parse S) (ts : List Terminal) (f : Unit {0} → Parse A) → ((w : ℕ) (us : List Terminal) → Sound (λ x l. R x (Keyword w keywords.While ∷ l)) [] us (f tt us)) → Sound R [] ts (read_on (expect_while m inner ts) f)
   Sound-while-next m inner [] f go = Sound-err at_end
   Sound-while-next m inner (t ∷ ts) f go = by_case (is_keyword keywords.While t) (λ e. keyword_is keywords.While t e)
     where
-      by_case : (b : Bool) → (b ≡ true → t ≡ Keyword (number_of t) keywords.While) → Sound R [] (t ∷ ts) (bind (cond b (Ok (tt, ts)) (unexpected (t ∷ ts))) f)
+      by_case : (b : Bool) → (b ≡ true → t ≡ Keyword (number_of t) keywords.While) → Sound R [] (t ∷ ts) (read_on (cond b (Ok (tt, ts)) (unexpected (t ∷ ts))) f)
       by_case true h = rw (h refl) (Sound-first (go (number_of t) ts))
       by_case false h = Sound-err at_end
 

@@ -14,7 +14,7 @@ use Rattle.qs_syntax.specs.Trees.{ExprTree, StartTree, StmtTree, Stmts}
 use Rattle.qs_syntax.specs.Reads.{Expression}
 use Rattle.qs_syntax.specs.ReadsStatements.{is_open, nothing_there, something_there, a_start_declaration, a_start_expression, no_start_at_all, ReadsStart, ReadsStatement, a_block, an_empty, an_expression, a_break, a_continue, ReadsItem, a_statement, a_declared, ReadsItems, no_item, an_item}
 use Rattle.qs_grammar.specs.Heads.{is_punctuator, is_keyword, starts, starts_with, begins_type}
-use Rattle.qs_grammar.specs.Parse.{Parse, bind, unexpected, E, begins_one}
+use Rattle.qs_grammar.specs.Parse.{Parse, read_on, unexpected, E, begins_one}
 use Rattle.qs_grammar.specs.ParseDeclarations.{declaration_within}
 use Rattle.qs_grammar.specs.ParseStatements.{S, optional, condition, start_of, begins_statement, item, items, in_block, after_then, after_if, after_while, expect_while, after_do, after_for, plain_statement, keyword_statement, statement_at, statement}
 use Rattle.qs_grammar.proofs.HeadsLaws.{punctuator_is, keyword_is}
@@ -23,7 +23,7 @@ use Rattle.qs_grammar.proofs.ExpressionsSound.{sound_part}
 use Rattle.qs_grammar.proofs.StatementsSound.{NoElse, Takes, takes_statement, IsOptional, sound_optional, IsCondition, sound_condition, sound_start, IsStatement, if_read, else_read, while_read, do_read, for_read, return_read, sound_item, taken_there, sound_statement}
 use Rattle.qs_grammar.proofs.ExpressionsViable.{Has, number, one, one_begun, viable_part}
 use Rattle.qs_grammar.proofs.DeclarationsViable.{a_punctuator, viable_declaration_within}
-use Rattle.qs_grammar.proofs.Viable.{Claims, OfFronts, behind_token, behind, Both, under, Viable, Viable-ok, Viable-unexpected, Viable-deep, Viable-token, Viable-if, Viable-bind, Viable-bind-is, Viable-done, here, Viable-is_punctuator, Viable-keyword, Viable-punctuator, Viable-some}
+use Rattle.qs_grammar.proofs.Viable.{Claims, OfFronts, behind_token, behind, Both, under, Viable, Viable-ok, Viable-unexpected, Viable-deep, Viable-token, Viable-if, Viable-read_on, Viable-read_on-is, Viable-done, here, Viable-is_punctuator, Viable-keyword, Viable-punctuator, Viable-some}
 
 -- ---- parts of statements
 
@@ -50,7 +50,7 @@ viable_optional m k Q c w ts =
     let low : Q true [] = c.front true [] (a_punctuator k ∷ []) ((w 0 _ (an_option k 0)).1 (omega arith)) in
     Viable-if (starts k ts)
     (λ _. Viable-punctuator k ts _ low (λ at us. Viable-ok))
-    (λ _. Viable-bind _ (sound_part m Expression ts) (viable_part m Expression refl Q c begun low ts) (λ e front us r. Viable-punctuator k us _ (here Q front ((begun e.1 front (e.0, r.0)).1 r.1)) (λ at vs. Viable-ok)))
+    (λ _. Viable-read_on _ (sound_part m Expression ts) (viable_part m Expression refl Q c begun low ts) (λ e front us r. Viable-punctuator k us _ (here Q front ((begun e.1 front (e.0, r.0)).1 r.1)) (λ at vs. Viable-ok)))
   where
     begun : (h : ℕ) (xs : List Terminal) → Has Expression h xs → Both Q m h xs
     begun h xs s = under c xs (a_punctuator k ∷ []) m h (w h _ (some_option k h xs s)) m h (λ le. le)
@@ -77,7 +77,7 @@ test_fits m e xs (inside, o, k, is, r, low) = low
 viable_condition : (m : ℕ) (Q : Claims) → OfFronts Q → ((h : ℕ) (xs : List Terminal) → IsTest h xs → Both Q m h xs) → 0 < m → (ts : List Terminal) → Viable Q ts (condition m ts)
 viable_condition m Q c w some ts =
     Viable-punctuator punctuators.OpenParenthesis ts _ (c.front true [] _ ((w 1 _ one_test).1 (omega arith)))
-    (λ o us. Viable-bind _ (sound_part m Expression us)
+    (λ o us. Viable-read_on _ (sound_part m Expression us)
     (viable_part m Expression refl _ (behind_token (Punctuator o punctuators.OpenParenthesis) c) (begun o) (c.front true (Punctuator o punctuators.OpenParenthesis ∷ []) number ((begun o 1 number (one Expression refl)).1 (omega arith))) us)
     (λ e front vs r. Viable-punctuator punctuators.CloseParenthesis vs _ (here (λ b l. Q b (Punctuator o punctuators.OpenParenthesis ∷ l)) front ((begun o e.1 front (e.0, r.0)).1 r.1)) (λ at ws. Viable-ok)))
   where
@@ -95,7 +95,7 @@ viable_start m Q c w ts =
     Viable-if (begins_type ts) (declared_there ts)
     (λ _. Viable-if (starts punctuators.Semicolon ts)
     (λ _. Viable-punctuator punctuators.Semicolon ts _ low (λ at us. Viable-ok))
-    (λ _. Viable-bind _ (sound_part m Expression ts) (viable_part m Expression refl Q c begun low ts) (λ e front us r. Viable-punctuator punctuators.Semicolon us _ (here Q front ((begun e.1 front (e.0, r.0)).1 r.1)) (λ at vs. Viable-ok))))
+    (λ _. Viable-read_on _ (sound_part m Expression ts) (viable_part m Expression refl Q c begun low ts) (λ e front us r. Viable-punctuator punctuators.Semicolon us _ (here Q front ((begun e.1 front (e.0, r.0)).1 r.1)) (λ at vs. Viable-ok))))
   where
     low : Q true []
     low = c.front true [] (a_punctuator punctuators.Semicolon ∷ []) ((w 0 _ (no_beginning 0)).1 (omega arith))
@@ -103,7 +103,7 @@ viable_start m Q c w ts =
     begun : (h : ℕ) (xs : List Terminal) → Has Expression h xs → Both Q m h xs
     begun h xs s = under c xs (a_punctuator punctuators.Semicolon ∷ []) m h (w h _ (_, a_start_expression 0 s.1)) m h (λ le. le)
 
-    declared_there : (ts : List Terminal) → begins_type ts ≡ true → Viable {A = StartTree × ℕ} Q ts (bind (declaration_within m ts) (λ d us. Ok ((trees.start_declaration d.0, d.1), us)))
+    declared_there : (ts : List Terminal) → begins_type ts ≡ true → Viable {A = StartTree × ℕ} Q ts (read_on (declaration_within m ts) (λ d us. Ok ((trees.start_declaration d.0, d.1), us)))
     declared_there [] e = absurd cc
     declared_there (t ∷ ts) e = Viable-done _ (viable_declaration_within m Q c (λ h xs s. w h xs (_, a_start_declaration s.1)) low t ts e)
 
@@ -152,7 +152,7 @@ module _ (m : ℕ) (inner : Parse S) (takes : (ts : List Terminal) → Takes (in
   viable_item : (Q : Claims) → OfFronts Q → ((h : ℕ) (xs : List Terminal) → IsOneItem h xs → Both Q m h xs) → Q true [] → (ts : List Terminal) → Viable Q ts (item m inner ts)
   viable_item Q c w low ts = Viable-if (begins_type ts) (declared_there ts) (λ _. viable Q c (λ h xs s. w h xs (_, a_statement s.1)) low ts)
     where
-      declared_there : (ts : List Terminal) → begins_type ts ≡ true → Viable {A = S} Q ts (bind (declaration_within m ts) (λ d us. Ok ((trees.declaration d.0, d.1), us)))
+      declared_there : (ts : List Terminal) → begins_type ts ≡ true → Viable {A = S} Q ts (read_on (declaration_within m ts) (λ d us. Ok ((trees.declaration d.0, d.1), us)))
       declared_there [] e = absurd cc
       declared_there (t ∷ ts) e = Viable-done _ (viable_declaration_within m Q c (λ h xs s. w h xs (_, a_declared s.1)) low t ts e)
 
@@ -163,7 +163,7 @@ module _ (m : ℕ) (inner : Parse S) (takes : (ts : List Terminal) → Takes (in
       let low : Q true [] = c.front true [] (a_punctuator punctuators.CloseBrace ∷ []) ((w 0 [] (_, no_item)).1 (omega arith)) in
       Viable-if (starts punctuators.CloseBrace ts)
       (λ _. Viable-punctuator punctuators.CloseBrace ts _ low (λ at us. Viable-ok))
-      (λ _. Viable-bind _ (sound_item m inner takes sound ts) (viable_item Q c begun low ts)
+      (λ _. Viable-read_on _ (sound_item m inner takes sound ts) (viable_item Q c begun low ts)
       (λ s front us r. let fits : s.1 ≤ m = r.1 in
       viable_items n (done ++ s.0 ∷ []) (max h s.1) (λ b l. Q b (front ++ l)) (behind front c)
       (λ k xs i. let both = w (max s.1 k) (front ++ xs) (_, an_item r.0 i.1) in let same = append_assoc front xs (a_punctuator punctuators.CloseBrace ∷ []) in
@@ -197,9 +197,9 @@ module _ (m : ℕ) (inner : Parse S) (takes : (ts : List Terminal) → Takes (in
 
       viable_if : (at n : ℕ) (ts : List Terminal) → Viable (λ b l. Q b (Keyword at keywords.If ∷ l)) ts (after_if m inner n ts)
       viable_if at n ts =
-          Viable-bind _ (sound_condition m ts) (viable_condition m _ (behind_token (Keyword at keywords.If) c) (if_begun at) some ts)
+          Viable-read_on _ (sound_condition m ts) (viable_condition m _ (behind_token (Keyword at keywords.If) c) (if_begun at) some ts)
           (λ e cs us r. let test : IsTest e.1 cs = lower_test m e cs r in let fits : e.1 ≤ m = test_fits m e cs r in let inside = behind cs (behind_token (Keyword at keywords.If) c) in
-          Viable-bind-is _ (sound us) (viable _ inside (then_begun e cs test fits) (inside.front true [] (a_punctuator punctuators.Semicolon ∷ []) ((then_begun e cs test fits 1 _ empty_one).1 (omega arith))) us)
+          Viable-read_on-is _ (sound us) (viable _ inside (then_begun e cs test fits) (inside.front true [] (a_punctuator punctuators.Semicolon ∷ []) ((then_begun e cs test fits 1 _ empty_one).1 (omega arith))) us)
           (λ s ys vs read split q. viable_after_then at n e s cs ys test fits q.0 q.1 vs (taken_there m inner takes sound us vs s read)))
         where
           then_begun : (e : E) (cs : List Terminal) → IsTest e.1 cs → e.1 ≤ m → (h : ℕ) (ys : List Terminal) → IsStmt h ys → Both Q m h (Keyword at keywords.If ∷ (cs ++ ys))
@@ -210,7 +210,7 @@ module _ (m : ℕ) (inner : Parse S) (takes : (ts : List Terminal) → Takes (in
 
       viable_while : (at n : ℕ) (ts : List Terminal) → Viable (λ b l. Q b (Keyword at keywords.While ∷ l)) ts (after_while m inner n ts)
       viable_while at n ts =
-          Viable-bind _ (sound_condition m ts) (viable_condition m _ (behind_token (Keyword at keywords.While) c) (while_begun at) some ts)
+          Viable-read_on _ (sound_condition m ts) (viable_condition m _ (behind_token (Keyword at keywords.While) c) (while_begun at) some ts)
           (λ e cs us r. let test : IsTest e.1 cs = lower_test m e cs r in let fits : e.1 ≤ m = test_fits m e cs r in let inside = behind cs (behind_token (Keyword at keywords.While) c) in
           Viable-done _ (viable _ inside (body_begun e cs test fits) (inside.front true [] (a_punctuator punctuators.Semicolon ∷ []) ((body_begun e cs test fits 1 _ empty_one).1 (omega arith))) us))
         where
@@ -230,20 +230,20 @@ module _ (m : ℕ) (inner : Parse S) (takes : (ts : List Terminal) → Takes (in
         while_due : (h : ℕ) (xs : List Terminal) → IsStmt h xs → Both Doing m h xs
         while_due h xs s = under doing xs _ (suc m) (max h 1 + 1) (w _ _ (do_one at 0 0 h 1 xs _ s one_test)) m h (λ le. omega arith)
 
-        viable_expect_while : {A : Type 0} (xs ts : List Terminal) (f : Unit {0} → Parse A) → Doing true xs → ((v : ℕ) (us : List Terminal) → Viable (λ b l. Doing b (xs ++ Keyword v keywords.While ∷ l)) us (f tt us)) → Viable (λ b l. Doing b (xs ++ l)) ts (bind (expect_while m inner ts) f)
+        viable_expect_while : {A : Type 0} (xs ts : List Terminal) (f : Unit {0} → Parse A) → Doing true xs → ((v : ℕ) (us : List Terminal) → Viable (λ b l. Doing b (xs ++ Keyword v keywords.While ∷ l)) us (f tt us)) → Viable (λ b l. Doing b (xs ++ l)) ts (read_on (expect_while m inner ts) f)
         viable_expect_while xs [] f due go = Viable-unexpected (here Doing xs due)
         viable_expect_while {A} xs (t ∷ ts) f due go = by_case (is_keyword keywords.While t) (λ e. keyword_is keywords.While t e)
           where
-            by_case : (b : Bool) → (b ≡ true → t ≡ Keyword (number_of t) keywords.While) → Viable {A = A} (λ b l. Doing b (xs ++ l)) (t ∷ ts) (bind (cond b (Ok (tt, ts)) (unexpected (t ∷ ts))) f)
+            by_case : (b : Bool) → (b ≡ true → t ≡ Keyword (number_of t) keywords.While) → Viable {A = A} (λ b l. Doing b (xs ++ l)) (t ∷ ts) (read_on (cond b (Ok (tt, ts)) (unexpected (t ∷ ts))) f)
             by_case true h = rw (h refl) (Viable-token (go (number_of t) ts))
             by_case false h = Viable-unexpected (here Doing xs due)
 
         viable_do : (n : ℕ) (ts : List Terminal) → Viable Doing ts (after_do m inner n ts)
         viable_do n ts =
-            Viable-bind _ (sound ts) (viable Doing doing while_due (doing.front true [] (a_punctuator punctuators.Semicolon ∷ []) ((while_due 1 _ empty_one).1 (omega arith))) ts)
+            Viable-read_on _ (sound ts) (viable Doing doing while_due (doing.front true [] (a_punctuator punctuators.Semicolon ∷ []) ((while_due 1 _ empty_one).1 (omega arith))) ts)
             (λ s xs us q. let body : IsStmt s.1 xs = (s.0, q.0) in let fits : s.1 ≤ m = q.1 in
             viable_expect_while xs us _ ((while_due s.1 xs body).1 fits)
-            (λ v vs. Viable-bind _ (sound_condition m vs) (viable_condition m _ (behind_token (Keyword v keywords.While) (behind xs doing)) (λ g cs t. tested v s.1 g xs cs body fits t) some vs)
+            (λ v vs. Viable-read_on _ (sound_condition m vs) (viable_condition m _ (behind_token (Keyword v keywords.While) (behind xs doing)) (λ g cs t. tested v s.1 g xs cs body fits t) some vs)
             (λ e cs ws r. Viable-punctuator punctuators.Semicolon ws _ (here (λ b l. Doing b (xs ++ Keyword v keywords.While ∷ l)) cs ((tested v s.1 e.1 xs cs body fits (lower_test m e cs r)).1 (test_fits m e cs r))) (λ k ys. Viable-ok))))
 
       module _ (at o : ℕ) where
@@ -273,11 +273,11 @@ module _ (m : ℕ) (inner : Parse S) (takes : (ts : List Terminal) → Takes (in
       viable_for : (at n : ℕ) (ts : List Terminal) → Viable (λ b l. Q b (Keyword at keywords.For ∷ l)) ts (after_for m inner n ts)
       viable_for at n ts =
           Viable-punctuator punctuators.OpenParenthesis ts _ (c.front true (Keyword at keywords.For ∷ []) _ ((started at 0 0 _ (no_beginning 0)).1 (omega arith)))
-          (λ o us. Viable-bind _ (sound_start m us) (viable_start m _ (turning at o) (started at o) us)
+          (λ o us. Viable-read_on _ (sound_start m us) (viable_start m _ (turning at o) (started at o) us)
           (λ a ws vs r. let beginning : IsBeginning a.1 ws = (a.0, r.0) in let l1 : a.1 ≤ m = r.1 in
-          Viable-bind _ (sound_optional m punctuators.Semicolon vs) (viable_optional m punctuators.Semicolon _ (behind ws (turning at o)) (λ i xs e. checked at o a.1 i ws xs beginning l1 e) vs)
+          Viable-read_on _ (sound_optional m punctuators.Semicolon vs) (viable_optional m punctuators.Semicolon _ (behind ws (turning at o)) (λ i xs e. checked at o a.1 i ws xs beginning l1 e) vs)
           (λ e xs vs' q. let test : IsOption punctuators.Semicolon e.1 xs = lower_option m punctuators.Semicolon e xs q in let l2 : e.1 ≤ m = option_fits m punctuators.Semicolon e xs q in
-          Viable-bind _ (sound_optional m punctuators.CloseParenthesis vs') (viable_optional m punctuators.CloseParenthesis _ (behind xs (behind ws (turning at o))) (λ j ys u. stepped at o a.1 e.1 j ws xs ys beginning l1 test l2 u) vs')
+          Viable-read_on _ (sound_optional m punctuators.CloseParenthesis vs') (viable_optional m punctuators.CloseParenthesis _ (behind xs (behind ws (turning at o))) (λ j ys u. stepped at o a.1 e.1 j ws xs ys beginning l1 test l2 u) vs')
           (λ u ys xs' z. let last : IsOption punctuators.CloseParenthesis u.1 ys = lower_option m punctuators.CloseParenthesis u ys z in let l3 : u.1 ≤ m = option_fits m punctuators.CloseParenthesis u ys z in
           let inside = behind ys (behind xs (behind ws (turning at o))) in let begun = turned at o a.1 e.1 u.1 ws xs ys beginning l1 test l2 last l3 in
           Viable-done _ (viable _ inside begun (inside.front true [] (a_punctuator punctuators.Semicolon ∷ []) ((begun 1 _ empty_one).1 (omega arith))) xs')))))
@@ -296,7 +296,7 @@ module _ (m : ℕ) (inner : Parse S) (takes : (ts : List Terminal) → Takes (in
         (λ _. Viable-if (is_keyword keywords.Return t)
         (λ e. Viable-keyword keywords.Return t e (Viable-token (Viable-done _ (viable_optional m punctuators.Semicolon _ (behind_token (Keyword (number_of t) keywords.Return) c)
         (λ h xs s. let both = w (h + 1) _ (return_one (number_of t) h xs s) in (both.0, λ le. both.1 (omega arith))) ts))))
-        (λ _. Viable-bind _ (sound_part m Expression (t ∷ ts)) (viable_part m Expression refl Q c begun statement_due (t ∷ ts)) (λ e front us r. Viable-punctuator punctuators.Semicolon us _ (here Q front ((begun e.1 front (e.0, r.0)).1 r.1)) (λ k vs. Viable-ok)))))
+        (λ _. Viable-read_on _ (sound_part m Expression (t ∷ ts)) (viable_part m Expression refl Q c begun statement_due (t ∷ ts)) (λ e front us r. Viable-punctuator punctuators.Semicolon us _ (here Q front ((begun e.1 front (e.0, r.0)).1 r.1)) (λ k vs. Viable-ok)))))
       where
         begun : (h : ℕ) (xs : List Terminal) → Has Expression h xs → Both Q m h xs
         begun h xs s = under c xs (a_punctuator punctuators.Semicolon ∷ []) (suc m) (suc h) (w (suc h) _ (expression_one h xs s)) m h (λ le. omega arith)

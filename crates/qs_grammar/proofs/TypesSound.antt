@@ -10,9 +10,9 @@ use Rattle.qs_syntax.specs.declared.types.TypeName.{TypeName}
 use Rattle.qs_syntax.specs.Operators.{number_of}
 use Rattle.qs_syntax.specs.ReadsTypes.{ReadsConsts, no_const, a_const, ReadsBase, a_void, an_int, a_char, an_unsigned, an_unsigned_int, an_unsigned_char, a_signed, a_signed_int, a_struct, ReadsType, a_type, ReadsStars, no_star, a_star, ReadsTypeName, a_type_name}
 use Rattle.qs_grammar.specs.Heads.{is_punctuator, is_keyword, starts}
-use Rattle.qs_grammar.specs.Parse.{Stop, bind, expect_name, skip_consts, after_unsigned, after_signed, base, type, stars_from, stars, type_name}
+use Rattle.qs_grammar.specs.Parse.{Stop, read_on, expect_name, skip_consts, after_unsigned, after_signed, base, type, stars_from, stars, type_name}
 use Rattle.qs_grammar.proofs.HeadsLaws.{keyword_is, punctuator_is, starts_is}
-use Rattle.qs_grammar.proofs.Sound.{Sound, Sound-ok, Sound-err, at_end, Sound-after, Sound-token, Sound-bind}
+use Rattle.qs_grammar.proofs.Sound.{Sound, Sound-ok, Sound-err, at_end, Sound-after, Sound-token, Sound-read_on}
 use Rattle.qs_grammar.proofs.SoundSteps.{Sound-if, Sound-ends, sound_expect_name}
 
 -- what is left, where the front has a property
@@ -58,8 +58,8 @@ sound_after_signed : (at : ℕ) (ts : List Terminal) → Sound IsBase (Keyword a
 sound_after_signed at [] = Sound-ok (a_signed at)
 sound_after_signed at (t ∷ ts) = Sound-if (is_keyword keywords.Int t) (base_second keywords.Signed keywords.Int bases.Int at t ts (a_signed_int at)) (λ _. Sound-ok (a_signed at))
 
-sound_after_struct : (at : ℕ) (ts : List Terminal) → Sound IsBase (Keyword at keywords.Struct ∷ []) ts (bind (expect_name ts) (λ x us. Ok (bases.Struct x.1, us)))
-sound_after_struct at ts = Sound-bind _ (sound_expect_name ts) (λ x front us is. Sound-ok (subst (λ l. ReadsBase (Keyword at keywords.Struct ∷ l) (bases.Struct x.1)) (sym is) (a_struct at x.0 x.1)))
+sound_after_struct : (at : ℕ) (ts : List Terminal) → Sound IsBase (Keyword at keywords.Struct ∷ []) ts (read_on (expect_name ts) (λ x us. Ok (bases.Struct x.1, us)))
+sound_after_struct at ts = Sound-read_on _ (sound_expect_name ts) (λ x front us is. Sound-ok (subst (λ l. ReadsBase (Keyword at keywords.Struct ∷ l) (bases.Struct x.1)) (sym is) (a_struct at x.0 x.1)))
 
 keyword_first : (k : _) (t : Terminal) (ts : List Terminal) (r : Result (Base × List Terminal) Stop) → ((at : ℕ) → Sound IsBase (Keyword at k ∷ []) ts r) → is_keyword k t ≡ true → Sound IsBase [] (t ∷ ts) r
 keyword_first k t ts r f e = Sound-token (subst (λ u. Sound IsBase (u ∷ []) ts r) (sym (keyword_is k t e)) (f (number_of t)))
@@ -84,7 +84,7 @@ unfolding type
 sound_type ts =
     let before : Taken ReadsConsts ts (skip_consts ts) = taken_consts ts in
     Sound-skip [] ts (skip_consts ts) _ before
-    (Sound-bind _ (sound_base (skip_consts ts))
+    (Sound-read_on _ (sound_base (skip_consts ts))
     (λ b front us r. let behind : Taken ReadsConsts us (skip_consts us) = taken_consts us in
     Sound-ends (before.front ++ front) us (skip_consts us) b behind.front behind.split (subst (λ l. ReadsType l b) (sym (append_assoc before.front front behind.front)) (a_type before.is r behind.is))))
 
@@ -158,6 +158,6 @@ stars_read ts = by_case (starts punctuators.Star ts) refl
 
 pub sound_type_name : (ts : List Terminal) → Sound IsTypeName [] ts (type_name ts)
 unfolding type_name
-sound_type_name ts = Sound-bind _ (sound_type ts)
+sound_type_name ts = Sound-read_on _ (sound_type ts)
     (λ b front us r. let behind : StarsRead us (stars us) = stars_read us in
     Sound-ends front us (stars us).1 (record { base = b; stars = (stars us).0 }) behind.front behind.split (a_type_name r behind.is))

@@ -15,7 +15,7 @@ use Rattle.qs_syntax.specs.ReadsDeclarations.{no_length, a_length, ReadsLengths,
 use Rattle.qs_syntax.specs.ReadsStatements.{ReadsItems}
 use Rattle.qs_syntax.specs.ReadsUnits.{ReadsExternal, a_struct_with_members, a_forward, a_header, a_definition, some_variables, ReadsUnit, a_last_external, an_external}
 use Rattle.qs_grammar.specs.Heads.{starts, starts_with}
-use Rattle.qs_grammar.specs.Parse.{Stop, bind, base, skip_consts, stars}
+use Rattle.qs_grammar.specs.Parse.{Stop, read_on, base, skip_consts, stars}
 use Rattle.qs_grammar.specs.ParseDeclarations.{skip_prefixes, outer_type, groups, head}
 use Rattle.qs_grammar.specs.ParseStatements.{is_named, body_of, typed, external, is_empty, externals, unit}
 use Rattle.qs_grammar.proofs.TypesComplete.{goes_on_base, goes_on_type, finds_consts, finds_base, finds_stars, stars_go_on}
@@ -67,7 +67,7 @@ consts_start k no_const rest e = e
 consts_start k (a_const at r) rest e = refl
 
 base_external : {f : List Terminal} {b : Base} (k : ℕ) → ReadsBase f b → (rest : List Terminal) → starts punctuators.OpenBrace rest ≡ false → starts punctuators.Semicolon rest ≡ false
-    → external k (f ++ rest) ≡ bind (outer_type (f ++ rest)) (typed k (place (f ++ rest)))
+    → external k (f ++ rest) ≡ read_on (outer_type (f ++ rest)) (typed k (place (f ++ rest)))
 unfolding external
 base_external k (a_void at) rest e d = refl
 base_external k (an_int at) rest e d = refl
@@ -80,7 +80,7 @@ base_external k (a_signed_int at bt) rest e d = refl
 base_external k (a_struct at bt x) rest e d = rw (e, d) refl
 
 outer_external : {f : List Terminal} {b : Base} (k : ℕ) → ReadsOuterType f b → (rest : List Terminal) → starts punctuators.OpenBrace rest ≡ false → starts punctuators.Semicolon rest ≡ false
-    → external k (f ++ rest) ≡ bind (outer_type (f ++ rest)) (typed k (place (f ++ rest)))
+    → external k (f ++ rest) ≡ read_on (outer_type (f ++ rest)) (typed k (place (f ++ rest)))
 unfolding external
 outer_external k (an_outer_type {ys = ys} {zs = zs} no_prefix r d) rest e f =
     rw (append_assoc ys zs rest) (base_external k r (zs ++ rest) (consts_start punctuators.OpenBrace d rest e) (consts_start punctuators.Semicolon d rest f))
@@ -142,7 +142,7 @@ for_forward k at n s x rest = refl
 
 -- a type, stars, a name and a parenthesis begin a function
 finds_function : {f ys : List Terminal} {b : Base} {m : ℕ} (k : ℕ) → ReadsOuterType f b → ReadsStars ys m → (n : ℕ) (x : List ℕ) (o : ℕ) (rest : List Terminal)
-    → external k (f ++ (ys ++ Name n x ∷ Punctuator o punctuators.OpenParenthesis ∷ rest)) ≡ bind (head k rest) (body_of k (place f) b m x)
+    → external k (f ++ (ys ++ Name n x ∷ Punctuator o punctuators.OpenParenthesis ∷ rest)) ≡ read_on (head k rest) (body_of k (place f) b m x)
 finds_function {f} {ys} {b} {m} k t s n x o rest =
     finds_typed k t (ys ++ Name n x ∷ Punctuator o punctuators.OpenParenthesis ∷ rest)
     (stars_start punctuators.OpenBrace refl s n x (Punctuator o punctuators.OpenParenthesis ∷ rest)) (stars_start punctuators.Semicolon refl s n x (Punctuator o punctuators.OpenParenthesis ∷ rest)) (stars_go_on s (Name n x ∷ Punctuator o punctuators.OpenParenthesis ∷ rest) refl)

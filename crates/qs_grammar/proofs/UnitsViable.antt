@@ -22,7 +22,7 @@ use Rattle.qs_grammar.proofs.StatementsSound.{takes_statement, sound_statement}
 use Rattle.qs_grammar.proofs.UnitsSound.{sound_outer_type, sound_external}
 use Rattle.qs_grammar.proofs.DeclarationsViable.{a_punctuator, viable_outer_type, AreVariables, one_variable, viable_declared, AreGroups, a_member_group, viable_groups, IsHead, viable_head}
 use Rattle.qs_grammar.proofs.StatementsViable.{AreStmts, viable_items, viable_statement}
-use Rattle.qs_grammar.proofs.Viable.{Claims, OfFronts, behind_token, behind, Both, under, Viable, Viable-ok, Viable-unexpected, Viable-after, Viable-token, Viable-if, Viable-bind, Viable-done, here, Viable-keyword, Viable-punctuator, Viable-name}
+use Rattle.qs_grammar.proofs.Viable.{Claims, OfFronts, behind_token, behind, Both, under, Viable, Viable-ok, Viable-unexpected, Viable-after, Viable-token, Viable-if, Viable-read_on, Viable-done, here, Viable-keyword, Viable-punctuator, Viable-name}
 
 abbrev pub IsOne : ℕ → List Terminal → Type 0
 IsOne h xs = (d : DeclTree) × ReadsExternal h xs d
@@ -65,7 +65,7 @@ module _ (k : ℕ) (Q : Claims) (c : OfFronts Q) (w : (h : ℕ) (xs : List Termi
   viable_struct at start ts =
       Viable-name ts _ (struct_tag at)
       (λ n x us. Viable-punctuator punctuators.OpenBrace us _ (struct_named at n x)
-      (λ o vs. Viable-bind _ (sound_groups k (length vs) [] 0 vs) (viable_groups k (length vs) [] 0 _ (behind_token (Punctuator o punctuators.OpenBrace) (tagged at n x)) (λ h xs s. closed_groups at n x o h xs s 0) (members_due at n x o) vs)
+      (λ o vs. Viable-read_on _ (sound_groups k (length vs) [] 0 vs) (viable_groups k (length vs) [] 0 _ (behind_token (Punctuator o punctuators.OpenBrace) (tagged at n x)) (λ h xs s. closed_groups at n x o h xs s 0) (members_due at n x o) vs)
       (λ ms l ws r. Viable-punctuator punctuators.Semicolon ws _ (here (λ b m. Tagged at n x b (Punctuator o punctuators.OpenBrace ∷ m)) l (struct_closed at n x o ms l (all_closed punctuators.CloseBrace ReadsAllMembers (suc k) ms l r))) (λ s xs. Viable-ok))))
 
   viable_forward : (at start : ℕ) (ts : List Terminal) → Viable (λ b l. Q b (Keyword at keywords.Struct ∷ l)) ts (forward_of start ts)
@@ -117,7 +117,7 @@ module _ (k : ℕ) (Q : Claims) (c : OfFronts Q) (w : (h : ℕ) (xs : List Termi
       viable_function start ts =
           Viable-name ts _ (starred.front true [] _ (named_begun 0 []))
           (λ n x us. Viable-punctuator punctuators.OpenParenthesis us _ (named_begun n x)
-          (λ o vs. Viable-bind (body_of k start b m x) (sound_head k vs)
+          (λ o vs. Viable-read_on (body_of k start b m x) (sound_head k vs)
           (viable_head k _ (behind_token (Punctuator o punctuators.OpenParenthesis) (behind_token (Name n x) starred)) (headed n o 0 x) vs)
           (λ ps l ws q. behind_head n o x ps l ws q)))
         where
@@ -142,7 +142,7 @@ module _ (k : ℕ) (Q : Claims) (c : OfFronts Q) (w : (h : ℕ) (xs : List Termi
       (λ e. Viable-keyword keywords.Struct t (and_parts _ _ e).0 (Viable-token (viable_struct (number_of t) (number_of t) ts)))
       (λ _. Viable-if (is_keyword keywords.Struct t && is_named punctuators.Semicolon ts)
       (λ e. Viable-keyword keywords.Struct t (and_parts _ _ e).0 (Viable-token (viable_forward (number_of t) (number_of t) ts)))
-      (λ _. Viable-bind (typed k (number_of t)) (sound_outer_type (t ∷ ts)) (viable_outer_type Q c (λ xs b r. outer_begun b xs r) (t ∷ ts)) (λ b front us r. viable_typed b front r (number_of t) us)))
+      (λ _. Viable-read_on (typed k (number_of t)) (sound_outer_type (t ∷ ts)) (viable_outer_type Q c (λ xs b r. outer_begun b xs r) (t ∷ ts)) (λ b front us r. viable_typed b front r (number_of t) us)))
 
 -- ---- units
 
@@ -153,7 +153,7 @@ viable_externals : (k n : ℕ) (done : List DeclTree) (h : ℕ) (Q : Claims) →
 unfolding externals
 viable_externals k zero done h Q c w ts = Viable-unexpected (c.front true [] _ ((w 1 _ (_, a_last_external a_variable.1)).1 (omega arith)))
 viable_externals k (suc n) done h Q c w ts =
-    Viable-bind _ (sound_external k ts) (viable_external k Q c (λ h xs s. w h xs (_, a_last_external s.1)) ts)
+    Viable-read_on _ (sound_external k ts) (viable_external k Q c (λ h xs s. w h xs (_, a_last_external s.1)) ts)
     (λ d front us r. let fits : d.1 ≤ suc (suc k) = r.1 in
     Viable-if (is_empty us) (λ _. Viable-ok)
     (λ _. viable_externals k n (done ++ d.0 ∷ []) (max h d.1) (λ b l. Q b (front ++ l)) (behind front c) (λ j xs s. let both = w (max d.1 j) _ (_, an_external r.0 s.1) in (both.0, λ le. both.1 (omega arith))) us))

@@ -9,7 +9,7 @@ use Rattle.qs_syntax.specs.declared.punctuator.Punctuator as punctuator
 use Rattle.qs_syntax.specs.Operators.{number_of}
 use Rattle.qs_base.specs.declared.keyword.Keyword as key
 use Rattle.qs_grammar.specs.Heads.{is_punctuator, is_keyword, starts}
-use Rattle.qs_grammar.specs.Parse.{Stop, Unexpected, Deep, Parse, bind, unexpected, expect, expect_name}
+use Rattle.qs_grammar.specs.Parse.{Stop, Unexpected, Deep, Parse, read_on, unexpected, expect, expect_name}
 use Rattle.qs_grammar.proofs.HeadsLaws.{punctuator_is, keyword_is}
 use Rattle.qs_grammar.proofs.Sound.{Outcome, Sound}
 
@@ -89,21 +89,21 @@ Viable-joined Q done front s = Viable-map (λ b l q. subst (Q b) (append_assoc d
 
 module _ {A C : Type 0} {R : A → List Terminal → Type 0} {Q : Claims} where
   -- a first part, which was read, and what follows
-  pub Viable-bind : {ts : List Terminal} {r : Result (A × List Terminal) Stop} (f : A → Parse C) → Sound R [] ts r → Viable Q ts r
-      → ((x : A) (front us : List Terminal) → R x front → Viable (λ b l. Q b (front ++ l)) us (f x us)) → Viable Q ts (bind r f)
-  Viable-bind {ts} {r} f sound s go = by_case r sound.is s.is
+  pub Viable-read_on : {ts : List Terminal} {r : Result (A × List Terminal) Stop} (f : A → Parse C) → Sound R [] ts r → Viable Q ts r
+      → ((x : A) (front us : List Terminal) → R x front → Viable (λ b l. Q b (front ++ l)) us (f x us)) → Viable Q ts (read_on r f)
+  Viable-read_on {ts} {r} f sound s go = by_case r sound.is s.is
     where
-      by_case : (r : Result (A × List Terminal) Stop) → Outcome R [] ts r → Place Q ts r → Viable Q ts (bind r f)
+      by_case : (r : Result (A × List Terminal) Stop) → Outcome R [] ts r → Place Q ts r → Viable Q ts (read_on r f)
       by_case (Ok x) (front, e, h) p = Viable-after ts front x.1 e (f x.0 x.1) (go x.0 front x.1 h)
       by_case (Err (Unexpected k)) h p = record { is = p }
       by_case (Err (Deep k)) h p = record { is = p }
 
   -- the same, where what follows knows that the first was read, and how the tokens begin
-  pub Viable-bind-is : {ts : List Terminal} {r : Result (A × List Terminal) Stop} (f : A → Parse C) → Sound R [] ts r → Viable Q ts r
-      → ((x : A) (front us : List Terminal) → r ≡ Ok (x, us) → ts ≡ front ++ us → R x front → Viable (λ b l. Q b (front ++ l)) us (f x us)) → Viable Q ts (bind r f)
-  Viable-bind-is {ts} {r} f sound s go = by_case r sound.is s.is go
+  pub Viable-read_on-is : {ts : List Terminal} {r : Result (A × List Terminal) Stop} (f : A → Parse C) → Sound R [] ts r → Viable Q ts r
+      → ((x : A) (front us : List Terminal) → r ≡ Ok (x, us) → ts ≡ front ++ us → R x front → Viable (λ b l. Q b (front ++ l)) us (f x us)) → Viable Q ts (read_on r f)
+  Viable-read_on-is {ts} {r} f sound s go = by_case r sound.is s.is go
     where
-      by_case : (r : Result (A × List Terminal) Stop) → Outcome R [] ts r → Place Q ts r → ((x : A) (front us : List Terminal) → r ≡ Ok (x, us) → ts ≡ front ++ us → R x front → Viable (λ b l. Q b (front ++ l)) us (f x us)) → Viable Q ts (bind r f)
+      by_case : (r : Result (A × List Terminal) Stop) → Outcome R [] ts r → Place Q ts r → ((x : A) (front us : List Terminal) → r ≡ Ok (x, us) → ts ≡ front ++ us → R x front → Viable (λ b l. Q b (front ++ l)) us (f x us)) → Viable Q ts (read_on r f)
       by_case (Ok x) (front, e, h) p go = Viable-after ts front x.1 e (f x.0 x.1) (go x.0 front x.1 refl e h)
       by_case (Err (Unexpected k)) h p go = record { is = p }
       by_case (Err (Deep k)) h p go = record { is = p }
@@ -111,19 +111,19 @@ module _ {A C : Type 0} {R : A → List Terminal → Type 0} {Q : Claims} where
 module _ {A C : Type 0} {R : A → List Terminal → Type 0} (Q : Claims) where
   -- the same, where the first speaks of all that was read before
   pub Viable-then : {done ts : List Terminal} {r : Result (A × List Terminal) Stop} (f : A → Parse C) → Sound R done ts r → Viable (λ b l. Q b (done ++ l)) ts r
-      → ((x : A) (all us : List Terminal) → R x all → Viable (λ b l. Q b (all ++ l)) us (f x us)) → Viable (λ b l. Q b (done ++ l)) ts (bind r f)
+      → ((x : A) (all us : List Terminal) → R x all → Viable (λ b l. Q b (all ++ l)) us (f x us)) → Viable (λ b l. Q b (done ++ l)) ts (read_on r f)
   Viable-then {done} {ts} {r} f sound s go = by_case r sound.is s.is
     where
-      by_case : (r : Result (A × List Terminal) Stop) → Outcome R done ts r → Place (λ b l. Q b (done ++ l)) ts r → Viable (λ b l. Q b (done ++ l)) ts (bind r f)
+      by_case : (r : Result (A × List Terminal) Stop) → Outcome R done ts r → Place (λ b l. Q b (done ++ l)) ts r → Viable (λ b l. Q b (done ++ l)) ts (read_on r f)
       by_case (Ok x) (front, e, h) p = Viable-after ts front x.1 e (f x.0 x.1) (Viable-joined Q done front (go x.0 (done ++ front) x.1 h))
       by_case (Err (Unexpected k)) h p = record { is = p }
       by_case (Err (Deep k)) h p = record { is = p }
 
 -- a part behind which nothing is refused
-pub Viable-done : {A C : Type 0} {Q : Claims} {ts : List Terminal} {r : Result (A × List Terminal) Stop} (g : A → List Terminal → C × List Terminal) → Viable Q ts r → Viable Q ts (bind r (λ x us. Ok (g x us)))
+pub Viable-done : {A C : Type 0} {Q : Claims} {ts : List Terminal} {r : Result (A × List Terminal) Stop} (g : A → List Terminal → C × List Terminal) → Viable Q ts r → Viable Q ts (read_on r (λ x us. Ok (g x us)))
 Viable-done {A} {C} {Q} {ts} {r} g s = by_case r s.is
   where
-    by_case : (r : Result (A × List Terminal) Stop) → Place Q ts r → Viable Q ts (bind r (λ x us. Ok (g x us)))
+    by_case : (r : Result (A × List Terminal) Stop) → Place Q ts r → Viable Q ts (read_on r (λ x us. Ok (g x us)))
     by_case (Ok x) p = Viable-ok
     by_case (Err (Unexpected k)) p = record { is = p }
     by_case (Err (Deep k)) p = record { is = p }
@@ -141,20 +141,20 @@ Viable-keyword {Q = Q} {ts = ts} {r = r} k t e v = subst (λ u. Viable Q (u ∷ 
 
 module _ {A : Type 0} {Q : Claims} where
   -- a punctuator that may stand here, and what follows
-  pub Viable-punctuator : (m : punctuator.Punctuator) (ts : List Terminal) (f : Unit {0} → Parse A) → Q true [] → ((at : ℕ) (us : List Terminal) → Viable (λ b l. Q b (Punctuator at m ∷ l)) us (f tt us)) → Viable Q ts (bind (expect m ts) f)
+  pub Viable-punctuator : (m : punctuator.Punctuator) (ts : List Terminal) (f : Unit {0} → Parse A) → Q true [] → ((at : ℕ) (us : List Terminal) → Viable (λ b l. Q b (Punctuator at m ∷ l)) us (f tt us)) → Viable Q ts (read_on (expect m ts) f)
   Viable-punctuator m [] f q go = Viable-unexpected q
   Viable-punctuator m (t ∷ ts) f q go = by_case (is_punctuator m t) (λ e. punctuator_is m t e)
     where
-      by_case : (b : Bool) → (b ≡ true → t ≡ Punctuator (number_of t) m) → Viable Q (t ∷ ts) (bind (cond b (Ok (tt, ts)) (unexpected (t ∷ ts))) f)
+      by_case : (b : Bool) → (b ≡ true → t ≡ Punctuator (number_of t) m) → Viable Q (t ∷ ts) (read_on (cond b (Ok (tt, ts)) (unexpected (t ∷ ts))) f)
       by_case true h = rw (h refl) (Viable-token (go (number_of t) ts))
       by_case false h = Viable-unexpected q
 
   -- a punctuator that does not stand there
-  pub Viable-no-punctuator : (m : punctuator.Punctuator) (ts : List Terminal) (f : Unit {0} → Parse A) → starts m ts ≡ false → Q true [] → Viable Q ts (bind (expect m ts) f)
+  pub Viable-no-punctuator : (m : punctuator.Punctuator) (ts : List Terminal) (f : Unit {0} → Parse A) → starts m ts ≡ false → Q true [] → Viable Q ts (read_on (expect m ts) f)
   Viable-no-punctuator m [] f e q = Viable-unexpected q
   Viable-no-punctuator m (t ∷ ts) f e q = rw e (Viable-unexpected q)
 
-  pub Viable-name : (ts : List Terminal) (f : ℕ × List ℕ → Parse A) → Q true [] → ((at : ℕ) (x : List ℕ) (us : List Terminal) → Viable (λ b l. Q b (Name at x ∷ l)) us (f (at, x) us)) → Viable Q ts (bind (expect_name ts) f)
+  pub Viable-name : (ts : List Terminal) (f : ℕ × List ℕ → Parse A) → Q true [] → ((at : ℕ) (x : List ℕ) (us : List Terminal) → Viable (λ b l. Q b (Name at x ∷ l)) us (f (at, x) us)) → Viable Q ts (read_on (expect_name ts) f)
   Viable-name [] f q go = Viable-unexpected q
   Viable-name (Name at x ∷ ts) f q go = Viable-token (go at x ts)
   Viable-name (Keyword at k ∷ ts) f q go = Viable-unexpected q

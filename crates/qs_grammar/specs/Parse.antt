@@ -3,6 +3,7 @@
 use Rattle.std.specs.Prelude.{ℕ, zero, suc, ◌+◌, max, List, [], ◌∷◌, ◌++◌, length, Result, Ok, Err, Option, Some, None, Bool, true, false, nat_le, ◌==◌, ◌&&◌, ◌||◌, if◌then◌else◌, is_some}
 use Rattle.qs_syntax.specs.declared.terminal.Terminal.{Terminal}
 use Rattle.qs_syntax.specs.declared.terminal.Terminal.TheVariants.{Name, Keyword, Constant, Text, Punctuator}
+use Rattle.qs_base.specs.Results.{bind}
 use Rattle.qs_base.specs.declared.keyword.Keyword.TheVariants as keywords
 use Rattle.qs_syntax.specs.declared.punctuator.Punctuator as punctuator
 use Rattle.qs_syntax.specs.declared.punctuator.Punctuator.TheVariants as punctuators
@@ -32,9 +33,9 @@ left_of (Deep left) = left
 abbrev pub Parse : Type 0 → Type 0
 Parse A = List Terminal → Result (A × List Terminal) Stop
 
-abbrev pub bind : {A B : Type 0} → Result (A × List Terminal) Stop → (A → Parse B) → Result (B × List Terminal) Stop
-bind (Ok x) f = f x.0 x.1
-bind (Err e) f = Err e
+-- what reads on is given the part that was read and the tokens left
+abbrev pub read_on : {A B : Type 0} → Result (A × List Terminal) Stop → (A → Parse B) → Result (B × List Terminal) Stop
+read_on r f = bind r (λ x. f x.0 x.1)
 
 -- a tree, and how high its reading is
 abbrev pub E : Type 0
@@ -85,7 +86,7 @@ after_signed (t ∷ ts) = if is_keyword keywords.Int t then Ok (bases.Int, ts) e
 
 -- behind `struct`
 abbrev pub tagged : Parse Base
-tagged ts = bind (expect_name ts) (λ x us. Ok (bases.Struct x.1, us))
+tagged ts = read_on (expect_name ts) (λ x us. Ok (bases.Struct x.1, us))
 
 abbrev pub base : Parse Base
 base [] = unexpected []
@@ -100,7 +101,7 @@ base (t ∷ ts) =
 
 -- { "const" } base { "const" }
 unfoldable pub type : Parse Base
-type ts = bind (base (skip_consts ts)) (λ b us. Ok (b, skip_consts us))
+type ts = read_on (base (skip_consts ts)) (λ b us. Ok (b, skip_consts us))
 
 -- behind a star: further stars and `const`
 abbrev pub stars_from : ℕ → List Terminal → ℕ × List Terminal
@@ -112,7 +113,7 @@ unfoldable pub stars : List Terminal → ℕ × List Terminal
 stars ts = if starts punctuators.Star ts then stars_from 0 ts else (0, ts)
 
 unfoldable pub type_name : Parse TypeName
-type_name ts = bind (type ts) (λ b us. Ok (record { base = b; stars = (stars us).0 }, (stars us).1))
+type_name ts = read_on (type ts) (λ b us. Ok (record { base = b; stars = (stars us).0 }, (stars us).1))
 
 -- ---- expressions
 
@@ -131,7 +132,7 @@ beyond ts = if begins_one ts then deep ts else unexpected ts
 
 -- Behind `sizeof`, where what stands in parentheses would be too deep and no type does: the parenthesis might begin one.
 abbrev pub size_at_limit : {A : Type 0} → Parse A
-size_at_limit ts = bind (expect punctuators.OpenParenthesis ts) (λ _ us. beyond us)
+size_at_limit ts = read_on (expect punctuators.OpenParenthesis ts) (λ _ us. beyond us)
 
 -- a parenthesis before a type
 abbrev pub begins_cast : List Terminal → Bool
@@ -161,22 +162,22 @@ module _ (m : ℕ) (part : Form → Parse E) where
   -- behind an argument: the parenthesis at the end, or a comma and the others
   abbrev pub after_argument : (List ExprTree → ℕ → Parse (List ExprTree × ℕ)) → List ExprTree → ℕ → Parse (List ExprTree × ℕ)
   after_argument others es h ts =
-      if starts punctuators.CloseParenthesis ts then bind (expect punctuators.CloseParenthesis ts) (λ _ us. Ok ((es, h), us))
-      else bind (expect punctuators.Comma ts) (λ _ us. others es h us)
+      if starts punctuators.CloseParenthesis ts then read_on (expect punctuators.CloseParenthesis ts) (λ _ us. Ok ((es, h), us))
+      else read_on (expect punctuators.Comma ts) (λ _ us. others es h us)
 
   -- Arguments behind these, and the parenthesis at their end. The first number bounds the turns.
   unfoldable pub arguments : ℕ → List ExprTree → ℕ → Parse (List ExprTree × ℕ)
   arguments zero done h ts = unexpected ts
-  arguments (suc n) done h ts = bind (part Assignment ts) (λ e us. after_argument (arguments n) (done ++ e.0 ∷ []) (max h e.1) us)
+  arguments (suc n) done h ts = read_on (part Assignment ts) (λ e us. after_argument (arguments n) (done ++ e.0 ∷ []) (max h e.1) us)
 
   abbrev pub call_of : (at : ℕ) → List ℕ → Parse E
   call_of at f ts =
-      if starts punctuators.CloseParenthesis ts then bind (expect punctuators.CloseParenthesis ts) (λ _ us. Ok ((expr (unnumbered at) (call f (exprs_of [])), 1), us))
-      else bind (arguments (length ts) [] 0 ts) (λ es us. Ok ((expr (unnumbered at) (call f (exprs_of es.0)), es.1 + 1), us))
+      if starts punctuators.CloseParenthesis ts then read_on (expect punctuators.CloseParenthesis ts) (λ _ us. Ok ((expr (unnumbered at) (call f (exprs_of [])), 1), us))
+      else read_on (arguments (length ts) [] 0 ts) (λ es us. Ok ((expr (unnumbered at) (call f (exprs_of es.0)), es.1 + 1), us))
 
   abbrev pub after_name : (at : ℕ) → List ℕ → Parse E
   after_name at x ts =
-      if starts punctuators.OpenParenthesis ts then bind (expect punctuators.OpenParenthesis ts) (λ _ us. call_of at x us)
+      if starts punctuators.OpenParenthesis ts then read_on (expect punctuators.OpenParenthesis ts) (λ _ us. call_of at x us)
       else Ok ((expr (unnumbered at) (name x), 1), ts)
 
   abbrev pub after_text : (at : ℕ) → List ℕ × List Terminal → Result (E × List Terminal) Stop
@@ -184,7 +185,7 @@ module _ (m : ℕ) (part : Form → Parse E) where
 
   -- behind a parenthesis that begins no cast
   abbrev pub in_parentheses : Parse E
-  in_parentheses ts = bind (part Expression ts) (λ e us. bind (expect punctuators.CloseParenthesis us) (λ _ vs. Ok ((e.0, e.1 + 1), vs)))
+  in_parentheses ts = read_on (part Expression ts) (λ e us. read_on (expect punctuators.CloseParenthesis us) (λ _ vs. Ok ((e.0, e.1 + 1), vs)))
 
   unfoldable pub primary : Parse E
   primary [] = unexpected []
@@ -196,11 +197,11 @@ module _ (m : ℕ) (part : Form → Parse E) where
 
   -- behind `[`
   abbrev pub index_of : (start : ℕ) → E → Parse E
-  index_of start a ts = bind (part Expression ts) (λ b us. bind (expect punctuators.CloseBracket us) (λ _ vs. Ok ((expr (unnumbered start) (subscript a.0 b.0), max a.1 b.1 + 1), vs)))
+  index_of start a ts = read_on (part Expression ts) (λ b us. read_on (expect punctuators.CloseBracket us) (λ _ vs. Ok ((expr (unnumbered start) (subscript a.0 b.0), max a.1 b.1 + 1), vs)))
 
   -- behind `.` or `->`
   abbrev pub member_of : (start : ℕ) → E → Access → Parse E
-  member_of start a access ts = bind (expect_name ts) (λ x us. Ok ((expr (unnumbered start) (member access a.0 x.1), a.1 + 1), us))
+  member_of start a access ts = read_on (expect_name ts) (λ x us. Ok ((expr (unnumbered start) (member access a.0 x.1), a.1 + 1), us))
 
   abbrev pub access_at : (start : ℕ) → E → Option Access → Parse E
   access_at start a None ts = unexpected ts
@@ -221,23 +222,23 @@ module _ (m : ℕ) (part : Form → Parse E) where
   -- The suffixes behind an operand that begins at `start`. The first number bounds the turns.
   unfoldable pub suffixes : ℕ → (start : ℕ) → E → Parse E
   suffixes zero start a ts = Ok (a, ts)
-  suffixes (suc n) start a ts = if begins_suffix ts then above m a.1 (λ us. bind (suffix start a us) (suffixes n start)) ts else Ok (a, ts)
+  suffixes (suc n) start a ts = if begins_suffix ts then above m a.1 (λ us. read_on (suffix start a us) (suffixes n start)) ts else Ok (a, ts)
 
   abbrev pub postfix : Parse E
-  postfix ts = bind (primary ts) (λ a us. suffixes (length us) (place ts) a us)
+  postfix ts = read_on (primary ts) (λ a us. suffixes (length us) (place ts) a us)
 
   abbrev pub step_of : (at : ℕ) → StepOperator → Parse E
-  step_of at operator ts = bind (part Unary ts) (λ e us. Ok ((expr (unnumbered at) (step operator e.0), e.1 + 1), us))
+  step_of at operator ts = read_on (part Unary ts) (λ e us. Ok ((expr (unnumbered at) (step operator e.0), e.1 + 1), us))
 
   abbrev pub operator_of : (at : ℕ) → UnaryOperator → Parse E
-  operator_of at operator ts = bind (part (Level 0) ts) (λ e us. Ok ((expr (unnumbered at) (unary operator e.0), e.1 + 1), us))
+  operator_of at operator ts = read_on (part (Level 0) ts) (λ e us. Ok ((expr (unnumbered at) (unary operator e.0), e.1 + 1), us))
 
   -- behind `sizeof`
   abbrev pub size_of : (at : ℕ) → Parse E
   size_of at ts =
-      if begins_cast ts then bind (expect punctuators.OpenParenthesis ts) (λ _ us. bind (type_name us) (λ t vs. bind (expect punctuators.CloseParenthesis vs) (λ _ ws. Ok ((expr (unnumbered at) (sizeof_type t), 1), ws))))
+      if begins_cast ts then read_on (expect punctuators.OpenParenthesis ts) (λ _ us. read_on (type_name us) (λ t vs. read_on (expect punctuators.CloseParenthesis vs) (λ _ ws. Ok ((expr (unnumbered at) (sizeof_type t), 1), ws))))
       else if nat_le m 1 && starts punctuators.OpenParenthesis ts then size_at_limit ts
-      else bind (part Unary ts) (λ e us. Ok ((expr (unnumbered at) (sizeof_expr e.0), e.1 + 1), us))
+      else read_on (part Unary ts) (λ e us. Ok ((expr (unnumbered at) (sizeof_expr e.0), e.1 + 1), us))
 
   abbrev pub unary_operator_at : (at : ℕ) → Option UnaryOperator → punctuator.Punctuator → Parse E
   unary_operator_at at (Some operator) k ts = if m == 0 then deep (Punctuator at k ∷ ts) else operator_of at operator ts
@@ -257,10 +258,10 @@ module _ (m : ℕ) (part : Form → Parse E) where
 
   -- behind the parenthesis of a cast
   abbrev pub cast_of : (at : ℕ) → Parse E
-  cast_of at ts = bind (type_name ts) (λ t us. bind (expect punctuators.CloseParenthesis us) (λ _ vs. bind (part (Level 0) vs) (λ e ws. Ok ((expr (unnumbered at) (cast t e.0), e.1 + 1), ws))))
+  cast_of at ts = read_on (type_name ts) (λ t us. read_on (expect punctuators.CloseParenthesis us) (λ _ vs. read_on (part (Level 0) vs) (λ e ws. Ok ((expr (unnumbered at) (cast t e.0), e.1 + 1), ws))))
 
   abbrev pub cast_or_unary : Parse E
-  cast_or_unary ts = if begins_cast ts then deeper m (λ us. bind (expect punctuators.OpenParenthesis us) (λ _ vs. cast_of (place ts) vs)) ts else unary_of_all ts
+  cast_or_unary ts = if begins_cast ts then deeper m (λ us. read_on (expect punctuators.OpenParenthesis us) (λ _ vs. cast_of (place ts) vs)) ts else unary_of_all ts
 
   -- the operator of level j + 1 that stands first
   abbrev pub of_level : ℕ → Option BinaryOperator → Option BinaryOperator
@@ -269,7 +270,7 @@ module _ (m : ℕ) (part : Form → Parse E) where
   -- behind an operator, and what follows its right operand
   abbrev pub operation : ℕ → (start : ℕ) → E → BinaryOperator → (E → Parse E) → Parse E
   operation j start a operator others [] = unexpected []
-  operation j start a operator others (t ∷ ts) = bind (part (Level j) ts) (λ b us. others (expr (unnumbered start) (binary operator a.0 b.0), max a.1 b.1 + 1) us)
+  operation j start a operator others (t ∷ ts) = read_on (part (Level j) ts) (λ b us. others (expr (unnumbered start) (binary operator a.0 b.0), max a.1 b.1 + 1) us)
 
   abbrev pub operation_at : ℕ → (start : ℕ) → E → Option BinaryOperator → (E → Parse E) → Parse E
   operation_at j start a None others ts = Ok (a, ts)
@@ -283,47 +284,47 @@ module _ (m : ℕ) (part : Form → Parse E) where
   -- the operators of the levels up to j, behind an operand
   unfoldable pub climb : ℕ → (start : ℕ) → E → Parse E
   climb zero start a ts = Ok (a, ts)
-  climb (suc j) start a ts = bind (climb j start a ts) (λ b us. operations (length us) j start b us)
+  climb (suc j) start a ts = read_on (climb j start a ts) (λ b us. operations (length us) j start b us)
 
   -- behind what may be a condition
   abbrev pub after_or : (start : ℕ) → E → Parse E
   after_or start a ts =
       if starts punctuators.Question ts
-      then above m a.1 (λ us. bind (expect punctuators.Question us) (λ _ vs. bind (part Expression vs) (λ b ws. bind (expect punctuators.Colon ws) (λ _ xs. bind (part Conditional xs) (λ c ys. Ok ((expr (unnumbered start) (conditional a.0 b.0 c.0), max a.1 (max b.1 c.1) + 1), ys)))))) ts
+      then above m a.1 (λ us. read_on (expect punctuators.Question us) (λ _ vs. read_on (part Expression vs) (λ b ws. read_on (expect punctuators.Colon ws) (λ _ xs. read_on (part Conditional xs) (λ c ys. Ok ((expr (unnumbered start) (conditional a.0 b.0 c.0), max a.1 (max b.1 c.1) + 1), ys)))))) ts
       else Ok (a, ts)
 
   -- behind an operand that is no left side of an assignment
   abbrev pub after_operand : (start : ℕ) → E → Parse E
-  after_operand start a ts = bind (climb weakest start a ts) (after_or start)
+  after_operand start a ts = read_on (climb weakest start a ts) (after_or start)
 
   abbrev pub assignment_of : (start : ℕ) → E → Option AssignmentOperator → Parse E
   assignment_of start a None ts = after_operand start a ts
   assignment_of start a (Some operator) [] = Ok (a, [])
-  assignment_of start a (Some operator) (t ∷ ts) = above m a.1 (λ _. bind (part Assignment ts) (λ b us. Ok ((expr (unnumbered start) (assign operator a.0 b.0), max a.1 b.1 + 1), us))) (t ∷ ts)
+  assignment_of start a (Some operator) (t ∷ ts) = above m a.1 (λ _. read_on (part Assignment ts) (λ b us. Ok ((expr (unnumbered start) (assign operator a.0 b.0), max a.1 b.1 + 1), us))) (t ∷ ts)
 
   -- behind what may be the left side of an assignment
   abbrev pub after_unary : (start : ℕ) → E → Parse E
   after_unary start a ts = assignment_of start a (operator_at assign_of ts) ts
 
   abbrev pub assignment : Parse E
-  assignment ts = if begins_cast ts then bind (cast_or_unary ts) (after_operand (place ts)) else bind (unary_of_all ts) (after_unary (place ts))
+  assignment ts = if begins_cast ts then read_on (cast_or_unary ts) (after_operand (place ts)) else read_on (unary_of_all ts) (after_unary (place ts))
 
   -- The operands behind commas. The first number bounds the turns.
   unfoldable pub commas : ℕ → (start : ℕ) → E → Parse E
   commas zero start a ts = Ok (a, ts)
   commas (suc n) start a ts =
       if starts punctuators.Comma ts
-      then above m a.1 (λ us. bind (expect punctuators.Comma us) (λ _ vs. bind (part Assignment vs) (λ b ws. commas n start (expr (unnumbered start) (comma a.0 b.0), max a.1 b.1 + 1) ws))) ts
+      then above m a.1 (λ us. read_on (expect punctuators.Comma us) (λ _ vs. read_on (part Assignment vs) (λ b ws. commas n start (expr (unnumbered start) (comma a.0 b.0), max a.1 b.1 + 1) ws))) ts
       else Ok (a, ts)
 
   -- what is at most m + 1 high
   unfoldable pub expression : Form → Parse E
   expression Postfix ts = postfix ts
   expression Unary ts = unary_of_all ts
-  expression (Level j) ts = bind (cast_or_unary ts) (climb j (place ts))
-  expression Conditional ts = bind (cast_or_unary ts) (after_operand (place ts))
+  expression (Level j) ts = read_on (cast_or_unary ts) (climb j (place ts))
+  expression Conditional ts = read_on (cast_or_unary ts) (after_operand (place ts))
   expression Assignment ts = assignment ts
-  expression Expression ts = bind (assignment ts) (λ a us. commas (length us) (place ts) a us)
+  expression Expression ts = read_on (assignment ts) (λ a us. commas (length us) (place ts) a us)
 
 -- what is at most n high
 unfoldable pub part : ℕ → Form → Parse E

@@ -8,7 +8,7 @@ use Rattle.qs_syntax.specs.Trees.{unnumbered, ExprTree, InitialiserTree, value, 
 use Rattle.qs_syntax.specs.Reads.{Conditional, Assignment, place}
 use Rattle.qs_grammar.specs.Heads.{starts}
 use Rattle.qs_parser.proofs.CodeExpressions.{map_more}
-use Rattle.qs_grammar.specs.Parse.{Parse, bind, unexpected, deep, deeper, expect, part, base, skip_consts, type}
+use Rattle.qs_grammar.specs.Parse.{Parse, read_on, unexpected, deep, deeper, expect, part, base, skip_consts, type}
 use Rattle.qs_grammar.specs.ParseDeclarations.{given_lengths, after_initialiser, initialisers, begins_initialiser, initialiser, after_variable, variable, variables, declaration, declaration_within, declarator, after_member, declarators, members, groups, after_parameter, parameter, parameters}
 
 left_turns : (n i : ℕ) → i < n → n - i ≡ suc (n - (i + 1))
@@ -19,7 +19,7 @@ no_turns n i h = omega arith
 
 pub given_more : (m n i : ℕ) (done : List ExprTree) (h : ℕ) (ts : List Terminal) → i < n
     → given_lengths m (n - i) done h ts
-    ≡ cond (starts punctuators.OpenBracket ts) (bind (expect punctuators.OpenBracket ts) (λ _ us. bind (part m Conditional us) (λ e vs. bind (expect punctuators.CloseBracket vs) (λ _ ws. given_lengths m (n - (i + 1)) (done ++ e.0 ∷ []) (max h e.1) ws)))) (Ok ((done, h), ts))
+    ≡ cond (starts punctuators.OpenBracket ts) (read_on (expect punctuators.OpenBracket ts) (λ _ us. read_on (part m Conditional us) (λ e vs. read_on (expect punctuators.CloseBracket vs) (λ _ ws. given_lengths m (n - (i + 1)) (done ++ e.0 ∷ []) (max h e.1) ws)))) (Ok ((done, h), ts))
 unfolding given_lengths
 given_more m n i done h ts lt = ap (λ k. given_lengths m k done h ts) (left_turns n i lt)
 
@@ -28,7 +28,7 @@ unfolding given_lengths
 given_end m n i done h ts le = ap (λ k. given_lengths m k done h ts) (no_turns n i le)
 
 pub initialisers_more : (one : Parse (InitialiserTree × ℕ)) (n i : ℕ) (done : List InitialiserTree) (h : ℕ) (ts : List Terminal) → i < n
-    → initialisers one (n - i) done h ts ≡ bind (one ts) (λ x us. after_initialiser one (initialisers one (n - (i + 1))) (done ++ x.0 ∷ []) (max h x.1) us)
+    → initialisers one (n - i) done h ts ≡ read_on (one ts) (λ x us. after_initialiser one (initialisers one (n - (i + 1))) (done ++ x.0 ∷ []) (max h x.1) us)
 unfolding initialisers
 initialisers_more one n i done h ts lt = ap (λ k. initialisers one k done h ts) (left_turns n i lt)
 
@@ -41,7 +41,7 @@ unfolding initialiser
 initialiser_none zero ts e = refl
 initialiser_none (suc n) ts e = absurd (omega arith)
 
-pub initialiser_value : (n : ℕ) (ts : List Terminal) → 0 < n → starts punctuators.OpenBrace ts ≡ false → initialiser n ts ≡ bind (part n Assignment ts) (λ e us. Ok ((value e.0, e.1), us))
+pub initialiser_value : (n : ℕ) (ts : List Terminal) → 0 < n → starts punctuators.OpenBrace ts ≡ false → initialiser n ts ≡ read_on (part n Assignment ts) (λ e us. Ok ((value e.0, e.1), us))
 unfolding initialiser
 initialiser_value zero ts h e = absurd (omega arith)
 initialiser_value (suc n) ts h e = rw e refl
@@ -53,7 +53,7 @@ initialiser_deep (suc zero) ts h e = rw e refl
 initialiser_deep (suc (suc n)) ts h e = absurd (omega arith)
 
 abbrev list_with : Parse (InitialiserTree × ℕ) → Parse (InitialiserTree × ℕ)
-list_with inner ts = bind (expect punctuators.OpenBrace ts) (λ _ vs. bind (initialisers inner (length vs) [] 0 vs) (λ is ws. Ok ((list (unnumbered (place ts)) (initialisers_of is.0), is.1 + 1), ws)))
+list_with inner ts = read_on (expect punctuators.OpenBrace ts) (λ _ vs. read_on (initialisers inner (length vs) [] 0 vs) (λ is ws. Ok ((list (unnumbered (place ts)) (initialisers_of is.0), is.1 + 1), ws)))
 
 deeper_more : (m : ℕ) (q : Parse (InitialiserTree × ℕ)) (ts : List Terminal) → 0 < m → deeper m q ts ≡ q ts
 deeper_more m q ts h = ap (λ b. cond b (deep ts) (q ts)) (ne_eqb m 0 (λ e. omega arith))
@@ -63,13 +63,13 @@ unfolding initialiser
 initialiser_braced n ts e = rw e refl
 
 pub initialiser_list : (n : ℕ) (ts : List Terminal) → 1 < n → starts punctuators.OpenBrace ts ≡ true
-    → initialiser n ts ≡ bind (expect punctuators.OpenBrace ts) (λ _ vs. bind (initialisers (initialiser (n - 1)) (length vs) [] 0 vs) (λ is ws. Ok ((list (unnumbered (place ts)) (initialisers_of is.0), is.1 + 1), ws)))
+    → initialiser n ts ≡ read_on (expect punctuators.OpenBrace ts) (λ _ vs. read_on (initialisers (initialiser (n - 1)) (length vs) [] 0 vs) (λ is ws. Ok ((list (unnumbered (place ts)) (initialisers_of is.0), is.1 + 1), ws)))
 initialiser_list zero ts h e = absurd (omega arith)
 initialiser_list (suc zero) ts h e = absurd (omega arith)
 initialiser_list (suc (suc n)) ts h e = let q : suc n ≡ suc (suc n) - 1 = omega arith in initialiser_braced (suc n) ts e ∙ deeper_more (suc n) (list_with (initialiser (suc n))) ts (omega arith) ∙ ap (λ (k : ℕ). list_with (initialiser k) ts) q
 
 pub variables_more : (m n i : ℕ) (done : List VariableTree) (h : ℕ) (ts : List Terminal) → i < n
-    → variables m (n - i) done h ts ≡ bind (variable m ts) (λ v us. after_variable (variables m (n - (i + 1))) (done ++ v.0 ∷ []) (max h v.1) us)
+    → variables m (n - i) done h ts ≡ read_on (variable m ts) (λ v us. after_variable (variables m (n - (i + 1))) (done ++ v.0 ∷ []) (max h v.1) us)
 unfolding variables
 variables_more m n i done h ts lt = ap (λ k. variables m k done h ts) (left_turns n i lt)
 
@@ -88,7 +88,7 @@ within_more zero ts h = absurd (omega arith)
 within_more (suc n) ts h = let e : n ≡ suc n - 1 = omega arith in ap (λ (k : ℕ). declaration k ts) e
 
 pub declarators_more : (m n i : ℕ) (done : List DeclaratorTree) (h : ℕ) (ts : List Terminal) → i < n
-    → declarators m (n - i) done h ts ≡ bind (declarator m ts) (λ d us. after_member (declarators m (n - (i + 1))) (done ++ d.0 ∷ []) (max h (d.1 + 1)) us)
+    → declarators m (n - i) done h ts ≡ read_on (declarator m ts) (λ d us. after_member (declarators m (n - (i + 1))) (done ++ d.0 ∷ []) (max h (d.1 + 1)) us)
 unfolding declarators
 declarators_more m n i done h ts lt = ap (λ k. declarators m k done h ts) (left_turns n i lt)
 
@@ -98,7 +98,7 @@ declarators_end m n i done h ts le = ap (λ k. declarators m k done h ts) (no_tu
 
 pub groups_more : (m n i : ℕ) (done : List MembersTree) (h : ℕ) (ts : List Terminal) → i < n
     → groups m (n - i) done h ts
-    ≡ bind (members m ts) (λ g us. cond (starts punctuators.CloseBrace us) (bind (expect punctuators.CloseBrace us) (λ _ vs. Ok ((done ++ g.0 ∷ [], max h g.1), vs))) (groups m (n - (i + 1)) (done ++ g.0 ∷ []) (max h g.1) us))
+    ≡ read_on (members m ts) (λ g us. cond (starts punctuators.CloseBrace us) (read_on (expect punctuators.CloseBrace us) (λ _ vs. Ok ((done ++ g.0 ∷ [], max h g.1), vs))) (groups m (n - (i + 1)) (done ++ g.0 ∷ []) (max h g.1) us))
 unfolding groups
 groups_more m n i done h ts lt = ap (λ k. groups m k done h ts) (left_turns n i lt)
 
@@ -107,7 +107,7 @@ unfolding groups
 groups_end m n i done h ts le = ap (λ k. groups m k done h ts) (no_turns n i le)
 
 pub parameters_more : (m n i : ℕ) (done : List ParameterTree) (h : ℕ) (ts : List Terminal) → i < n
-    → parameters m (n - i) done h ts ≡ bind (parameter m ts) (λ x us. after_parameter (parameters m (n - (i + 1))) (done ++ x.0 ∷ []) (max h x.1) us)
+    → parameters m (n - i) done h ts ≡ read_on (parameter m ts) (λ x us. after_parameter (parameters m (n - (i + 1))) (done ++ x.0 ∷ []) (max h x.1) us)
 unfolding parameters
 parameters_more m n i done h ts lt = ap (λ k. parameters m k done h ts) (left_turns n i lt)
 
@@ -133,6 +133,6 @@ pub ruleset parameter_steps = (parameters_more, parameters_end, map_more)
 
 -- ---- a type by its parts
 
-pub type_is : (ts : List Terminal) → type ts ≡ bind (base (skip_consts ts)) (λ b us. Ok (b, skip_consts us))
+pub type_is : (ts : List Terminal) → type ts ≡ read_on (base (skip_consts ts)) (λ b us. Ok (b, skip_consts us))
 unfolding type
 type_is ts = refl

@@ -7,7 +7,7 @@ use Rattle.qs_syntax.specs.Trees.{unnumbered, ExprTree, expr, comma}
 use Rattle.qs_syntax.specs.Reads.{Form, Assignment}
 use Rattle.qs_syntax.specs.Operators.{binary_of}
 use Rattle.qs_grammar.specs.Heads.{starts, operator_at}
-use Rattle.qs_grammar.specs.Parse.{Parse, Unexpected, Deep, bind, E, unexpected, above, expect, begins_one, starts_suffix, operator_of_level, after_argument, arguments, suffix, suffixes, operation_at, operations, commas, expression, part}
+use Rattle.qs_grammar.specs.Parse.{Parse, Unexpected, Deep, read_on, E, unexpected, above, expect, begins_one, starts_suffix, operator_of_level, after_argument, arguments, suffix, suffixes, operation_at, operations, commas, expression, part}
 
 pub part_more : (n : ℕ) (form : Form) (ts : List Terminal) → 0 < n → part n form ts ≡ expression (n - 1) (part (n - 1)) form ts
 unfolding part
@@ -26,7 +26,7 @@ left_turns n i h = omega arith
 
 module _ (m : ℕ) (p : Form → Parse E) where
   pub arguments_more : (n i : ℕ) (done : List ExprTree) (h : ℕ) (ts : List Terminal) → i < n
-      → arguments m p (n - i) done h ts ≡ bind (p Assignment ts) (λ e us. after_argument m p (arguments m p (n - (i + 1))) (done ++ e.0 ∷ []) (max h e.1) us)
+      → arguments m p (n - i) done h ts ≡ read_on (p Assignment ts) (λ e us. after_argument m p (arguments m p (n - (i + 1))) (done ++ e.0 ∷ []) (max h e.1) us)
   unfolding arguments
   arguments_more n i done h ts lt = ap (λ k. arguments m p k done h ts) (left_turns n i lt)
 
@@ -35,7 +35,7 @@ module _ (m : ℕ) (p : Form → Parse E) where
   arguments_end n i done h ts le = let e : n - i ≡ 0 = omega arith in ap (λ k. arguments m p k done h ts) e
 
   pub suffixes_more : (n i start : ℕ) (a : E) (ts : List Terminal) → i < n
-      → suffixes m p (n - i) start a ts ≡ cond (starts_suffix ts) (above m a.1 (λ us. bind (suffix m p start a us) (suffixes m p (n - (i + 1)) start)) ts) (Ok (a, ts))
+      → suffixes m p (n - i) start a ts ≡ cond (starts_suffix ts) (above m a.1 (λ us. read_on (suffix m p start a us) (suffixes m p (n - (i + 1)) start)) ts) (Ok (a, ts))
   unfolding suffixes
   suffixes_more n i start a ts lt = ap (λ k. suffixes m p k start a ts) (left_turns n i lt)
 
@@ -54,7 +54,7 @@ module _ (m : ℕ) (p : Form → Parse E) where
 
   pub commas_more : (n i start : ℕ) (a : E) (ts : List Terminal) → i < n
       → commas m p (n - i) start a ts
-      ≡ cond (starts punctuators.Comma ts) (above m a.1 (λ us. bind (expect punctuators.Comma us) (λ _ vs. bind (p Assignment vs) (λ b ws. commas m p (n - (i + 1)) start (expr (unnumbered start) (comma a.0 b.0), max a.1 b.1 + 1) ws))) ts) (Ok (a, ts))
+      ≡ cond (starts punctuators.Comma ts) (above m a.1 (λ us. read_on (expect punctuators.Comma us) (λ _ vs. read_on (p Assignment vs) (λ b ws. commas m p (n - (i + 1)) start (expr (unnumbered start) (comma a.0 b.0), max a.1 b.1 + 1) ws))) ts) (Ok (a, ts))
   unfolding commas
   commas_more n i start a ts lt = ap (λ k. commas m p k start a ts) (left_turns n i lt)
 

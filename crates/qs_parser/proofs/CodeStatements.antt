@@ -10,7 +10,7 @@ use Rattle.qs_parser.specs.Turns.{TurnTree, step_and_body, turn_of}
 use Rattle.qs_parser.specs.declared.halt.Halt.{Halt}
 use Rattle.qs_parser.specs.declared.halt.Halt.TheVariants as halts
 use Rattle.qs_parser.proofs.CodeExpressions.{map_more}
-use Rattle.qs_grammar.specs.Parse.{Parse, Stop, bind, unexpected, deep, expect}
+use Rattle.qs_grammar.specs.Parse.{Parse, Stop, read_on, unexpected, deep, expect}
 use Rattle.qs_grammar.specs.ParseStatements.{S, optional, start_of, begins_statement, after_for, item, items, statement_at, statement, external, is_empty, externals}
 use Rattle.qs_syntax.specs.TreeOf.{expr_tree, stmt_tree, else_tree, stmt_step}
 use Rattle.qs_syntax.specs.declared.expressions.Expr.{Expr}
@@ -36,7 +36,7 @@ statement_more (suc n) ts h = let e : n ≡ suc n - 1 = omega arith in ap (λ (k
 
 pub items_more : (m : ℕ) (inner : Parse S) (n i : ℕ) (done : List StmtTree) (h : ℕ) (ts : List Terminal) → i < n
     → items m inner (n - i) done h ts
-    ≡ cond (starts punctuators.CloseBrace ts) (bind (expect punctuators.CloseBrace ts) (λ _ us. Ok ((done, h), us))) (bind (item m inner ts) (λ s us. items m inner (n - (i + 1)) (done ++ s.0 ∷ []) (max h s.1) us))
+    ≡ cond (starts punctuators.CloseBrace ts) (read_on (expect punctuators.CloseBrace ts) (λ _ us. Ok ((done, h), us))) (read_on (item m inner ts) (λ s us. items m inner (n - (i + 1)) (done ++ s.0 ∷ []) (max h s.1) us))
 unfolding items
 items_more m inner n i done h ts lt = ap (λ k. items m inner k done h ts) (left_turns n i lt)
 
@@ -45,7 +45,7 @@ unfolding items
 items_end m inner n i done h ts le = ap (λ k. items m inner k done h ts) (no_turns n i le)
 
 pub externals_more : (k n i : ℕ) (done : List DeclTree) (h : ℕ) (ts : List Terminal) → i < n
-    → externals k (n - i) done h ts ≡ bind (external k ts) (λ d us. cond (is_empty us) (Ok ((done ++ d.0 ∷ [], max h d.1), us)) (externals k (n - (i + 1)) (done ++ d.0 ∷ []) (max h d.1) us))
+    → externals k (n - i) done h ts ≡ read_on (external k ts) (λ d us. cond (is_empty us) (Ok ((done ++ d.0 ∷ [], max h d.1), us)) (externals k (n - (i + 1)) (done ++ d.0 ∷ []) (max h d.1) us))
 unfolding externals
 externals_more k n i done h ts lt = ap (λ l. externals k l done h ts) (left_turns n i lt)
 
@@ -55,36 +55,36 @@ externals_end k n i done h ts le = ap (λ l. externals k l done h ts) (no_turns 
 
 -- how a `for` goes on behind its start
 turn_is : (m : ℕ) (inner : Parse S) (at : ℕ) (a : StartTree × ℕ) (ts : List Terminal)
-    → bind {B = S} (optional m punctuators.Semicolon ts) (λ e us. bind (optional m punctuators.CloseParenthesis us) (λ u vs. bind (inner vs) (λ s ws. Ok ((for_loop (unnumbered at) a.0 e.0 u.0 s.0, max a.1 (max e.1 (max u.1 s.1)) + 1), ws))))
-    ≡ bind {B = S} (turn_of m inner ts) (λ t us. Ok ((for_loop (unnumbered at) a.0 t.0.condition t.0.step t.0.body, max a.1 t.1 + 1), us))
+    → read_on {B = S} (optional m punctuators.Semicolon ts) (λ e us. read_on (optional m punctuators.CloseParenthesis us) (λ u vs. read_on (inner vs) (λ s ws. Ok ((for_loop (unnumbered at) a.0 e.0 u.0 s.0, max a.1 (max e.1 (max u.1 s.1)) + 1), ws))))
+    ≡ read_on {B = S} (turn_of m inner ts) (λ t us. Ok ((for_loop (unnumbered at) a.0 t.0.condition t.0.step t.0.body, max a.1 t.1 + 1), us))
 turn_is m inner at a ts = by_condition (optional m punctuators.Semicolon ts)
   where
     by_body : (e u : Option ExprTree × ℕ) (r : Result (S × List Terminal) Stop)
-        → bind {B = S} r (λ s ws. Ok ((for_loop (unnumbered at) a.0 e.0 u.0 s.0, max a.1 (max e.1 (max u.1 s.1)) + 1), ws))
-        ≡ bind {B = S} (bind {B = TurnTree × ℕ} (bind {B = (Option ExprTree × StmtTree) × ℕ} r (λ s ws. Ok (((u.0, s.0), max u.1 s.1), ws))) (λ b ws. Ok ((record { condition = e.0; step = b.0.0; body = b.0.1 }, max e.1 b.1), ws))) (λ t ws. Ok ((for_loop (unnumbered at) a.0 t.0.condition t.0.step t.0.body, max a.1 t.1 + 1), ws))
+        → read_on {B = S} r (λ s ws. Ok ((for_loop (unnumbered at) a.0 e.0 u.0 s.0, max a.1 (max e.1 (max u.1 s.1)) + 1), ws))
+        ≡ read_on {B = S} (read_on {B = TurnTree × ℕ} (read_on {B = (Option ExprTree × StmtTree) × ℕ} r (λ s ws. Ok (((u.0, s.0), max u.1 s.1), ws))) (λ b ws. Ok ((record { condition = e.0; step = b.0.0; body = b.0.1 }, max e.1 b.1), ws))) (λ t ws. Ok ((for_loop (unnumbered at) a.0 t.0.condition t.0.step t.0.body, max a.1 t.1 + 1), ws))
     by_body e u (Ok x) = refl
     by_body e u (Err x) = refl
 
     by_step : (e : Option ExprTree × ℕ) (r : Result ((Option ExprTree × ℕ) × List Terminal) Stop)
-        → bind {B = S} r (λ u vs. bind (inner vs) (λ s ws. Ok ((for_loop (unnumbered at) a.0 e.0 u.0 s.0, max a.1 (max e.1 (max u.1 s.1)) + 1), ws)))
-        ≡ bind {B = S} (bind {B = TurnTree × ℕ} (bind {B = (Option ExprTree × StmtTree) × ℕ} r (λ u vs. bind (inner vs) (λ s ws. Ok (((u.0, s.0), max u.1 s.1), ws)))) (λ b ws. Ok ((record { condition = e.0; step = b.0.0; body = b.0.1 }, max e.1 b.1), ws))) (λ t ws. Ok ((for_loop (unnumbered at) a.0 t.0.condition t.0.step t.0.body, max a.1 t.1 + 1), ws))
+        → read_on {B = S} r (λ u vs. read_on (inner vs) (λ s ws. Ok ((for_loop (unnumbered at) a.0 e.0 u.0 s.0, max a.1 (max e.1 (max u.1 s.1)) + 1), ws)))
+        ≡ read_on {B = S} (read_on {B = TurnTree × ℕ} (read_on {B = (Option ExprTree × StmtTree) × ℕ} r (λ u vs. read_on (inner vs) (λ s ws. Ok (((u.0, s.0), max u.1 s.1), ws)))) (λ b ws. Ok ((record { condition = e.0; step = b.0.0; body = b.0.1 }, max e.1 b.1), ws))) (λ t ws. Ok ((for_loop (unnumbered at) a.0 t.0.condition t.0.step t.0.body, max a.1 t.1 + 1), ws))
     by_step e (Ok x) = by_body e x.0 (inner x.1)
     by_step e (Err x) = refl
 
     by_condition : (r : Result ((Option ExprTree × ℕ) × List Terminal) Stop)
-        → bind {B = S} r (λ e us. bind (optional m punctuators.CloseParenthesis us) (λ u vs. bind (inner vs) (λ s ws. Ok ((for_loop (unnumbered at) a.0 e.0 u.0 s.0, max a.1 (max e.1 (max u.1 s.1)) + 1), ws))))
-        ≡ bind {B = S} (bind {B = TurnTree × ℕ} r (λ e us. bind (step_and_body m inner us) (λ b ws. Ok ((record { condition = e.0; step = b.0.0; body = b.0.1 }, max e.1 b.1), ws)))) (λ t ws. Ok ((for_loop (unnumbered at) a.0 t.0.condition t.0.step t.0.body, max a.1 t.1 + 1), ws))
+        → read_on {B = S} r (λ e us. read_on (optional m punctuators.CloseParenthesis us) (λ u vs. read_on (inner vs) (λ s ws. Ok ((for_loop (unnumbered at) a.0 e.0 u.0 s.0, max a.1 (max e.1 (max u.1 s.1)) + 1), ws))))
+        ≡ read_on {B = S} (read_on {B = TurnTree × ℕ} r (λ e us. read_on (step_and_body m inner us) (λ b ws. Ok ((record { condition = e.0; step = b.0.0; body = b.0.1 }, max e.1 b.1), ws)))) (λ t ws. Ok ((for_loop (unnumbered at) a.0 t.0.condition t.0.step t.0.body, max a.1 t.1 + 1), ws))
     by_condition (Ok x) = by_step x.0 (optional m punctuators.CloseParenthesis x.1)
     by_condition (Err x) = refl
 
 for_goes : (m : ℕ) (inner : Parse S) (at : ℕ) (ts us vs : List Terminal) (a : StartTree × ℕ) → expect punctuators.OpenParenthesis ts ≡ Ok (tt, us) → start_of m us ≡ Ok (a, vs)
-    → after_for m inner at ts ≡ bind {B = S} (turn_of m inner vs) (λ t ws. Ok ((for_loop (unnumbered at) a.0 t.0.condition t.0.step t.0.body, max a.1 t.1 + 1), ws))
+    → after_for m inner at ts ≡ read_on {B = S} (turn_of m inner vs) (λ t ws. Ok ((for_loop (unnumbered at) a.0 t.0.condition t.0.step t.0.body, max a.1 t.1 + 1), ws))
 for_goes m inner at ts us vs a p q = rw (p, q) (turn_is m inner at a vs)
 
-fails_with : (halt : Halt) (given : Result (S × List Terminal) Stop) (r : Result ((TurnTree × ℕ) × List Terminal) Stop) (f : TurnTree × ℕ → Parse S) → given ≡ bind r f → Fails halt r → Fails halt given
+fails_with : (halt : Halt) (given : Result (S × List Terminal) Stop) (r : Result ((TurnTree × ℕ) × List Terminal) Stop) (f : TurnTree × ℕ → Parse S) → given ≡ read_on r f → Fails halt r → Fails halt given
 fails_with halts.NoMemory given r f e h = tt
-fails_with (halts.Unexpected left) given r f e h = e ∙ ap (λ (x : Result ((TurnTree × ℕ) × List Terminal) Stop). bind x f) h
-fails_with (halts.TooDeep left) given r f e h = e ∙ ap (λ (x : Result ((TurnTree × ℕ) × List Terminal) Stop). bind x f) h
+fails_with (halts.Unexpected left) given r f e h = e ∙ ap (λ (x : Result ((TurnTree × ℕ) × List Terminal) Stop). read_on x f) h
+fails_with (halts.TooDeep left) given r f e h = e ∙ ap (λ (x : Result ((TurnTree × ℕ) × List Terminal) Stop). read_on x f) h
 
 pub for_fails : (m : ℕ) (inner : Parse S) (at : ℕ) (ts us vs : List Terminal) (a : StartTree × ℕ) (halt : Halt) → expect punctuators.OpenParenthesis ts ≡ Ok (tt, us) → start_of m us ≡ Ok (a, vs) → Fails halt (turn_of m inner vs) → Fails halt (after_for m inner at ts)
 for_fails m inner at ts us vs a halt p q h =

@@ -6,7 +6,7 @@ use Rattle.qs_syntax.specs.declared.statements.Stmt.{Stmt}
 use Rattle.qs_syntax.specs.declared.punctuator.Punctuator.TheVariants as punctuators
 use Rattle.qs_syntax.specs.Trees.{ExprTree, StmtTree}
 use Rattle.qs_syntax.specs.TreeOf.{option_tree, stmt_tree}
-use Rattle.qs_grammar.specs.Parse.{Parse, bind}
+use Rattle.qs_grammar.specs.Parse.{Parse, read_on}
 use Rattle.qs_grammar.specs.ParseStatements.{S, optional}
 use Rattle.qs_parser.specs.declared.statements.Turn.{Turn}
 
@@ -23,7 +23,7 @@ turn_tree t = record { condition = option_tree t.condition; step = option_tree t
 
 module _ (m : ℕ) (inner : Parse S) where
   abbrev pub step_and_body : Parse ((Option ExprTree × StmtTree) × ℕ)
-  step_and_body ts = bind (optional m punctuators.CloseParenthesis ts) (λ u us. bind (inner us) (λ s vs. Ok (((u.0, s.0), max u.1 s.1), vs)))
+  step_and_body ts = read_on (optional m punctuators.CloseParenthesis ts) (λ u us. read_on (inner us) (λ s vs. Ok (((u.0, s.0), max u.1 s.1), vs)))
 
   abbrev pub turn_of : Parse (TurnTree × ℕ)
-  turn_of ts = bind (optional m punctuators.Semicolon ts) (λ e us. bind (step_and_body us) (λ b vs. Ok ((record { condition = e.0; step = b.0.0; body = b.0.1 }, max e.1 b.1), vs)))
+  turn_of ts = read_on (optional m punctuators.Semicolon ts) (λ e us. read_on (step_and_body us) (λ b vs. Ok ((record { condition = e.0; step = b.0.0; body = b.0.1 }, max e.1 b.1), vs)))

@@ -27,7 +27,7 @@ use crate::types::type_name;
 use qs_base::Name;
 use qs_syntax::{
     Access, AssignmentOperator, Expr, Keyword, Punctuator, StepOperator, Terminal, Text,
-    UnaryOperator,
+    UnaryOperator, WEAKEST,
 };
 use std::alloc::Global;
 
@@ -38,8 +38,8 @@ pub enum Form {
     Postfix,
     /// A unary expression (C11 6.5.3).
     Unary,
-    /// Operators of the levels up to this between casts: 0 for a cast, 1 for `* / %`, up to 10 for
-    /// `||` (C11 6.5.4 to 6.5.14).
+    /// Operators of the levels up to this between casts: 0 for a cast, 1 for `* / %`, up to
+    /// `WEAKEST` for `||` (C11 6.5.4 to 6.5.14).
     Level(u8),
     /// A conditional expression (C11 6.5.15).
     Conditional,
@@ -630,7 +630,7 @@ fn after_operand(
     ensures gives { ReadsExpr result (after_operand context start left height tokens.now) }
     ensures low { IfOk result (λ x. x.1 ≤ context.room + 1) }
 {
-    let (left, height, rest) = climb(context, 10, start, left, height, tokens)?;
+    let (left, height, rest) = climb(context, WEAKEST as u8, start, left, height, tokens)?;
     after_or(context, start, left, height, rest)
 }
 

@@ -36,7 +36,7 @@ form_at (suc (suc (suc (suc (suc (suc (suc (suc zero)))))))) = Level 6
 form_at (suc (suc (suc (suc (suc (suc (suc (suc (suc zero))))))))) = Level 7
 form_at (suc (suc (suc (suc (suc (suc (suc (suc (suc (suc zero)))))))))) = Level 8
 form_at (suc (suc (suc (suc (suc (suc (suc (suc (suc (suc (suc zero))))))))))) = Level 9
-form_at (suc (suc (suc (suc (suc (suc (suc (suc (suc (suc (suc (suc zero)))))))))))) = Level 10
+form_at (suc (suc (suc (suc (suc (suc (suc (suc (suc (suc (suc (suc zero)))))))))))) = Level weakest
 form_at (suc (suc (suc (suc (suc (suc (suc (suc (suc (suc (suc (suc (suc zero))))))))))))) = Conditional
 form_at (suc (suc (suc (suc (suc (suc (suc (suc (suc (suc (suc (suc (suc (suc zero)))))))))))))) = Assignment
 form_at (suc (suc (suc (suc (suc (suc (suc (suc (suc (suc (suc (suc (suc (suc (suc w))))))))))))))) = Expression
@@ -52,12 +52,12 @@ level_of Expression = 15
 abbrev pub IsForm : Form → Type 0
 IsForm Postfix = Unit {0}
 IsForm Unary = Unit {0}
-IsForm (Level j) = j ≤ 10
+IsForm (Level j) = j ≤ weakest
 IsForm Conditional = Unit {0}
 IsForm Assignment = Unit {0}
 IsForm Expression = Unit {0}
 
-level_form : (j : ℕ) → j ≤ 10 → form_at (suc (suc j)) ≡ Level j
+level_form : (j : ℕ) → j ≤ weakest → form_at (suc (suc j)) ≡ Level j
 level_form zero le = refl
 level_form (suc zero) le = refl
 level_form (suc (suc zero)) le = refl

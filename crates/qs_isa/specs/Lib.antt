@@ -1,5 +1,6 @@
 pub mod Registers
 pub mod Addresses
+pub mod EnvironmentCalls
 pub mod Ranges
 pub mod Fields
 pub mod Table

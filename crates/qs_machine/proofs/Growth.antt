@@ -6,6 +6,8 @@ use Rattle.qs_isa.specs.declared.instruction.Instr.{Instr}
 use Rattle.qs_isa.specs.declared.instruction.Instr.TheVariants.{Lui, Auipc, Jal, Jalr, Branch, Load, Store, OpImm, ShiftImm, Op, Fence, Ecall, Ebreak}
 use Rattle.qs_isa.specs.declared.instruction.LoadKind.{LoadKind}
 use Rattle.qs_isa.specs.declared.instruction.StoreKind.{StoreKind}
+use Rattle.qs_isa.specs.Registers.{x0, sp, a0, a7}
+use Rattle.qs_isa.specs.EnvironmentCalls.{exit_call, put_byte_call, take_byte_call}
 use Rattle.qs_isa.specs.Table.{decode_of}
 use Rattle.qs_image.specs.Image.{Image}
 use Rattle.qs_base.specs.Words.{add}
@@ -39,11 +41,11 @@ output_if s t true e = refl
 output_if s t false e = e
 
 output-set_register : (s : State) (n value : ℕ) → (set_register s n value).output ≡ s.output
-output-set_register s n value = output_if s (record s { registers = with_value s.registers n value }) (nat_eq n 0) refl
+output-set_register s n value = output_if s (record s { registers = with_value s.registers n value }) (nat_eq n x0) refl
 
 grows-write_and_go : (size : ℕ) (s : State) (rd value pc : ℕ) → Grows s (write_and_go size s rd value pc)
 grows-write_and_go size s rd value pc =
-    either s (rd == 2 && (nat_lt value (stack_base size) || nat_lt stack_top value)) (Traps Overflow) (Next (record (set_register s rd value) { pc = pc }))
+    either s (rd == sp && (nat_lt value (stack_base size) || nat_lt stack_top value)) (Traps Overflow) (Next (record (set_register s rd value) { pc = pc }))
     (tt {0}) (same_front s.output (set_register s rd value).output (output-set_register s rd value))
 
 grows-jump : (size : ℕ) (s : State) (rd target : ℕ) → Grows s (jump size s rd target)
@@ -77,12 +79,12 @@ grows-put_byte s byte = record { rest = byte ∷ []; parts = refl }
 
 grows-environment_call : (s : State) (call : ℕ) → Grows s (environment_call s call)
 grows-environment_call s call =
-    let byte = register s 10 % 256 in
-    let last : StepResult = if call == 2 then take_byte s s.input else Traps UnknownCall in
-    let later : StepResult = if call == 1 then put_byte s byte else last in
-    either s (call == 0) (Exits byte) later (tt {0})
-    (either s (call == 1) (put_byte s byte) last (grows-put_byte s byte)
-    (either s (call == 2) (take_byte s s.input) (Traps UnknownCall) (grows-take_byte s s.input) (tt {0})))
+    let byte = register s a0 % 256 in
+    let last : StepResult = if call == take_byte_call then take_byte s s.input else Traps UnknownCall in
+    let later : StepResult = if call == put_byte_call then put_byte s byte else last in
+    either s (call == exit_call) (Exits byte) later (tt {0})
+    (either s (call == put_byte_call) (put_byte s byte) last (grows-put_byte s byte)
+    (either s (call == take_byte_call) (take_byte s s.input) (Traps UnknownCall) (grows-take_byte s s.input) (tt {0})))
 
 grows-act : (image : Image) (size : ℕ) (s : State) (i : Instr) → Grows s (act image size s i)
 grows-act image size s (Lui rd immediate) = grows-write_and_go size s rd immediate (next_pc s)
@@ -96,7 +98,7 @@ grows-act image size s (OpImm kind rd rs1 immediate) = grows-write_and_go size s
 grows-act image size s (ShiftImm kind rd rs1 amount) = grows-write_and_go size s rd (shift_result kind (register s rs1) amount) (next_pc s)
 grows-act image size s (Op kind rd rs1 rs2) = grows-write_and_go size s rd (op_result kind (register s rs1) (register s rs2)) (next_pc s)
 grows-act image size s Fence = same_front s.output s.output refl
-grows-act image size s Ecall = grows-environment_call s (register s 17)
+grows-act image size s Ecall = grows-environment_call s (register s a7)
 grows-act image size s Ebreak = tt {0}
 
 grows-act_on : (image : Image) (size : ℕ) (s : State) (i : Option Instr) → Grows s (act_on image size s i)

@@ -1,6 +1,7 @@
 -- The code's registers and memory, seen as the functions of a state.
 use Rattle.std.specs.Prelude.{◌≡◌, ℕ, ◌+◌, Bool, ◌||◌, ◌==◌, List, length, slice_index, Option, Some, None, if◌then◌else◌}
 use Rattle.qs_isa.specs.Addresses.{code_start, data_start}
+use Rattle.qs_isa.specs.Registers.{x0}
 use Rattle.qs_isa.specs.declared.instruction.LoadKind.{LoadKind}
 use Rattle.qs_isa.specs.declared.instruction.StoreKind.{StoreKind}
 use Rattle.qs_machine.specs.declared.registers.Registers.{Registers}
@@ -14,7 +15,7 @@ registers_of r n = slice_index r.words n
 
 -- the registers after a write; what is written to x0 is dropped
 abbrev pub written : (ℕ → ℕ) → ℕ → ℕ → ℕ → ℕ
-written registers n value = if n == 0 then registers else with_value registers n value
+written registers n value = if n == x0 then registers else with_value registers n value
 
 -- outside of code, data and stack every byte is 0
 abbrev pub nothing : ℕ → ℕ

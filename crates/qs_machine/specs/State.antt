@@ -1,7 +1,7 @@
 -- The state of the machine: one hart over a flat memory (RISC-V Unprivileged ISA 20191213, 1.4 and 2.1).
 use Rattle.std.specs.Prelude.{ℕ, ◌+◌, ◌-◌, ◌*◌, ◌/◌, ◌%◌, ◌^◌, Bool, ◌&&◌, ◌||◌, ◌==◌, nat_le, List, Option, Some, None, if◌then◌else◌, length}
 use Rattle.qs_isa.specs.Addresses.{code_start, data_start}
-use Rattle.qs_isa.specs.Registers.{sp}
+use Rattle.qs_isa.specs.Registers.{x0, sp}
 use Rattle.qs_image.specs.Image.{Image}
 use Rattle.qs_image.specs.Limits.{largest_cost}
 
@@ -17,7 +17,7 @@ pub record State : Type 0 where
 
 -- x0 reads 0, whatever was written to it
 abbrev pub register : State → ℕ → ℕ
-register s n = if n == 0 then 0 else s.registers n
+register s n = if n == x0 then 0 else s.registers n
 
 -- a function that has another value at one place
 abbrev pub with_value : (ℕ → ℕ) → ℕ → ℕ → ℕ → ℕ
@@ -25,7 +25,7 @@ with_value f place value n = if n == place then value else f n
 
 -- what is written to x0 is dropped
 abbrev pub set_register : State → ℕ → ℕ → State
-set_register s n value = if n == 0 then s else record s { registers = with_value s.registers n value }
+set_register s n value = if n == x0 then s else record s { registers = with_value s.registers n value }
 
 abbrev pub stack_pointer : State → ℕ
 stack_pointer s = register s sp

@@ -3,6 +3,7 @@
 use Rattle.std.specs.Prelude.{◌≡◌, ℕ, ◌+◌, ◌-◌, ◌*◌, ◌/◌, ◌%◌, Bool, true, false, not, ◌&&◌, ◌||◌, ◌==◌, nat_lt, List, [], ◌∷◌, ◌++◌, if◌then◌else◌, map, slice_index, Option, Some, None, option_map, int_lt}
 use Rattle.qs_base.specs.Words.{add, sub, slt, sltu, and, or, xor, sll, srl, sra, mul, mulh, mulhsu, mulhu, div, divu, rem, remu, signed, sign_extend}
 use Rattle.qs_isa.specs.Addresses.{code_start}
+use Rattle.qs_isa.specs.EnvironmentCalls.{exit_call, put_byte_call, take_byte_call}
 use Rattle.qs_isa.specs.declared.instruction.Instr.{Instr}
 use Rattle.qs_isa.specs.declared.instruction.Instr.TheVariants.{Lui, Auipc, Jal, Jalr, Branch, Load, Store, OpImm, ShiftImm, Op, Fence, Ecall, Ebreak}
 use Rattle.qs_isa.specs.declared.instruction.BranchKind.{BranchKind}
@@ -154,9 +155,9 @@ put_byte s byte = Next (record (answer s byte) { output = s.output ++ byte ∷ [
 
 abbrev pub environment_call : State → ℕ → StepResult
 environment_call s call =
-    if call == 0 then Exits (register s a0 % 256)
-    else if call == 1 then put_byte s (register s a0 % 256)
-    else if call == 2 then take_byte s s.input
+    if call == exit_call then Exits (register s a0 % 256)
+    else if call == put_byte_call then put_byte s (register s a0 % 256)
+    else if call == take_byte_call then take_byte s s.input
     else Traps UnknownCall
 
 -- ---- The step

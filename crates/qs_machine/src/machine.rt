@@ -8,7 +8,7 @@ use crate::operations::{is_taken, op_imm_result, op_result, shift_result};
 use crate::regions::STACK_TOP;
 use crate::registers::Registers;
 use qs_base::add32;
-use qs_isa::{Instr, LoadKind, Register, StoreKind};
+use qs_isa::{EXIT_CALL, Instr, LoadKind, PUT_BYTE_CALL, Register, StoreKind, TAKE_BYTE_CALL};
 
 /// A machine that was loaded. It keeps how many bytes of the input it has taken, and how it ended.
 #[derive(Debug, Drop)]
@@ -164,12 +164,12 @@ impl Machine {
     {
         let byte = (self.registers.read(Register::A0) % 256) as u8;
         match call {
-            0 => StepResult::Exited(byte),
-            1 => {
+            EXIT_CALL => StepResult::Exited(byte),
+            PUT_BYTE_CALL => {
                 self.answer(u32::from(byte));
                 StepResult::Put(byte)
             }
-            2 => self.take_byte(input),
+            TAKE_BYTE_CALL => self.take_byte(input),
             _ => self.trap(Cause::UnknownCall),
         }
     }

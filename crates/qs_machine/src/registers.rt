@@ -1,5 +1,6 @@
 // The registers' words.
 ghost use Rattle.std.specs.Prelude.{◌≡◌, ◌≤◌, ◌==◌, length, if◌then◌else◌};
+ghost use Rattle.qs_isa.specs.Registers.{x0};
 ghost use Rattle.qs_image.specs.Limits.{most_parameters};
 ghost use Rattle.qs_machine.specs.Run.{start_registers};
 
@@ -29,21 +30,20 @@ impl Registers {
 
     /// The value of a register; x0 reads 0.
     pub fn read(&self, register: Register) -> u32
-        ensures { result ≡ (if register == 0 then 0 else registers_of self.now register) }
+        ensures { result ≡ (if register == x0 then 0 else registers_of self.now register) }
     {
-        match register.number() {
-            0 => 0,
-            number => self.words[number as usize],
+        if register == Register::ZERO {
+            return 0;
         }
+        self.words[register.number() as usize]
     }
 
     /// Writes a register; what is written to x0 is dropped.
     pub fn write(&mut self, register: Register, value: u32)
         ensures { registers_of self.new ≡ written (registers_of self.old) register value }
     {
-        match register.number() {
-            0 => {}
-            number => self.words[number as usize] = value,
+        if register != Register::ZERO {
+            self.words[register.number() as usize] = value;
         }
     }
 }

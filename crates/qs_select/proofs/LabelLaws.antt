@@ -8,6 +8,7 @@ use Rattle.qs_memory.specs.declared.operation.Comparison.{Comparison}
 use Rattle.qs_memory.specs.declared.operation.Comparison.TheVariants as comparisons
 use Rattle.qs_calls.specs.declared.callee.Callee.{Callee}
 use Rattle.qs_calls.specs.declared.callee.Callee.TheVariants.{Function, PutChar, GetChar}
+use Rattle.qs_isa.specs.EnvironmentCalls.{put_byte_call, take_byte_call}
 use Rattle.qs_isa.specs.Registers.{x0, a0}
 use Rattle.qs_isa.specs.declared.instruction.Instr.{Instr}
 use Rattle.qs_isa.specs.declared.instruction.BranchKind.TheVariants.{Beq, Bne}
@@ -125,8 +126,8 @@ module _ (u : TacUnitTree) (ps : List PlacesTree) (data_at : ℕ → ℕ) where
       let less = first_below u.functions g.0 known in
       let is = same g.0 in
       record { up = refl; lead = (omega (arith, less, is), tt) }
-  inside_callee labels first PutChar arguments same h = inside_plain first all (environment 1)
-  inside_callee labels first GetChar arguments same h = inside_plain first all (environment 2)
+  inside_callee labels first PutChar arguments same h = inside_plain first all (environment put_byte_call)
+  inside_callee labels first GetChar arguments same h = inside_plain first all (environment take_byte_call)
 
   module _ (c : Context) (labels : Labels) (own : ℕ) (same : (g : ℕ) → labels.function g ≡ first_label u.functions g)
       (is : (k : ℕ) → labels.instruction k ≡ own + k) (room : own + length c.function.code < all) where

@@ -17,6 +17,7 @@ use Rattle.qs_calls.specs.declared.callee.Callee.{Callee}
 use Rattle.qs_calls.specs.declared.callee.Callee.TheVariants.{Function, PutChar, GetChar}
 use Rattle.qs_calls.specs.declared.parameter.Parameter.{Parameter}
 use Rattle.qs_calls.specs.declared.parameter.Parameter.TheVariants.{Plain, Placed}
+use Rattle.qs_isa.specs.EnvironmentCalls.{exit_call}
 use Rattle.qs_isa.specs.Registers.{x0, ra, a0, a1, a4}
 use Rattle.qs_isa.specs.declared.instruction.Instr.{Instr}
 use Rattle.qs_isa.specs.declared.instruction.Instr.TheVariants as instructions
@@ -657,7 +658,7 @@ module _ (u : TacUnitTree) (ps : List PlacesTree) (data_at : ℕ → ℕ) where
           omega (
             arith,
             sum_by-append item_words (start_items u) (functions_items u ps data_at 0 u.functions),
-            sum_by-cons item_words (items.Jump ra (first_label u.functions u.main)) (plain (environment 0)),
-            plain_sum (environment 0),
+            sum_by-cons item_words (items.Jump ra (first_label u.functions u.main)) (plain (environment exit_call)),
+            plain_sum (environment exit_call),
             functions_words 0 u.functions (all_accepted h),
           )

@@ -10,6 +10,7 @@ use Rattle.qs_calls.specs.declared.callee.Callee.{Callee}
 use Rattle.qs_calls.specs.declared.callee.Callee.TheVariants.{Function, PutChar, GetChar}
 use Rattle.qs_calls.specs.declared.parameter.Parameter.{Parameter}
 use Rattle.qs_calls.specs.declared.parameter.Parameter.TheVariants.{Plain, Placed}
+use Rattle.qs_isa.specs.EnvironmentCalls.{exit_call, put_byte_call, take_byte_call}
 use Rattle.qs_isa.specs.Registers.{x0, ra, sp, a0, a1, a4, a5, a6, a7}
 use Rattle.qs_isa.specs.declared.instruction.Instr.{Instr}
 use Rattle.qs_isa.specs.declared.instruction.Instr.TheVariants as instructions
@@ -109,8 +110,8 @@ pub record Labels : Type 0 where
 
 abbrev pub goes_to : Labels → Callee → List Item
 goes_to labels (Function f) = items.Jump ra (labels.function f.0) ∷ []
-goes_to labels PutChar = plain (environment 1)
-goes_to labels GetChar = plain (environment 2)
+goes_to labels PutChar = plain (environment put_byte_call)
+goes_to labels GetChar = plain (environment take_byte_call)
 
 -- ---- branches
 
@@ -205,7 +206,7 @@ functions_items u ps data_at f (g ∷ functions) =
 
 -- main is called from where the machine starts, and its result is the status
 abbrev pub start_items : TacUnitTree → List Item
-start_items u = items.Jump ra (first_label u.functions u.main) ∷ plain (environment 0)
+start_items u = items.Jump ra (first_label u.functions u.main) ∷ plain (environment exit_call)
 
 -- the blocks of the unit's data lie at these addresses
 abbrev pub unit_items : TacUnitTree → List PlacesTree → (data_at : ℕ → ℕ) → List Item

@@ -4,6 +4,7 @@ use Rattle.std.specs.declared.alloc.Global.{Global}
 use Rattle.std.specs.declared.vec.Vec.{Vec}
 use Rattle.qs_isa.specs.Registers.{ra}
 use Rattle.qs_isa.specs.Addresses.{data_start}
+use Rattle.qs_isa.specs.EnvironmentCalls.{exit_call}
 use Rattle.qs_asm.specs.declared.item.Item.{Item}
 use Rattle.qs_asm.specs.declared.item.Item.TheVariants as items
 use Rattle.qs_asm.specs.Items.{plain}
@@ -47,7 +48,7 @@ SelectsAll before after u ps =
     Puts before after (functions_items (unit_tree u) (places_trees ps) (data_address (unit_tree u).data_blocks) 0 (unit_tree u).functions)
 
 abbrev pub start_items_at : (main : ℕ) → List Item
-start_items_at main = items.Jump ra main ∷ plain (environment 0)
+start_items_at main = items.Jump ra main ∷ plain (environment exit_call)
 
 -- ---- the whole
 

@@ -15,19 +15,8 @@ use crate::pieces::{put, put_item};
 use qs_asm::Item;
 use qs_base::NoMemory;
 use qs_calls::Callee;
-use qs_isa::{Instr, Register};
+use qs_isa::{Instr, PUT_BYTE_CALL, Register, TAKE_BYTE_CALL};
 use qs_tac::Operand;
-
-// ---- calls of the environment, by their numbers
-
-/// Ends the program.
-pub const EXIT: u32 = 0;
-
-const PUT_CHAR: u32 = 1;
-
-const GET_CHAR: u32 = 2;
-
-// ---- code
 
 /// Arguments into a0 to a7.
 fn put_arguments(
@@ -60,8 +49,8 @@ fn put_go(items: &mut Vec<Item>, c: &FunctionContext, callee: Callee) -> Result<
 {
     match callee {
         Callee::Function(f) => { put_item(items, Item::Jump(Register::RA, function_label(c, f))) }
-        Callee::PutChar => put_environment(items, PUT_CHAR),
-        Callee::GetChar => put_environment(items, GET_CHAR),
+        Callee::PutChar => put_environment(items, PUT_BYTE_CALL),
+        Callee::GetChar => put_environment(items, TAKE_BYTE_CALL),
     }
 }
 

@@ -11,7 +11,7 @@ ghost use Rattle.qs_select.specs.Puts.{Puts};
 ghost use Rattle.qs_select.specs.Units as units;
 ghost use Rattle.qs_select.specs.Units.{start_items_at, Selects, SelectsAll};
 
-use crate::calls::{EXIT, put_environment};
+use crate::calls::put_environment;
 use crate::context::FunctionContext;
 use crate::fault::SelectionFault;
 use crate::functions::put_function;
@@ -20,7 +20,7 @@ use crate::pieces::put_item;
 use qs_asm::Item;
 use qs_base::{FnId, NoMemory, count, sum};
 use qs_frames::{Starts, laid_from, layout, used_registers};
-use qs_isa::{DATA_START, Register};
+use qs_isa::{DATA_START, EXIT_CALL, Register};
 use qs_tac::{Places, TacData, TacFunction, TacUnit};
 use std::alloc::Global;
 
@@ -135,7 +135,7 @@ fn put_start(items: &mut Vec<Item>, labels: &Starts, main: FnId) -> Result<(), N
     ensures { OnOk result (Puts items.old items.new (start_items_at (start_of labels.now main.0))) }
 {
     put_item(items, Item::Jump(Register::RA, labels.start(main.0)))?;
-    put_environment(items, EXIT)
+    put_environment(items, EXIT_CALL)
 }
 
 fn selected(

@@ -20,6 +20,7 @@ use Rattle.qs_calls.specs.World.{World, with_memory, RootRun, no_values}
 use Rattle.qs_calls.specs.Calls.{take_byte, get_char, put_char, invoke, activate}
 use Rattle.qs_calls.specs.declared.callee.Callee.{Callee}
 use Rattle.qs_calls.specs.declared.callee.Callee.TheVariants.{Function, PutChar, GetChar}
+use Rattle.qs_isa.specs.EnvironmentCalls.{put_byte_call, take_byte_call}
 use Rattle.qs_isa.specs.declared.instruction.Instr.{Instr}
 use Rattle.qs_asm.specs.Items.{Lays, plain}
 use Rattle.qs_isa.specs.declared.instruction.Instr.TheVariants as instructions
@@ -271,20 +272,20 @@ module _ (s : Setup) (n : ℕ) (next : Next File) (more : (a : Activation File) 
     ecall_acts : (m1 : Watched) (number : ℕ) → register m1.now 17 ≡ number → act s.image s.room.size m1.now instructions.Ecall ≡ machine.environment_call m1.now number
     ecall_acts m1 number e = ap (λ (k : ℕ). machine.environment_call m1.now k) e
 
-    put_follows : (x : Option ℕ) (os : List Operand) (vs : List Value) → length os ≤ 8 → list_all (operand_fits s.unit (function_at s.unit a.function)) os ≡ true → taken_fits (function_at s.unit a.function) x ≡ true → operands (holder s) os a ≡ Some vs → StandsEnvironment 1 os x → Follows (around s) (suc n) m (put_char vs (take_result (holder s) next x (waits (holder s) a) stack) w)
+    put_follows : (x : Option ℕ) (os : List Operand) (vs : List Value) → length os ≤ 8 → list_all (operand_fits s.unit (function_at s.unit a.function)) os ≡ true → taken_fits (function_at s.unit a.function) x ≡ true → operands (holder s) os a ≡ Some vs → StandsEnvironment put_byte_call os x → Follows (around s) (suc n) m (put_char vs (take_result (holder s) next x (waits (holder s) a) stack) w)
     put_follows x os [] few fits taken e stands = follows_undefined s (suc n) m
     put_follows x os (address p ∷ vs) few fits taken e stands = follows_undefined s (suc n) m
     put_follows x os (integer k ∷ v ∷ vs) few fits taken e stands = follows_undefined s (suc n) m
     put_follows x os (integer k ∷ []) few fits taken e stands =
         answer_follows (Puts (k % 256)) x (integer (k % 256)) w.input
-        (environment_called s a w stack l m h os (integer k ∷ []) 1 (Puts (k % 256)) x (integer (k % 256)) w.input (omega arith) (refl, refl) fits e few asked h.input_bytes (taken_there x taken) stands low_next aligned_here)
+        (environment_called s a w stack l m h os (integer k ∷ []) put_byte_call (Puts (k % 256)) x (integer (k % 256)) w.input (omega arith) (refl, refl) fits e few asked h.input_bytes (taken_there x taken) stands low_next aligned_here)
       where
-        asked : (m1 : Watched) → IsAsking s a w stack l m h (integer k ∷ []) 1 m1 → m1.now.input ≡ w.input → m1.now.output ≡ m.now.output → (answer : ℕ) × ((act s.image s.room.size m1.now instructions.Ecall ≡ machine.Next (answered m1 answer w.input (m.now.output ++ output_of (Puts (k % 256) ∷ [])))) × StandsFor w.memory l.address_of (integer (k % 256)) answer)
+        asked : (m1 : Watched) → IsAsking s a w stack l m h (integer k ∷ []) put_byte_call m1 → m1.now.input ≡ w.input → m1.now.output ≡ m.now.output → (answer : ℕ) × ((act s.image s.room.size m1.now instructions.Ecall ≡ machine.Next (answered m1 answer w.input (m.now.output ++ output_of (Puts (k % 256) ∷ [])))) × StandsFor w.memory l.address_of (integer (k % 256)) answer)
         asked m1 q input output =
             let a0 : m1.now.registers 10 ≡ k = (q.values 0 (integer k) refl (omega arith)).0 in (
               k % 256,
               (
-                ecall_acts m1 1 q.a7
+                ecall_acts m1 put_byte_call q.a7
                     ∙ ap (λ (b : ℕ). machine.Next (answered m1 (b % 256) m1.now.input (m1.now.output ++ b % 256 ∷ []))) a0
                     ∙ ap (λ (i : List ℕ). machine.Next (answered m1 (k % 256) i (m1.now.output ++ k % 256 ∷ []))) input
                     ∙ ap (λ (o : List ℕ). machine.Next (answered m1 (k % 256) w.input (o ++ k % 256 ∷ []))) output,
@@ -292,7 +293,7 @@ module _ (s : Setup) (n : ℕ) (next : Next File) (more : (a : Activation File) 
               ),
             )
 
-    get_follows : (x : Option ℕ) (os : List Operand) (vs : List Value) → length os ≤ 8 → list_all (operand_fits s.unit (function_at s.unit a.function)) os ≡ true → taken_fits (function_at s.unit a.function) x ≡ true → operands (holder s) os a ≡ Some vs → StandsEnvironment 2 os x → Follows (around s) (suc n) m (get_char vs (take_result (holder s) next x (waits (holder s) a) stack) w)
+    get_follows : (x : Option ℕ) (os : List Operand) (vs : List Value) → length os ≤ 8 → list_all (operand_fits s.unit (function_at s.unit a.function)) os ≡ true → taken_fits (function_at s.unit a.function) x ≡ true → operands (holder s) os a ≡ Some vs → StandsEnvironment take_byte_call os x → Follows (around s) (suc n) m (get_char vs (take_result (holder s) next x (waits (holder s) a) stack) w)
     get_follows x os (v ∷ vs) few fits taken e stands = follows_undefined s (suc n) m
     get_follows x os [] few fits taken e stands = by w.input refl
       where
@@ -300,15 +301,15 @@ module _ (s : Setup) (n : ℕ) (next : Next File) (more : (a : Activation File) 
         by [] i =
             subst (λ (z : World). Follows (around s) (suc n) m (emit TakesEnd (take_result (holder s) next x (waits (holder s) a) stack (Some (integer (2 ^ 32 - 1))) z))) (ap (λ (z : List ℕ). record w { input = z }) (sym i))
             (answer_follows TakesEnd x (integer (2 ^ 32 - 1)) []
-            (environment_called s a w stack l m h os [] 2 TakesEnd x (integer (2 ^ 32 - 1)) [] (omega arith) (refl, refl) fits e few asked (All-nil (λ byte. byte < 256)) (taken_there x taken) stands low_next aligned_here))
+            (environment_called s a w stack l m h os [] take_byte_call TakesEnd x (integer (2 ^ 32 - 1)) [] (omega arith) (refl, refl) fits e few asked (All-nil (λ byte. byte < 256)) (taken_there x taken) stands low_next aligned_here))
           where
-            asked : (m1 : Watched) → IsAsking s a w stack l m h [] 2 m1 → m1.now.input ≡ w.input → m1.now.output ≡ m.now.output → (answer : ℕ) × ((act s.image s.room.size m1.now instructions.Ecall ≡ machine.Next (answered m1 answer [] (m.now.output ++ output_of (TakesEnd ∷ [])))) × StandsFor w.memory l.address_of (integer (2 ^ 32 - 1)) answer)
+            asked : (m1 : Watched) → IsAsking s a w stack l m h [] take_byte_call m1 → m1.now.input ≡ w.input → m1.now.output ≡ m.now.output → (answer : ℕ) × ((act s.image s.room.size m1.now instructions.Ecall ≡ machine.Next (answered m1 answer [] (m.now.output ++ output_of (TakesEnd ∷ [])))) × StandsFor w.memory l.address_of (integer (2 ^ 32 - 1)) answer)
             asked m1 q input output =
                 let empty : m1.now.input ≡ [] = input ∙ i in
                 let same_output : m1.now.output ≡ m.now.output ++ [] = output ∙ sym (append-nil m.now.output) in (
                   2 ^ 32 - 1,
                   (
-                    ecall_acts m1 2 q.a7
+                    ecall_acts m1 take_byte_call q.a7
                         ∙ ap (machine.take_byte m1.now) empty
                         ∙ ap (λ (z : List ℕ). machine.Next (answered m1 (2 ^ 32 - 1) z m1.now.output)) empty
                         ∙ ap (λ (o : List ℕ). machine.Next (answered m1 (2 ^ 32 - 1) [] o)) same_output,
@@ -317,19 +318,19 @@ module _ (s : Setup) (n : ℕ) (next : Next File) (more : (a : Activation File) 
                 )
         by (b ∷ input) i =
             answer_follows (takes_event b) x (integer b) input
-            (environment_called s a w stack l m h os [] 2 (takes_event b) x (integer b) input (omega arith) (refl, refl) fits e few asked (All-tail (λ byte. byte < 256) b input bytes) (taken_there x taken) stands low_next aligned_here)
+            (environment_called s a w stack l m h os [] take_byte_call (takes_event b) x (integer b) input (omega arith) (refl, refl) fits e few asked (All-tail (λ byte. byte < 256) b input bytes) (taken_there x taken) stands low_next aligned_here)
           where
             bytes : All (λ byte. byte < 256) (b ∷ input)
             bytes = subst (λ (z : List ℕ). All (λ byte. byte < 256) z) i h.input_bytes
 
-            asked : (m1 : Watched) → IsAsking s a w stack l m h [] 2 m1 → m1.now.input ≡ w.input → m1.now.output ≡ m.now.output → (answer : ℕ) × ((act s.image s.room.size m1.now instructions.Ecall ≡ machine.Next (answered m1 answer input (m.now.output ++ output_of (takes_event b ∷ [])))) × StandsFor w.memory l.address_of (integer b) answer)
+            asked : (m1 : Watched) → IsAsking s a w stack l m h [] take_byte_call m1 → m1.now.input ≡ w.input → m1.now.output ≡ m.now.output → (answer : ℕ) × ((act s.image s.room.size m1.now instructions.Ecall ≡ machine.Next (answered m1 answer input (m.now.output ++ output_of (takes_event b ∷ [])))) × StandsFor w.memory l.address_of (integer b) answer)
             asked m1 q input_is output =
                 let first : m1.now.input ≡ b ∷ input = input_is ∙ i in
                 let same_output : m1.now.output ≡ m.now.output ++ [] = output ∙ sym (append-nil m.now.output) in
                 let small : b < 256 = All-head (λ byte. byte < 256) b input bytes in (
                   b,
                   (
-                    ecall_acts m1 2 q.a7
+                    ecall_acts m1 take_byte_call q.a7
                         ∙ ap (machine.take_byte m1.now) first
                         ∙ ap (λ (o : List ℕ). machine.Next (answered m1 b input o)) same_output,
                     (refl, omega (arith, small)),

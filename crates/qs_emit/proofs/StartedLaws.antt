@@ -10,6 +10,8 @@ use Rattle.qs_events.specs.Runs.{Left, Ending, has_ended, is_undefined, is_short
 use Rattle.qs_events.specs.Weights.{weight}
 use Rattle.qs_calls.specs.World.{World}
 use Rattle.qs_isa.specs.Addresses.{code_start}
+use Rattle.qs_isa.specs.EnvironmentCalls.{exit_call}
+use Rattle.qs_isa.specs.Registers.{x0, a7}
 use Rattle.qs_isa.specs.declared.instruction.Instr.TheVariants as instructions
 use Rattle.qs_image.specs.Image.{Image}
 use Rattle.qs_asm.proofs.LaidLaws.{laid_split}
@@ -95,7 +97,7 @@ module _ (s : Setup) (arguments : List Value) (w : World) (l : Lay) (m : Watched
   -- JAL, and what stands behind it
   record Stub : Type 0 where
     jump : instruction_at s.image code_start ≡ Some (instructions.Jal 1 (words.sub (entry s s.unit.main) code_start))
-    number : instruction_at s.image (code_start + 4) ≡ Some (addi 17 0 0)
+    number : instruction_at s.image (code_start + 4) ≡ Some (addi a7 x0 exit_call)
     call : instruction_at s.image (code_start + 4 + 4) ≡ Some instructions.Ecall
 
   stub : Stub

@@ -2,8 +2,9 @@
 use Rattle.std.proofs.Common.{arith, ◌≡◌, ℕ, ◌+◌, ◌-◌, min, Bool, true, false, nat_le, List, [], ◌∷◌, ◌++◌, length, append_assoc, refl, ap, ◌∙◌, if◌then◌else◌}
 use Rattle.std.proofs.lemmas.Bool.Decides.{nat_tests}
 use Rattle.std.specs.Fmt.{signed_decimal}
+use Rattle.qs_sexpr.specs.Characters.{left_parenthesis, new_line}
 use Rattle.qs_sexpr.specs.Layout.{deeper, is_atom, before, behind, begun, inside, lay, lay_parts, lay_all, line}
-use Rattle.qs_sexpr.specs.Marks.{Mark, opens, closes, word, marks, all_marks, first_of, others_of, added, list_size, sizes, line_end, laid_marks}
+use Rattle.qs_sexpr.specs.Marks.{Mark, opens, closes, word, marks, all_marks, first_of, others_of, added, list_size, sizes, line_end, laid_marks, wide}
 use Rattle.qs_sexpr.specs.Writing.{Form, symbol_form, number_form, list_form, Forms, no_forms, form_and, size, size_all, size_others}
 use Rattle.qs_sexpr.specs.declared.layout.Layer.{Layer}
 use Rattle.qs_sexpr.specs.declared.layout.Layer.TheVariants.{Top, OnLine, Head, Second, Others}
@@ -11,17 +12,17 @@ use Rattle.qs_sexpr.proofs.LayoutLaws.{IsOpen, inside_open, behind_open}
 
 -- ---- sizes
 
-sizes_of_list : (n : ℕ) → list_size (min 101 n) ≡ list_size n
+sizes_of_list : (n : ℕ) → list_size (min wide n) ≡ list_size n
 sizes_of_list n = omega arith
 
 all_of_others : (forms : Forms) → size_others forms - 1 ≡ size_all forms
 all_of_others no_forms = refl
 all_of_others (form_and form forms) = omega arith
 
-capped : (n f : ℕ) → min 101 (list_size n + 1 + f) ≡ min 101 (1 + (n - 1) + 1 + 1 + f)
+capped : (n f : ℕ) → min wide (list_size n + 1 + f) ≡ min wide (1 + (n - 1) + 1 + 1 + f)
 capped n f = omega arith
 
-next_size : (n m : ℕ) → min 101 (n + 1 + min 101 m) ≡ min 101 (1 + n + m)
+next_size : (n m : ℕ) → min wide (n + 1 + min wide m) ≡ min wide (1 + n + m)
 next_size n m = omega arith
 
 mutual
@@ -33,9 +34,9 @@ mutual
       ∙ (ap (λ (ns : List ℕ). added (list_size (first_of ns) + 1) (others_of ns)) (forms_sizes forms ms)
       ∙ (ap (λ (k : ℕ). added (k + 1) (sizes ms)) (sizes_of_list (size_others forms))
       ∙ (ap (λ (k : ℕ). k ∷ others_of (sizes ms)) (capped (size_others forms) (first_of (sizes ms)))
-      ∙ ap (λ (k : ℕ). min 101 (1 + k + 1 + 1 + first_of (sizes ms)) ∷ others_of (sizes ms)) (all_of_others forms))))
+      ∙ ap (λ (k : ℕ). min wide (1 + k + 1 + 1 + first_of (sizes ms)) ∷ others_of (sizes ms)) (all_of_others forms))))
 
-  pub forms_sizes : (forms : Forms) (ms : List Mark) → sizes (all_marks forms ++ closes ∷ ms) ≡ min 101 (size_others forms) ∷ sizes ms
+  pub forms_sizes : (forms : Forms) (ms : List Mark) → sizes (all_marks forms ++ closes ∷ ms) ≡ min wide (size_others forms) ∷ sizes ms
   forms_sizes no_forms ms = refl
   forms_sizes (form_and form forms) ms =
       ap sizes (append_assoc (marks form) (all_marks forms) (closes ∷ ms))
@@ -113,8 +114,8 @@ mutual
   form_laid (list_form forms) l ls ms =
       let n : ℕ = size (list_form forms) in
       ap (λ (xs : List Mark). laid_marks (opens ∷ xs) l ls) (append_assoc (all_marks forms) (closes ∷ []) ms)
-      ∙ ((λ i. before_list l n i ++ (40 ∷ laid_marks (all_marks forms ++ closes ∷ ms) (list_inside l forms ms i) (behind_list l n i ∷ ls)))
-      ∙ ap (λ (t : List ℕ). before l false n ++ (40 ∷ t)) (parts_laid forms (inside l n) (behind l false n) ls ms (inside_open l n)))
+      ∙ ((λ i. before_list l n i ++ (left_parenthesis ∷ laid_marks (all_marks forms ++ closes ∷ ms) (list_inside l forms ms i) (behind_list l n i ∷ ls)))
+      ∙ ap (λ (t : List ℕ). before l false n ++ (left_parenthesis ∷ t)) (parts_laid forms (inside l n) (behind l false n) ls ms (inside_open l n)))
 
   parts_laid : (forms : Forms) (l k : Layer) (ls : List Layer) (ms : List Mark) → IsOpen l
       → laid_marks (all_marks forms ++ closes ∷ ms) l (k ∷ ls) ≡ lay_parts l forms (text_behind k ls ms)
@@ -131,4 +132,4 @@ mutual
 pub all_are_laid : (forms : Forms) → laid_marks (all_marks forms) Top [] ≡ lay_all forms
 all_are_laid no_forms = refl
 all_are_laid (form_and form forms) =
-    form_laid form Top [] (all_marks forms) ∙ ap (λ (t : List ℕ). lay Top form (10 ∷ t)) (all_are_laid forms)
+    form_laid form Top [] (all_marks forms) ∙ ap (λ (t : List ℕ). lay Top form (new_line ∷ t)) (all_are_laid forms)

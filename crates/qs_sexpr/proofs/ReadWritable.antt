@@ -4,6 +4,7 @@ use Rattle.std.specs.List.{prefix_len, list_all}
 use Rattle.std.proofs.lemmas.Bool.Decides.{nat_tests}
 use Rattle.std.proofs.lemmas.List.Folds.{length-prefix_len}
 use Rattle.qs_sexpr.specs.Bytes.{is_atom_byte, is_space, is_symbol_byte, starts_number, starts_symbol}
+use Rattle.qs_sexpr.specs.Characters.{left_parenthesis, minus, right_parenthesis, semicolon}
 use Rattle.qs_sexpr.specs.Numbers.{are_digits, is_empty, magnitude, negated, negative, number_of, positive, value_of}
 use Rattle.qs_sexpr.specs.Pieces.{atom, first_piece, number, symbol}
 use Rattle.qs_sexpr.specs.Reading.{Reads, nothing, white_space, a_number, a_symbol, a_list, Reading}
@@ -44,7 +45,7 @@ magnitude_in bytes n e = by (not (is_empty bytes) && (are_digits bytes && nat_le
 
 number_in : (bytes : List ℕ) (v : ℤ) → number_of bytes ≡ Some v → IsInRange v
 number_in [] v e = cc
-number_in (byte ∷ bytes) v e = by (byte == 45) e
+number_in (byte ∷ bytes) v e = by (byte == minus) e
   where
     by : (b : Bool) → (if b then negative (magnitude bytes) else positive (magnitude (byte ∷ bytes))) ≡ Some v → IsInRange v
     by true f = negative_in (magnitude bytes) v (magnitude_in bytes) f
@@ -63,7 +64,7 @@ record IsAtom (p : Piece) : Type 0 where
   no_bad : (n : ℕ) → BadByte n ≡ p → ⊥
 
 is_atom : (byte : ℕ) (bytes : List ℕ) (p : Piece) → IsAtom p → first_piece byte bytes ≡ p → atom byte (others bytes) ≡ p
-is_atom byte bytes p h e = by (is_space byte) (byte == 59) (byte == 40) (byte == 41) (is_atom_byte byte) _ (atom byte (others bytes)) e
+is_atom byte bytes p h e = by (is_space byte) (byte == semicolon) (byte == left_parenthesis) (byte == right_parenthesis) (is_atom_byte byte) _ (atom byte (others bytes)) e
   where
     by : (a b c d f : Bool) (k : ℕ) (q : Piece) → (if a then White 0 else if b then White k else if c then Open else if d then Close else if f then q else BadByte 0) ≡ p → q ≡ p
     by true b c d f k q e = absurd (h.no_white 0 e)

@@ -5,6 +5,7 @@ use Rattle.std.proofs.lemmas.List.Sums.{prefix_len-le-length}
 use Rattle.std.specs.List.{prefix_len}
 use Rattle.qs_base.specs.Bytes.{is_in_line}
 use Rattle.qs_sexpr.specs.Bytes.{is_atom_byte, is_space, is_symbol_byte, starts_number, starts_symbol}
+use Rattle.qs_sexpr.specs.Characters.{digit_zero, left_parenthesis, right_parenthesis, semicolon}
 use Rattle.qs_sexpr.specs.Numbers.{number_of, value_from}
 use Rattle.qs_sexpr.specs.Pieces.{atom, first_piece, number, symbol}
 use Rattle.qs_sexpr.specs.Trees.{Sexp}
@@ -54,10 +55,10 @@ piece_in byte bytes =
     let n : ℕ = length bytes in
     let a : Piece = atom byte (take (prefix_len is_atom_byte bytes) bytes) in
     let l = length-take-le (prefix_len is_atom_byte bytes) bytes in
-    either n (is_space byte) (White 0) (if byte == 59 then White (prefix_len is_in_line bytes) else if byte == 40 then Open else if byte == 41 then Close else if is_atom_byte byte then a else BadByte 0) (λ e. omega arith)
-    (λ e. either n (byte == 59) (White (prefix_len is_in_line bytes)) (if byte == 40 then Open else if byte == 41 then Close else if is_atom_byte byte then a else BadByte 0) (λ e. prefix_len-le-length is_in_line bytes)
-    (λ e. either n (byte == 40) Open (if byte == 41 then Close else if is_atom_byte byte then a else BadByte 0) (λ e. tt)
-    (λ e. either n (byte == 41) Close (if is_atom_byte byte then a else BadByte 0) (λ e. tt)
+    either n (is_space byte) (White 0) (if byte == semicolon then White (prefix_len is_in_line bytes) else if byte == left_parenthesis then Open else if byte == right_parenthesis then Close else if is_atom_byte byte then a else BadByte 0) (λ e. omega arith)
+    (λ e. either n (byte == semicolon) (White (prefix_len is_in_line bytes)) (if byte == left_parenthesis then Open else if byte == right_parenthesis then Close else if is_atom_byte byte then a else BadByte 0) (λ e. prefix_len-le-length is_in_line bytes)
+    (λ e. either n (byte == left_parenthesis) Open (if byte == right_parenthesis then Close else if is_atom_byte byte then a else BadByte 0) (λ e. tt)
+    (λ e. either n (byte == right_parenthesis) Close (if is_atom_byte byte then a else BadByte 0) (λ e. tt)
     (λ e. either n (is_atom_byte byte) a (BadByte 0) (λ e. atom_in n byte (take (prefix_len is_atom_byte bytes) bytes) l) (λ e. omega arith)))))
 
 pub skipped : (outer : List Layer) (done : List Sexp) (at k : ℕ) (bytes : List ℕ) → k ≤ length bytes → scan outer done at k bytes ≡ scan outer done (at + k) 0 (drop k bytes)
@@ -91,9 +92,9 @@ open_acts outer done at byte bytes go h = ap (λ (b : Bool). if b then go (recor
 
 -- ---- the number that digits write
 
-pub value_goes : (v : ℕ) (text : List ℕ) (i : ℕ) → i < length text → value_from v (drop i text) ≡ value_from (v * 10 + (get_or text i 0 - 48)) (drop (i + 1) text)
+pub value_goes : (v : ℕ) (text : List ℕ) (i : ℕ) → i < length text → value_from v (drop i text) ≡ value_from (v * 10 + (get_or text i 0 - digit_zero)) (drop (i + 1) text)
 value_goes v text i h = rw (add-one, drop-cons text i 0 h) refl
 
 pub value_grows : (v : ℕ) (text : List ℕ) → v ≤ value_from v text
 value_grows v [] = omega arith
-value_grows v (b ∷ bs) = let g : v * 10 + (b - 48) ≤ value_from (v * 10 + (b - 48)) bs = value_grows (v * 10 + (b - 48)) bs in omega arith
+value_grows v (b ∷ bs) = let g : v * 10 + (b - digit_zero) ≤ value_from (v * 10 + (b - digit_zero)) bs = value_grows (v * 10 + (b - digit_zero)) bs in omega arith

@@ -6,6 +6,7 @@ use Rattle.std.proofs.Math.Seq.{take-append_seam, drop-append_seam}
 use Rattle.std.specs.List.{prefix_len, list_all}
 use Rattle.qs_base.specs.Bytes.{is_digit}
 use Rattle.qs_sexpr.specs.Bytes.{is_atom_byte, is_space, is_symbol_byte, starts_number, starts_symbol}
+use Rattle.qs_sexpr.specs.Characters.{digit_zero, left_parenthesis, minus, right_parenthesis, semicolon}
 use Rattle.qs_sexpr.specs.Numbers.{are_digits, is_empty, magnitude, negative, number_of, positive, value_from, value_of}
 use Rattle.std.specs.Fmt.{decimal, signed_decimal}
 use Rattle.std.proofs.lemmas.Fmt.{decimal_by_steps}
@@ -26,13 +27,13 @@ Delimited text = prefix_len is_atom_byte text ≡ 0
 not_space : (byte : ℕ) → is_atom_byte byte ≡ true → is_space byte ≡ false
 not_space byte h = grind (arith, nat_tests, h)
 
-not_semicolon : (byte : ℕ) → is_atom_byte byte ≡ true → (byte == 59) ≡ false
+not_semicolon : (byte : ℕ) → is_atom_byte byte ≡ true → (byte == semicolon) ≡ false
 not_semicolon byte h = grind (arith, nat_tests, h)
 
-not_open : (byte : ℕ) → is_atom_byte byte ≡ true → (byte == 40) ≡ false
+not_open : (byte : ℕ) → is_atom_byte byte ≡ true → (byte == left_parenthesis) ≡ false
 not_open byte h = grind (arith, nat_tests, h)
 
-not_close : (byte : ℕ) → is_atom_byte byte ≡ true → (byte == 41) ≡ false
+not_close : (byte : ℕ) → is_atom_byte byte ≡ true → (byte == right_parenthesis) ≡ false
 not_close byte h = grind (arith, nat_tests, h)
 
 number_starts_atom : (byte : ℕ) → starts_number byte ≡ true → is_atom_byte byte ≡ true
@@ -114,9 +115,9 @@ record IsDecimal (n : ℕ) (digits : List ℕ) : Type 0 where
   are : are_digits digits ≡ true
   value_is : value_of digits ≡ n
 
-value_from-append : (value digit : ℕ) (digits : List ℕ) → value_from value (digits ++ digit ∷ []) ≡ value_from value digits * 10 + (digit - 48)
+value_from-append : (value digit : ℕ) (digits : List ℕ) → value_from value (digits ++ digit ∷ []) ≡ value_from value digits * 10 + (digit - digit_zero)
 value_from-append value digit [] = refl
-value_from-append value digit (first ∷ digits) = value_from-append (value * 10 + (first - 48)) digit digits
+value_from-append value digit (first ∷ digits) = value_from-append (value * 10 + (first - digit_zero)) digit digits
 
 are_digits-append : (digit : ℕ) (digits : List ℕ) → are_digits digits ≡ true → is_digit digit ≡ true → are_digits (digits ++ digit ∷ []) ≡ true
 are_digits-append digit [] h d = rw d refl
@@ -126,18 +127,18 @@ some-append : (digit : ℕ) (digits : List ℕ) → is_empty (digits ++ digit �
 some-append digit [] = refl
 some-append digit (first ∷ digits) = refl
 
-a_digit : (n : ℕ) → n < 10 → is_digit (48 + n) ≡ true
+a_digit : (n : ℕ) → n < 10 → is_digit (digit_zero + n) ≡ true
 a_digit n h = grind (arith, nat_tests, h)
 
-one_digit : (n : ℕ) → n < 10 → IsDecimal n ((48 + n) ∷ [])
-one_digit n h = record { some = refl; are = are_digits-append (48 + n) [] refl (a_digit n h); value_is = omega arith }
+one_digit : (n : ℕ) → n < 10 → IsDecimal n ((digit_zero + n) ∷ [])
+one_digit n h = record { some = refl; are = are_digits-append (digit_zero + n) [] refl (a_digit n h); value_is = omega arith }
 
-more_digits : (n : ℕ) (digits : List ℕ) → 10 ≤ n → IsDecimal (n / 10) digits → IsDecimal n (digits ++ ((48 + n % 10) ∷ []))
+more_digits : (n : ℕ) (digits : List ℕ) → 10 ≤ n → IsDecimal (n / 10) digits → IsDecimal n (digits ++ ((digit_zero + n % 10) ∷ []))
 more_digits n digits h d =
-    let v = value_from-append 0 (48 + n % 10) digits in
+    let v = value_from-append 0 (digit_zero + n % 10) digits in
     let w = d.value_is in
     let m : n % 10 < 10 = omega arith in
-    record { some = some-append (48 + n % 10) digits; are = are_digits-append (48 + n % 10) digits d.are (a_digit (n % 10) m); value_is = omega (arith, v, w) }
+    record { some = some-append (digit_zero + n % 10) digits; are = are_digits-append (digit_zero + n % 10) digits d.are (a_digit (n % 10) m); value_is = omega (arith, v, w) }
 
 decimal_is : (n : ℕ) → n < 2 ^ 64 → IsDecimal n (decimal n)
 decimal_is n h = decimal_by_steps (λ (m : ℕ) (ds : List ℕ). IsDecimal m ds) one_digit more_digits n h
@@ -148,7 +149,7 @@ le_true n m h = grind (arith, h)
 magnitude_of : (n : ℕ) (digits : List ℕ) → IsDecimal n digits → n ≤ 2 ^ 63 → magnitude digits ≡ Some n
 magnitude_of n digits d h = rw (d.some, d.are, d.value_is, le_true n (2 ^ 63) h) refl
 
-no_sign : (byte : ℕ) → is_digit byte ≡ true → (byte == 45) ≡ false
+no_sign : (byte : ℕ) → is_digit byte ≡ true → (byte == minus) ≡ false
 no_sign byte h = grind (arith, nat_tests, h)
 
 digit_starts : (byte : ℕ) → is_digit byte ≡ true → starts_number byte ≡ true
@@ -173,7 +174,7 @@ positive_word n (byte ∷ bytes) d h =
           ∙ (ap positive (magnitude_of n (byte ∷ bytes) d (omega (arith, h))) ∙ ap (λ (t : Bool). if t then Some (pos n) else None) (lt_true n (2 ^ 63) h));
     }
 
-negative_word : (n : ℕ) (digits : List ℕ) → IsDecimal (suc n) digits → n < 2 ^ 63 → IsWord (45 ∷ digits) (negsuc n)
+negative_word : (n : ℕ) (digits : List ℕ) → IsDecimal (suc n) digits → n < 2 ^ 63 → IsWord (minus ∷ digits) (negsuc n)
 negative_word n digits d h = record { first = refl; others = d.are; value_is = ap negative (magnitude_of (suc n) digits d (omega (arith, h))) }
 
 pub signed_word : (value : ℤ) → IsInRange value → IsWord (signed_decimal value) value

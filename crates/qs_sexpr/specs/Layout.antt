@@ -5,6 +5,7 @@
 -- `(`, and the `)` on a last one, under the `(`. No line begins further right than column 60.
 use Rattle.std.specs.Prelude.{ℕ, ◌+◌, ◌-◌, min, Bool, true, false, nat_le, nat_lt, List, [], ◌∷◌, ◌++◌, replicate, if◌then◌else◌}
 use Rattle.std.specs.Fmt.{signed_decimal}
+use Rattle.qs_sexpr.specs.Characters.{left_parenthesis, new_line, right_parenthesis, space}
 use Rattle.qs_sexpr.specs.Writing.{Form, symbol_form, number_form, list_form, Forms, no_forms, form_and, size}
 use Rattle.qs_sexpr.specs.declared.layout.Layer.{Layer}
 use Rattle.qs_sexpr.specs.declared.layout.Layer.TheVariants.{Top, OnLine, Head, Second, Others}
@@ -13,11 +14,15 @@ use Rattle.qs_sexpr.specs.declared.layout.Layer.TheVariants.{Top, OnLine, Head, 
 abbrev pub line : ℕ
 line = 100
 
-abbrev pub new_line : (column : ℕ) → List ℕ
-new_line column = 10 ∷ replicate column 32
+abbrev pub next_line : (column : ℕ) → List ℕ
+next_line column = new_line ∷ replicate column space
+
+-- how far right a list begins whose parts still stand two columns further right
+abbrev pub deepest_column : ℕ
+deepest_column = 58
 
 abbrev pub deeper : (column : ℕ) → ℕ
-deeper column = min column 58 + 2
+deeper column = min column deepest_column + 2
 
 -- ---- a part
 
@@ -29,12 +34,12 @@ is_atom (list_form forms) = false
 -- what stands before the next part of a list, which has so many bytes
 abbrev pub before : Layer → (is_atom : Bool) → (size : ℕ) → List ℕ
 before Top atom n = []
-before (OnLine is_first) atom n = if is_first then [] else 32 ∷ []
-before (Head column) atom n = if atom then [] else new_line (deeper column)
+before (OnLine is_first) atom n = if is_first then [] else space ∷ []
+before (Head column) atom n = if atom then [] else next_line (deeper column)
 before (Second column room) atom n =
-    if atom then if nat_lt n room then 32 ∷ [] else new_line (deeper column)
-    else new_line (deeper column)
-before (Others column) atom n = new_line (deeper column)
+    if atom then if nat_lt n room then space ∷ [] else next_line (deeper column)
+    else next_line (deeper column)
+before (Others column) atom n = next_line (deeper column)
 
 -- how the list goes on behind it
 abbrev pub behind : Layer → (is_atom : Bool) → (size : ℕ) → Layer
@@ -60,9 +65,9 @@ inside (Others column) n = begun (deeper column) n
 abbrev pub ending : Layer → List ℕ
 ending Top = []
 ending (OnLine is_first) = []
-ending (Head column) = new_line column
-ending (Second column room) = new_line column
-ending (Others column) = new_line column
+ending (Head column) = next_line column
+ending (Second column room) = next_line column
+ending (Others column) = next_line column
 
 -- ---- forms before other text
 
@@ -70,14 +75,14 @@ abbrev mutual
   pub lay : Layer → Form → List ℕ → List ℕ
   lay l (symbol_form bytes) text = bytes ++ text
   lay l (number_form value) text = signed_decimal value ++ text
-  lay l (list_form forms) text = 40 ∷ lay_parts (inside l (size (list_form forms))) forms text
+  lay l (list_form forms) text = left_parenthesis ∷ lay_parts (inside l (size (list_form forms))) forms text
 
   pub lay_parts : Layer → Forms → List ℕ → List ℕ
-  lay_parts l no_forms text = ending l ++ 41 ∷ text
+  lay_parts l no_forms text = ending l ++ right_parenthesis ∷ text
   lay_parts l (form_and form forms) text =
       before l (is_atom form) (size form) ++ lay l form (lay_parts (behind l (is_atom form) (size form)) forms text)
 
 -- each on a line of its own, or on several
 abbrev pub lay_all : Forms → List ℕ
 lay_all no_forms = []
-lay_all (form_and form forms) = lay Top form (10 ∷ lay_all forms)
+lay_all (form_and form forms) = lay Top form (new_line ∷ lay_all forms)

@@ -1,6 +1,7 @@
 -- Forms as they are written: words, and where lists begin and end.
 use Rattle.std.specs.Prelude.{ℕ, ◌+◌, ◌-◌, min, List, [], ◌∷◌, ◌++◌, length, true, false}
 use Rattle.std.specs.Fmt.{decimal, signed_decimal}
+use Rattle.qs_sexpr.specs.Characters.{left_parenthesis, new_line, right_parenthesis}
 use Rattle.qs_sexpr.specs.Layout.{before, behind, inside, ending}
 use Rattle.qs_sexpr.specs.Writing.{Form, symbol_form, number_form, list_form, Forms, no_forms, form_and}
 use Rattle.qs_sexpr.specs.declared.layout.Layer.{Layer}
@@ -40,13 +41,16 @@ abbrev pub others_of : List ℕ → List ℕ
 others_of [] = []
 others_of (n ∷ ns) = ns
 
--- what is wider than a line counts as 101
+-- what is wider than a line counts as this
+abbrev pub wide : ℕ
+wide = 101
+
 abbrev pub added : ℕ → List ℕ → List ℕ
-added n ns = min 101 (n + first_of ns) ∷ others_of ns
+added n ns = min wide (n + first_of ns) ∷ others_of ns
 
 -- a list whose parts have so many bytes, each with a blank before it
 abbrev pub list_size : ℕ → ℕ
-list_size n = min 101 n - 1 + 2
+list_size n = min wide n - 1 + 2
 
 -- the sizes of what is left in each list that is open here, the innermost first
 abbrev pub sizes : List Mark → List ℕ
@@ -66,7 +70,7 @@ list_sizes (word bytes ∷ ms) = list_sizes ms
 
 -- a form that stands in no list ends its line
 abbrev pub line_end : Layer → List ℕ
-line_end Top = 10 ∷ []
+line_end Top = new_line ∷ []
 line_end (OnLine is_first) = []
 line_end (Head column) = []
 line_end (Second column room) = []
@@ -84,8 +88,8 @@ layers_behind (l ∷ ls) = ls
 abbrev pub laid_marks : List Mark → Layer → List Layer → List ℕ
 laid_marks [] l ls = []
 laid_marks (opens ∷ ms) l ls =
-    before l false 0 ++ (40 ∷ laid_marks ms (inside l (list_size (first_of (sizes ms)))) (behind l false 0 ∷ ls))
+    before l false 0 ++ (left_parenthesis ∷ laid_marks ms (inside l (list_size (first_of (sizes ms)))) (behind l false 0 ∷ ls))
 laid_marks (closes ∷ ms) l ls =
-    ending l ++ (41 ∷ (line_end (layer_of ls) ++ laid_marks ms (layer_of ls) (layers_behind ls)))
+    ending l ++ (right_parenthesis ∷ (line_end (layer_of ls) ++ laid_marks ms (layer_of ls) (layers_behind ls)))
 laid_marks (word bytes ∷ ms) l ls =
     before l true (length bytes) ++ (bytes ++ (line_end l ++ laid_marks ms (behind l true (length bytes)) ls))

@@ -2,11 +2,12 @@
 use Rattle.std.specs.Prelude.{ℕ, zero, suc, ◌+◌, ◌*◌, ◌-◌, ◌^◌, ℤ, pos, negsuc, Bool, true, false, ◌&&◌, not, List, [], ◌∷◌, nat_le, nat_lt, ◌==◌, if◌then◌else◌, Option, Some, None}
 use Rattle.std.specs.List.{list_all}
 use Rattle.qs_base.specs.Bytes.{is_digit}
+use Rattle.qs_sexpr.specs.Characters.{digit_zero, minus}
 
 -- the value of these digits behind digits of this value
 abbrev pub value_from : ℕ → List ℕ → ℕ
 value_from value [] = value
-value_from value (digit ∷ digits) = value_from (value * 10 + (digit - 48)) digits
+value_from value (digit ∷ digits) = value_from (value * 10 + (digit - digit_zero)) digits
 
 abbrev pub value_of : List ℕ → ℕ
 value_of digits = value_from 0 digits
@@ -38,4 +39,4 @@ negative (Some value) = Some (negated value)
 -- the number that these bytes are
 abbrev pub number_of : List ℕ → Option ℤ
 number_of [] = None
-number_of (byte ∷ bytes) = if byte == 45 then negative (magnitude bytes) else positive (magnitude (byte ∷ bytes))
+number_of (byte ∷ bytes) = if byte == minus then negative (magnitude bytes) else positive (magnitude (byte ∷ bytes))

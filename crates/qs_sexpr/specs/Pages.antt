@@ -2,6 +2,7 @@
 use Rattle.std.specs.Prelude.{◌≡◌, ℕ, ◌+◌, true, false, List, [], ◌∷◌, ◌++◌, length, map, reverse, Result, IfOk, OnOk}
 use Rattle.std.specs.declared.vec.Vec.{Vec}
 use Rattle.std.specs.declared.alloc.Global.{Global}
+use Rattle.qs_sexpr.specs.Characters.{left_parenthesis, right_parenthesis}
 use Rattle.qs_sexpr.specs.Layout as layout
 use Rattle.qs_sexpr.specs.Layout.{behind, ending, inside, lay_all}
 use Rattle.qs_sexpr.specs.Marks.{Mark, added, all_marks, first_of, laid_marks, layer_of, layers_behind, line_end, list_sizes, mark_of, others_of, sizes}
@@ -53,7 +54,7 @@ PutsWord bytes before now =
 -- a list is opened, of the first of the sizes
 abbrev pub OpensList : Page → Page → Type 0
 OpensList before now =
-    IsPage now (before.text.items ++ layout.before before.layer false 0 ++ 40 ∷ [])
+    IsPage now (before.text.items ++ layout.before before.layer false 0 ++ left_parenthesis ∷ [])
     (inside before.layer (first_of (reverse before.sizes.items)))
     (behind before.layer false 0 ∷ reverse before.outer.items) (others_of (reverse before.sizes.items))
 
@@ -61,7 +62,7 @@ OpensList before now =
 abbrev pub ClosesList : Page → Page → Type 0
 ClosesList before now =
     IsPage now
-    (before.text.items ++ ending before.layer ++ 41 ∷ [] ++ line_end (layer_of (reverse before.outer.items)))
+    (before.text.items ++ ending before.layer ++ right_parenthesis ∷ [] ++ line_end (layer_of (reverse before.outer.items)))
     (layer_of (reverse before.outer.items)) (layers_behind (reverse before.outer.items))
     (reverse before.sizes.items)
 

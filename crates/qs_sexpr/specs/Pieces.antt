@@ -3,6 +3,7 @@ use Rattle.std.specs.Prelude.{ℕ, ◌+◌, ℤ, not, List, ◌∷◌, length, t
 use Rattle.std.specs.List.{prefix_len}
 use Rattle.qs_base.specs.Bytes.{is_in_line}
 use Rattle.qs_sexpr.specs.Bytes.{is_atom_byte, is_space, is_symbol_byte, starts_number, starts_symbol}
+use Rattle.qs_sexpr.specs.Characters.{left_parenthesis, right_parenthesis, semicolon}
 use Rattle.qs_sexpr.specs.Numbers.{number_of}
 use Rattle.qs_sexpr.specs.declared.pieces.Piece.{Piece}
 use Rattle.qs_sexpr.specs.declared.pieces.Piece.TheVariants.{White, Open, Close, Number, Symbol, BadByte, BadNumber}
@@ -29,8 +30,8 @@ atom byte bytes =
 abbrev pub first_piece : ℕ → List ℕ → Piece
 first_piece byte bytes =
     if is_space byte then White 0
-    else if byte == 59 then White (prefix_len is_in_line bytes)
-    else if byte == 40 then Open
-    else if byte == 41 then Close
+    else if byte == semicolon then White (prefix_len is_in_line bytes)
+    else if byte == left_parenthesis then Open
+    else if byte == right_parenthesis then Close
     else if is_atom_byte byte then atom byte (take (prefix_len is_atom_byte bytes) bytes)
     else BadByte 0

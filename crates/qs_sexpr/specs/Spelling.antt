@@ -3,6 +3,7 @@ use Rattle.std.specs.Prelude.{◌≡◌, ℕ, ℤ, true, List, ◌∷◌, ◌++�
 use Rattle.std.specs.Fmt.{signed_decimal}
 use Rattle.std.specs.List.{list_all}
 use Rattle.qs_sexpr.specs.Bytes.{is_space}
+use Rattle.qs_sexpr.specs.Characters.{left_parenthesis, right_parenthesis}
 use Rattle.qs_sexpr.specs.Reading.{Reading}
 use Rattle.qs_sexpr.specs.Trees.{Sexps}
 use Rattle.qs_sexpr.specs.Writing.{Form, symbol_form, number_form, list_form, Forms, no_forms, form_and, forms_of_parts}
@@ -15,7 +16,7 @@ mutual
   pub data Spells : Form → (text rest : List ℕ) → Type 0 where
     a_symbol : {bytes rest : List ℕ} → Spells (symbol_form bytes) (bytes ++ rest) rest
     a_number : {value : ℤ} {rest : List ℕ} → Spells (number_form value) (signed_decimal value ++ rest) rest
-    a_list : {forms : Forms} {text rest : List ℕ} → SpellAll forms text (41 ∷ rest) → Spells (list_form forms) (40 ∷ text) rest
+    a_list : {forms : Forms} {text rest : List ℕ} → SpellAll forms text (right_parenthesis ∷ rest) → Spells (list_form forms) (left_parenthesis ∷ text) rest
 
   -- the text begins with the forms
   pub data SpellAll : Forms → (text rest : List ℕ) → Type 0 where

@@ -34,11 +34,14 @@ pub enum Gap {
 /// How many columns a line has.
 const LINE: usize = 100;
 
+/// How far right a list begins whose parts still stand two columns further right.
+const DEEPEST_COLUMN: usize = 58;
+
 /// The column of the parts of a list at this column.
 fn deeper(column: usize) -> usize
     ensures { result ≡ deeper column }
 {
-    column.min(58) + 2
+    column.min(DEEPEST_COLUMN) + 2
 }
 
 fn begun(column: usize, size: usize) -> Layer

@@ -1,5 +1,6 @@
 // Lists and atoms, laid out for people.
 ghost use Rattle.std.specs.Prelude.{◌≡◌, ◌++◌, reverse, replicate, OnOk};
+ghost use Rattle.qs_sexpr.specs.Characters.{space};
 ghost use Rattle.qs_sexpr.specs.Gaps.{gap_view};
 ghost use Rattle.qs_sexpr.specs.Marks.{first_of, layer_of, layers_behind, mark_of, others_of};
 ghost use Rattle.qs_sexpr.specs.Pages.{ClosesList, LaysOut, OpensList, PutsMark, PutsWord};
@@ -31,7 +32,7 @@ fn put(text: &mut Vec<u8>, bytes: &[u8]) -> Result<(), NoMemory>
 }
 
 fn put_blanks(text: &mut Vec<u8>, count: usize) -> Result<(), NoMemory>
-    ensures { OnOk result (text.new.items ≡ text.old.items ++ replicate count 32) }
+    ensures { OnOk result (text.new.items ≡ text.old.items ++ replicate count space) }
 {
     for _k in 0..count {
         text.push(b' ')?;

@@ -8,6 +8,7 @@ use Rattle.std.specs.Result.{result_ok}
 use Rattle.std.specs.Str.Parse.{ParsesUnsigned, digits_value}
 use Rattle.std.proofs.lemmas.Str.Parse.{IsNumeralModel, numerals_by_value, parse_gives, digits_value_short}
 use Rattle.qs_base.specs.Bytes.{is_digit}
+use Rattle.qs_cli.specs.Characters.{hyphen}
 use Rattle.qs_cli.specs.Words.{Text}
 use Rattle.qs_cli.specs.Numbers.{number_of, signed_of}
 
@@ -41,10 +42,10 @@ number_small most text (Some n) is = go (nat_lt 0 (length text)) (nat_le (length
     go false f fits d digits e = absurd cc
 
 -- a text without `-` in front that is no number is no signed number
-pub signed_none : (text : Text) → ((rest : Text) → text ≢ 45 ∷ rest) → number_of 10 text ≡ None → signed_of text ≡ None
+pub signed_none : (text : Text) → ((rest : Text) → text ≢ hyphen ∷ rest) → number_of 10 text ≡ None → signed_of text ≡ None
 signed_none [] plain none = refl
-signed_none (b ∷ bs) plain none = go (b == 45) refl
+signed_none (b ∷ bs) plain none = go (b == hyphen) refl
   where
-    go : (t : Bool) → (b == 45) ≡ t → (if t then option_map (λ n. neg_ℤ (pos n)) (number_of 10 bs) else option_map (λ n. pos n) (number_of 10 (b ∷ bs))) ≡ None
-    go true is = let same : b ≡ 45 = omega (arith, eqb-true b 45 is) in absurd (plain bs (ap (λ x. x ∷ bs) same))
+    go : (t : Bool) → (b == hyphen) ≡ t → (if t then option_map (λ n. neg_ℤ (pos n)) (number_of 10 bs) else option_map (λ n. pos n) (number_of 10 (b ∷ bs))) ≡ None
+    go true is = let same : b ≡ hyphen = omega (arith, eqb-true b hyphen is) in absurd (plain bs (ap (λ x. x ∷ bs) same))
     go false is = ap (option_map (λ n. pos n)) none

@@ -2,6 +2,7 @@
 use Rattle.std.proofs.Common.{◌≡◌, ◌≢◌, ◌∙◌, ℕ, ◌+◌, Bool, cond, true, false, not, ◌||◌, ◌==◌, refl, sym, ap, arith, List, [], ◌∷◌, Option, Some, None, true≢false, length, if◌then◌else◌, is_some, ap₂, map, drop, get_or, drop-cons, add-one, ◌<◌}
 use Rattle.std.specs.List.{list_any, position_or_len}
 use Rattle.std.proofs.lemmas.Bool.{eqb-true}
+use Rattle.qs_cli.specs.Characters.{equals_sign, hyphen}
 use Rattle.qs_cli.specs.Words.{Text, Word, Plain, Assigned, Named, Excluded, Item, option_of, after_hyphen, word_of, put, placed, items_from}
 use Rattle.qs_cli.specs.Reading.{is_shape, waiting_of}
 use Rattle.qs_cli.specs.declared.spelling.Shape.{Shape as CodeShape}
@@ -15,24 +16,24 @@ none_passes p (x ∷ xs) e = go (p x) refl (none_passes p xs)
     go true is ih = let bad : 0 ≡ length (x ∷ xs) = sym (ap (λ b. cond (not b) (1 + position_or_len p xs) 0) is) ∙ e in absurd (omega arith)
     go false is ih = let same : 1 + position_or_len p xs ≡ length (x ∷ xs) = sym (ap (λ b. cond (not b) (1 + position_or_len p xs) 0) is) ∙ e in ih (omega arith)
 
-pub named_shape : (bs : Text) → position_or_len (λ x. x == 61) bs ≡ length bs → (length bs == 0) ≡ false → is_shape shape.Named (option_of bs) ≡ true
+pub named_shape : (bs : Text) → position_or_len (λ x. x == equals_sign) bs ≡ length bs → (length bs == 0) ≡ false → is_shape shape.Named (option_of bs) ≡ true
 named_shape [] e some = absurd (true≢false some)
-named_shape (b ∷ bs) e some = let none = none_passes (λ x. x == 61) (b ∷ bs) e in rw none refl
+named_shape (b ∷ bs) e some = let none = none_passes (λ x. x == equals_sign) (b ∷ bs) e in rw none refl
 
-pub hyphen_shape : (w rest : Text) → w ≡ 45 ∷ rest → ((r : Text) → rest ≢ 45 ∷ r) → is_shape shape.Excluded (word_of w) ≡ true
+pub hyphen_shape : (w rest : Text) → w ≡ hyphen ∷ rest → ((r : Text) → rest ≢ hyphen ∷ r) → is_shape shape.Excluded (word_of w) ≡ true
 hyphen_shape w [] e none = rw e refl
-hyphen_shape w (b ∷ bs) e none = rw e (go (b == 45) refl)
+hyphen_shape w (b ∷ bs) e none = rw e (go (b == hyphen) refl)
   where
-    go : (t : Bool) → (b == 45) ≡ t → is_shape shape.Excluded (if t then option_of bs else Excluded) ≡ true
-    go true is = let same : b ≡ 45 = omega (arith, eqb-true b 45 is) in absurd (none bs (ap (λ x. x ∷ bs) same))
+    go : (t : Bool) → (b == hyphen) ≡ t → is_shape shape.Excluded (if t then option_of bs else Excluded) ≡ true
+    go true is = let same : b ≡ hyphen = omega (arith, eqb-true b hyphen is) in absurd (none bs (ap (λ x. x ∷ bs) same))
     go false is = refl
 
-pub plain_shape : (w : Text) → ((r : Text) → w ≢ 45 ∷ r) → (length w == 0) ≡ false → is_shape shape.Plain (word_of w) ≡ true
+pub plain_shape : (w : Text) → ((r : Text) → w ≢ hyphen ∷ r) → (length w == 0) ≡ false → is_shape shape.Plain (word_of w) ≡ true
 plain_shape [] none some = absurd (true≢false some)
-plain_shape (b ∷ bs) none some = go (b == 45) refl
+plain_shape (b ∷ bs) none some = go (b == hyphen) refl
   where
-    go : (t : Bool) → (b == 45) ≡ t → is_shape shape.Plain (if t then after_hyphen bs else Plain) ≡ true
-    go true is = let same : b ≡ 45 = omega (arith, eqb-true b 45 is) in absurd (none bs (ap (λ x. x ∷ bs) same))
+    go : (t : Bool) → (b == hyphen) ≡ t → is_shape shape.Plain (if t then after_hyphen bs else Plain) ≡ true
+    go true is = let same : b ≡ hyphen = omega (arith, eqb-true b hyphen is) in absurd (none bs (ap (λ x. x ∷ bs) same))
     go false is = refl
 
 put_some : (i : Item) (o : Option (List Item)) → is_some (put i o) ≡ is_some o

@@ -1,8 +1,9 @@
--- Numbers in the words. 44 is `,` and 45 is `-`.
+-- Numbers in the words.
 use Rattle.std.specs.Prelude.{ℕ, ℤ, pos, neg_ℤ, List, [], ◌∷◌, ◌&&◌, ◌==◌, if◌then◌else◌, Option, Some, None, length, nat_le, nat_lt, option_map, option_and_then}
 use Rattle.std.specs.List.{list_all, slice_split}
 use Rattle.std.specs.Str.Parse.{digits_value}
 use Rattle.qs_base.specs.Bytes.{is_digit}
+use Rattle.qs_cli.specs.Characters.{comma, hyphen}
 use Rattle.qs_cli.specs.Words.{Text}
 
 -- 1 to `most` decimal digits
@@ -37,7 +38,7 @@ steps_of (Some text) = option_and_then (within 1 most_steps) (number_of 10 text)
 -- an optional `-` and 1 to 10 digits
 abbrev pub signed_of : Text → Option ℤ
 signed_of [] = None
-signed_of (b ∷ bs) = if b == 45 then option_map (λ n. neg_ℤ (pos n)) (number_of 10 bs) else option_map (λ n. pos n) (number_of 10 (b ∷ bs))
+signed_of (b ∷ bs) = if b == hyphen then option_map (λ n. neg_ℤ (pos n)) (number_of 10 bs) else option_map (λ n. pos n) (number_of 10 (b ∷ bs))
 
 abbrev pub onto : Option ℤ → Option (List ℤ) → Option (List ℤ)
 onto None rest = None
@@ -54,4 +55,4 @@ most_arguments = 8
 -- 1 to so many such numbers with commas between; none where nothing is given
 abbrev pub arguments_of : Option Text → Option (List ℤ)
 arguments_of None = Some []
-arguments_of (Some text) = let parts = slice_split (λ b. b == 44) text in if nat_le (length parts) most_arguments then all_signed_of parts else None
+arguments_of (Some text) = let parts = slice_split (λ b. b == comma) text in if nat_le (length parts) most_arguments then all_signed_of parts else None

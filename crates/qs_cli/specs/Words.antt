@@ -1,7 +1,8 @@
 -- How the words behind a command's name are read: operands and options in any order (the terms are those of
--- POSIX.1-2017, Base Definitions 12.1). 45 is `-` and 61 is `=`.
+-- POSIX.1-2017, Base Definitions 12.1).
 use Rattle.std.specs.Prelude.{ℕ, List, [], ◌∷◌, Bool, true, not, ◌&&◌, ◌||◌, ◌==◌, if◌then◌else◌, Option, Some, None, codes, bytes_eq, map, option_map, option_and_then}
 use Rattle.std.specs.List.{list_any, list_all, before_first, after_first}
+use Rattle.qs_cli.specs.Characters.{equals_sign, hyphen}
 
 abbrev pub Text : Type 0
 Text = List ℕ
@@ -25,18 +26,18 @@ assigned name (b ∷ bs) = Assigned name (b ∷ bs)
 -- the form of `--` and these bytes
 abbrev pub option_of : Text → Word
 option_of [] = Excluded
-option_of (b ∷ bs) = if list_any (λ x. x == 61) (b ∷ bs)
-    then assigned (before_first (λ x. x == 61) (b ∷ bs)) (after_first (λ x. x == 61) (b ∷ bs))
+option_of (b ∷ bs) = if list_any (λ x. x == equals_sign) (b ∷ bs)
+    then assigned (before_first (λ x. x == equals_sign) (b ∷ bs)) (after_first (λ x. x == equals_sign) (b ∷ bs))
     else Named (b ∷ bs)
 
 -- the form of `-` and these bytes
 abbrev pub after_hyphen : Text → Word
 after_hyphen [] = Excluded
-after_hyphen (b ∷ bs) = if b == 45 then option_of bs else Excluded
+after_hyphen (b ∷ bs) = if b == hyphen then option_of bs else Excluded
 
 abbrev pub word_of : Text → Word
 word_of [] = Excluded
-word_of (b ∷ bs) = if b == 45 then after_hyphen bs else Plain
+word_of (b ∷ bs) = if b == hyphen then after_hyphen bs else Plain
 
 -- ---- the items that the words make, in their order
 

@@ -2,18 +2,19 @@
 use Rattle.std.specs.Prelude.{ℕ, Bool, true, false, ◌&&◌, ◌||◌, List, [], ◌∷◌, ◌==◌, if◌then◌else◌}
 use Rattle.std.specs.List.{list_all}
 use Rattle.qs_base.specs.Bytes.{is_between, is_digit, is_word_byte}
+use Rattle.qs_lexer.specs.Characters.{carriage_return, horizontal_tab, period, space}
 
 -- a letter, a digit, `_` or `.`
 abbrev pub is_number_byte : ℕ → Bool
-is_number_byte byte = is_word_byte byte || byte == 46
+is_number_byte byte = is_word_byte byte || byte == period
 
 -- blank or tab
 abbrev pub is_blank : ℕ → Bool
-is_blank byte = byte == 32 || byte == 9
+is_blank byte = byte == space || byte == horizontal_tab
 
 -- blank, tab, 0x0A, 0x0B, 0x0C, 0x0D
 abbrev pub is_space : ℕ → Bool
-is_space byte = byte == 32 || is_between 9 13 byte
+is_space byte = byte == space || is_between horizontal_tab carriage_return byte
 
 abbrev pub is_empty : List ℕ → Bool
 is_empty [] = true

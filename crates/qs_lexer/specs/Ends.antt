@@ -1,6 +1,7 @@
 -- What is read byte by byte up to its end: a comment, a literal.
 use Rattle.std.specs.Prelude.{ℕ, ◌+◌, Bool, true, false, ◌&&◌, List, [], ◌∷◌, ◌==◌, Option, Some, None, if◌then◌else◌}
 use Rattle.qs_lexer.specs.Bytes.{is_empty}
+use Rattle.qs_lexer.specs.Characters.{asterisk, backslash, new_line, slash}
 
 -- The next byte goes on, is the last, or may not stand there. What goes on is a Bool: what the next byte has to know of those before it.
 pub data Turn : Type 0 where
@@ -20,14 +21,14 @@ closes turn state (byte ∷ bytes) = closes_after (turn state byte) (λ next. cl
 
 -- behind `/*` (C11 6.4.9): a `/` right behind a `*` is the last; `starred` says whether a `*` stands right before
 abbrev pub comment_turn : Bool → ℕ → Turn
-comment_turn starred byte = if starred && byte == 47 then Ends else Goes (byte == 42)
+comment_turn starred byte = if starred && byte == slash then Ends else Goes (byte == asterisk)
 
--- behind an opening quote (C11 6.4.4.4, 6.4.5): 0x0A may not stand there, a backslash takes the next byte with it (`taken`), and another quote is the last
+-- behind an opening quote (C11 6.4.4.4, 6.4.5): the line's end may not stand there, a backslash takes the next byte with it (`taken`), and another quote is the last
 abbrev pub quote_turn : ℕ → Bool → ℕ → Turn
 quote_turn quote taken byte =
-    if byte == 10 then Fails
+    if byte == new_line then Fails
     else if taken then Goes false
-    else if byte == 92 then Goes true
+    else if byte == backslash then Goes true
     else if byte == quote then Ends
     else Goes false
 

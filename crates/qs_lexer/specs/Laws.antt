@@ -1,6 +1,7 @@
 -- What holds of the tokens of every text.
 use Rattle.std.specs.Prelude.{◌≡◌, ℕ, ◌-◌, ◌<◌, ◌≤◌, true, List, [], ◌∷◌, length, take, drop, Ok}
 use Rattle.qs_base.specs.Names.{is_name}
+use Rattle.qs_lexer.specs.Characters.{double_quote}
 use Rattle.qs_lexer.specs.Literals.{text_of}
 use Rattle.qs_lexer.specs.Pieces.{Longest, is_quoted, is_token}
 use Rattle.qs_lexer.specs.Tokens.{LexFaultAt, Tokens}
@@ -14,7 +15,7 @@ spelling text token = take (token.end - token.start) (drop token.start text)
 
 -- a text literal: quoted, and each of its elements is a byte
 pub record IsTextLiteral (literal : List ℕ) : Type 0 where
-  pub quoted : is_quoted 34 literal ≡ true
+  pub quoted : is_quoted double_quote literal ≡ true
   pub valid : text_of literal ≡ Ok kinds.Text
 
 -- A token lies in the text and has at least one byte, no more bytes that begin at its start are a token, a name is a name of the language, and a text is a text literal.

@@ -2,6 +2,7 @@
 use Rattle.std.specs.Prelude.{ℕ, zero, suc, ◌+◌, ◌-◌, Bool, true, false, List, [], ◌∷◌, length, take, drop, nat_lt, ◌==◌, if◌then◌else◌, Option, Some, None, option_map, Result, Ok, Err}
 use Rattle.std.specs.List.{find, list_any, prefix_len}
 use Rattle.qs_lexer.specs.Bytes.{starts_with}
+use Rattle.qs_lexer.specs.Characters.{alert, backslash, backspace, carriage_return, double_quote, form_feed, horizontal_tab, lowercase_a, lowercase_b, lowercase_f, lowercase_n, lowercase_r, lowercase_t, lowercase_v, lowercase_x, new_line, question_mark, single_quote, vertical_tab}
 use Rattle.qs_lexer.specs.Numbers.{digit_value, value_of}
 use Rattle.qs_lexer.specs.declared.literals.Element.{Element}
 use Rattle.qs_lexer.specs.declared.literals.Element.TheVariants as item
@@ -15,17 +16,17 @@ use Rattle.qs_syntax.specs.declared.tokens.TokenKind.TheVariants as kinds
 -- `'`, `"`, `?`, `\`, and `a`, `b`, `f`, `n`, `r`, `t`, `v` with the values of C11 5.2.2
 abbrev pub simple_escapes : List (ℕ × ℕ)
 simple_escapes =
-    (39, 39)
-    ∷ (34, 34)
-    ∷ (63, 63)
-    ∷ (92, 92)
-    ∷ (97, 7)
-    ∷ (98, 8)
-    ∷ (102, 12)
-    ∷ (110, 10)
-    ∷ (114, 13)
-    ∷ (116, 9)
-    ∷ (118, 11)
+    (single_quote, single_quote)
+    ∷ (double_quote, double_quote)
+    ∷ (question_mark, question_mark)
+    ∷ (backslash, backslash)
+    ∷ (lowercase_a, alert)
+    ∷ (lowercase_b, backspace)
+    ∷ (lowercase_f, form_feed)
+    ∷ (lowercase_n, new_line)
+    ∷ (lowercase_r, carriage_return)
+    ∷ (lowercase_t, horizontal_tab)
+    ∷ (lowercase_v, vertical_tab)
     ∷ []
 
 unfoldable pub simple_escape : ℕ → Option ℕ
@@ -60,13 +61,13 @@ octal_escape bytes = valued (value_of 8 (take (octal_count bytes) bytes))
 
 abbrev pub escape : List ℕ → Element
 escape bytes =
-    if starts_with 120 bytes then hexadecimal_escape (drop 1 bytes)
+    if starts_with lowercase_x bytes then hexadecimal_escape (drop 1 bytes)
     else if nat_lt 0 (octal_count bytes) then octal_escape bytes
     else simple bytes
 
 abbrev pub escape_length : List ℕ → ℕ
 escape_length bytes =
-    if starts_with 120 bytes then 1 + hexadecimal_count (drop 1 bytes)
+    if starts_with lowercase_x bytes then 1 + hexadecimal_count (drop 1 bytes)
     else if nat_lt 0 (octal_count bytes) then octal_count bytes
     else 1
 
@@ -75,11 +76,11 @@ escape_length bytes =
 -- the first element, and how many bytes it takes: an escape behind a backslash, and each other byte stands for itself
 abbrev pub first_element : List ℕ → Element
 first_element [] = item.Bad
-first_element (byte ∷ bytes) = if byte == 92 then escape bytes else item.Byte byte
+first_element (byte ∷ bytes) = if byte == backslash then escape bytes else item.Byte byte
 
 abbrev pub element_length : List ℕ → ℕ
 element_length [] = 1
-element_length (byte ∷ bytes) = if byte == 92 then 1 + escape_length bytes else 1
+element_length (byte ∷ bytes) = if byte == backslash then 1 + escape_length bytes else 1
 
 -- the elements of bytes, of which the first `taken` belong to the element before
 abbrev pub elements_behind : ℕ → List ℕ → List Element

@@ -3,6 +3,7 @@ use Rattle.std.specs.Prelude.{ℕ, ◌+◌, ◌*◌, ◌-◌, ◌^◌, Bool, tru
 use Rattle.std.specs.List.{list_all}
 use Rattle.qs_base.specs.Bytes.{is_between, is_digit}
 use Rattle.qs_lexer.specs.Bytes.{starts_with}
+use Rattle.qs_lexer.specs.Characters.{digit_zero, lowercase_a, lowercase_f, lowercase_u, lowercase_x, uppercase_a, uppercase_f, uppercase_u, uppercase_x}
 use Rattle.qs_lexer.specs.declared.fault.FaultKind.{FaultKind}
 use Rattle.qs_lexer.specs.declared.fault.FaultKind.TheVariants as faults
 use Rattle.qs_syntax.specs.declared.tokens.TokenKind.{TokenKind}
@@ -10,7 +11,11 @@ use Rattle.qs_syntax.specs.declared.tokens.TokenKind.TheVariants as kinds
 
 -- the value of a digit, `a` to `f` and `A` to `F` among them; 16, which is the value of none, for another byte
 abbrev pub digit_value : ℕ → ℕ
-digit_value byte = if is_digit byte then byte - 48 else if is_between 97 102 byte then byte - 87 else if is_between 65 70 byte then byte - 55 else 16
+digit_value byte =
+    if is_digit byte then byte - digit_zero
+    else if is_between lowercase_a lowercase_f byte then byte - (lowercase_a - 10)
+    else if is_between uppercase_a uppercase_f byte then byte - (uppercase_a - 10)
+    else 16
 
 abbrev pub are_digits : ℕ → List ℕ → Bool
 are_digits base bytes = list_all (λ byte. nat_lt (digit_value byte) base) bytes
@@ -26,7 +31,7 @@ value_of base digits = value_from base 0 digits
 -- ---- the parts of a literal
 
 abbrev pub has_suffix : List ℕ → Bool
-has_suffix literal = slice_index literal (length literal - 1) == 117 || slice_index literal (length literal - 1) == 85
+has_suffix literal = slice_index literal (length literal - 1) == lowercase_u || slice_index literal (length literal - 1) == uppercase_u
 
 abbrev pub without_suffix : List ℕ → List ℕ
 without_suffix literal = if has_suffix literal then take (length literal - 1) literal else literal
@@ -34,10 +39,10 @@ without_suffix literal = if has_suffix literal then take (length literal - 1) li
 -- it begins with `0x` or `0X`
 abbrev pub is_hexadecimal : List ℕ → Bool
 is_hexadecimal [] = false
-is_hexadecimal (byte ∷ bytes) = byte == 48 && (starts_with 120 bytes || starts_with 88 bytes)
+is_hexadecimal (byte ∷ bytes) = byte == digit_zero && (starts_with lowercase_x bytes || starts_with uppercase_x bytes)
 
 abbrev pub base_of : List ℕ → ℕ
-base_of literal = if is_hexadecimal literal then 16 else if starts_with 48 literal then 8 else 10
+base_of literal = if is_hexadecimal literal then 16 else if starts_with digit_zero literal then 8 else 10
 
 abbrev pub digits_of : List ℕ → List ℕ
 digits_of literal = if is_hexadecimal literal then drop 2 literal else literal

@@ -4,6 +4,7 @@ use Rattle.std.specs.List.{list_all}
 use Rattle.qs_base.specs.Bytes.{is_digit, is_in_line, is_letter}
 use Rattle.qs_base.specs.Names.{is_word}
 use Rattle.qs_lexer.specs.Bytes.{blanks_then_digit, first_then, is_blank, is_empty, is_number_byte, is_space, starts, starts_with}
+use Rattle.qs_lexer.specs.Characters.{asterisk, double_quote, new_line, number_sign, single_quote, slash}
 use Rattle.qs_lexer.specs.Ends.{closes, comment_turn, quote_turn}
 use Rattle.qs_lexer.specs.Literals.{character_of, text_of}
 use Rattle.qs_lexer.specs.Numbers.{number_of}
@@ -23,13 +24,13 @@ use Rattle.qs_syntax.specs.declared.tokens.TokenKind.{TokenKind}
 abbrev pub class_with : Bool → ℕ → List ℕ → Class
 class_with fresh first others =
     if is_space first then Space
-    else if first == 47 && starts_with 47 others then LineComment
-    else if first == 47 && starts_with 42 others then BlockComment
-    else if fresh && first == 35 then LineMarker
+    else if first == slash && starts_with slash others then LineComment
+    else if first == slash && starts_with asterisk others then BlockComment
+    else if fresh && first == number_sign then LineMarker
     else if is_letter first then Word
     else if is_digit first then Number
-    else if first == 39 then Character
-    else if first == 34 then Text
+    else if first == single_quote then Character
+    else if first == double_quote then Text
     else Other
 
 abbrev pub class_of : Bool → List ℕ → Class
@@ -43,15 +44,15 @@ is_one_space bytes = starts is_space bytes && is_empty (drop 1 bytes)
 
 -- `//` up to the line's end (C11 6.4.9)
 abbrev pub is_line_comment : List ℕ → Bool
-is_line_comment bytes = starts_with 47 bytes && starts_with 47 (drop 1 bytes) && list_all is_in_line bytes
+is_line_comment bytes = starts_with slash bytes && starts_with slash (drop 1 bytes) && list_all is_in_line bytes
 
 -- `/*` up to the first `*/` (C11 6.4.9)
 abbrev pub is_block_comment : List ℕ → Bool
-is_block_comment bytes = starts_with 47 bytes && starts_with 42 (drop 1 bytes) && closes comment_turn false (drop 2 bytes)
+is_block_comment bytes = starts_with slash bytes && starts_with asterisk (drop 1 bytes) && closes comment_turn false (drop 2 bytes)
 
 -- `#`, blanks or tabs, a digit, and all up to the line's end
 abbrev pub is_line_marker : List ℕ → Bool
-is_line_marker bytes = starts_with 35 bytes && blanks_then_digit (drop 1 bytes) && list_all is_in_line bytes
+is_line_marker bytes = starts_with number_sign bytes && blanks_then_digit (drop 1 bytes) && list_all is_in_line bytes
 
 abbrev pub is_number : List ℕ → Bool
 is_number bytes = first_then is_digit is_number_byte bytes
@@ -71,13 +72,13 @@ has_form BlockComment bytes = is_block_comment bytes
 has_form LineMarker bytes = is_line_marker bytes
 has_form Word bytes = is_word bytes
 has_form Number bytes = is_number bytes
-has_form Character bytes = is_quoted 39 bytes
-has_form Text bytes = is_quoted 34 bytes
+has_form Character bytes = is_quoted single_quote bytes
+has_form Text bytes = is_quoted double_quote bytes
 has_form Other bytes = is_punctuator bytes
 
 -- the bytes of a token, whatever its class
 abbrev pub is_token : List ℕ → Bool
-is_token bytes = is_word bytes || is_number bytes || is_quoted 39 bytes || is_quoted 34 bytes || is_punctuator bytes
+is_token bytes = is_word bytes || is_number bytes || is_quoted single_quote bytes || is_quoted double_quote bytes || is_punctuator bytes
 
 -- ---- what the bytes of a form are
 
@@ -87,7 +88,7 @@ token_or_fault n (Err fault) = pieces.Fault fault
 
 -- whether what follows a byte of white space is fresh
 abbrev pub still_fresh : Bool → List ℕ → Bool
-still_fresh fresh bytes = starts_with 10 bytes || (fresh && starts is_blank bytes)
+still_fresh fresh bytes = starts_with new_line bytes || (fresh && starts is_blank bytes)
 
 abbrev pub piece_of : Bool → Class → List ℕ → Piece
 piece_of fresh End bytes = pieces.End

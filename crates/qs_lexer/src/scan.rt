@@ -2,6 +2,8 @@
 ghost use Rattle.std.specs.Prelude.{◌≡◌, Bool, [], ◌∷◌, true};
 ghost use Rattle.qs_base.specs.Bytes.{is_digit, is_letter};
 ghost use Rattle.qs_lexer.specs.Bytes.{is_space, starts, starts_with};
+ghost use Rattle.qs_lexer.specs.Characters.{asterisk, double_quote, number_sign};
+ghost use Rattle.qs_lexer.specs.Characters.{single_quote, slash};
 ghost use Rattle.qs_lexer.specs.Scan.{Opens, punctuator_front};
 ghost use Rattle.qs_lexer.specs.Pieces.{Next, Stands, still_fresh, token_or_fault};
 ghost use Rattle.qs_lexer.specs.declared.pieces.Class.TheVariants as class;
@@ -42,14 +44,14 @@ fn space(fresh: bool, rest: &[u8]) -> Piece
 }
 
 fn line_comment(rest: &[u8]) -> Piece
-    requires { Opens 47 47 rest.now }
+    requires { Opens slash slash rest.now }
     ensures { (fresh : Bool) → Stands fresh class.LineComment rest.now result }
 {
     Piece::White(line_length(rest), false)
 }
 
 fn block_comment(rest: &[u8]) -> Piece
-    requires { Opens 47 42 rest.now }
+    requires { Opens slash asterisk rest.now }
     ensures { (fresh : Bool) → Stands fresh class.BlockComment rest.now result }
 {
     let (_, body) = rest.split_at(2);
@@ -60,7 +62,7 @@ fn block_comment(rest: &[u8]) -> Piece
 }
 
 fn line_marker(rest: &[u8]) -> Piece
-    requires { starts_with 35 rest.now ≡ true }
+    requires { starts_with number_sign rest.now ≡ true }
     ensures { (fresh : Bool) → Stands fresh class.LineMarker rest.now result }
 {
     let (_, behind) = rest.split_at(1);
@@ -88,7 +90,7 @@ fn number(rest: &[u8]) -> Piece
 }
 
 fn character(rest: &[u8]) -> Piece
-    requires { starts_with 39 rest.now ≡ true }
+    requires { starts_with single_quote rest.now ≡ true }
     ensures { (fresh : Bool) → Stands fresh class.Character rest.now result }
 {
     let (_, behind) = rest.split_at(1);
@@ -102,7 +104,7 @@ fn character(rest: &[u8]) -> Piece
 }
 
 fn text(rest: &[u8]) -> Piece
-    requires { starts_with 34 rest.now ≡ true }
+    requires { starts_with double_quote rest.now ≡ true }
     ensures { (fresh : Bool) → Stands fresh class.Text rest.now result }
 {
     let (_, behind) = rest.split_at(1);

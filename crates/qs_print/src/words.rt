@@ -1,5 +1,6 @@
 // Writes single terminals, each with a blank behind it.
 ghost use Rattle.std.specs.Prelude.{◌≡◌, ◌++◌, [], ◌∷◌, OnOk};
+ghost use Rattle.qs_lexer.specs.Characters.{space};
 ghost use Rattle.qs_print.specs.Printed.{comma_unless};
 ghost use Rattle.qs_print.specs.Words.{Puts};
 ghost use Rattle.qs_syntax.specs.declared.terminal.Terminal.TheVariants as terminals;
@@ -8,7 +9,7 @@ use qs_base::{Name, NoMemory};
 use qs_syntax::{Keyword, Punctuator};
 
 fn put_word(out: &mut Vec<u8>, spelling: &[u8]) -> Result<(), NoMemory>
-    ensures { OnOk result (out.new.items ≡ out.old.items ++ (spelling.now ++ 32 ∷ [])) }
+    ensures { OnOk result (out.new.items ≡ out.old.items ++ (spelling.now ++ space ∷ [])) }
 {
     out.extend_from_slice(spelling)?;
     out.push(b' ')?;

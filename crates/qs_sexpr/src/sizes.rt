@@ -27,7 +27,7 @@ fn natural_size(value: u64) -> usize
     digits.format(value).len()
 }
 
-fn taken(left: &mut Vec<usize>) -> usize
+fn take_size(left: &mut Vec<usize>) -> usize
     ensures value { result ≡ first_of (reverse left.old.items) }
     ensures left { reverse left.new.items ≡ others_of (reverse left.old.items) }
 {
@@ -41,7 +41,7 @@ fn taken(left: &mut Vec<usize>) -> usize
 fn add(left: &mut Vec<usize>, size: usize) -> Result<(), NoMemory>
     ensures { IfOk result (λ _. AddsSize size left.old.items left.new.items) }
 {
-    let others = taken(left);
+    let others = take_size(left);
     let sum = size.min(WIDE) + 1 + others.min(WIDE);
     left.push(sum.min(WIDE))?;
     Ok(())
@@ -63,7 +63,7 @@ fn put_token(
 {
     match token {
         Token::Open => {
-            let size = list_size(taken(left));
+            let size = list_size(take_size(left));
             found.push(size)?;
             add(left, size)
         }

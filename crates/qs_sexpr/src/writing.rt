@@ -53,7 +53,7 @@ fn put_gap(text: &mut Vec<u8>, gap: Gap) -> Result<(), NoMemory>
     }
 }
 
-fn taken(sizes: &mut Vec<usize>) -> usize
+fn take_size(sizes: &mut Vec<usize>) -> usize
     ensures value { result ≡ first_of (reverse sizes.old.items) }
     ensures left { reverse sizes.new.items ≡ others_of (reverse sizes.old.items) }
 {
@@ -63,7 +63,7 @@ fn taken(sizes: &mut Vec<usize>) -> usize
     }
 }
 
-fn layer_behind(outer: &mut Vec<Layer>) -> Layer
+fn take_layer(outer: &mut Vec<Layer>) -> Layer
     ensures layer { result ≡ layer_of (reverse outer.old.items) }
     ensures left { reverse outer.new.items ≡ layers_behind (reverse outer.old.items) }
 {
@@ -90,7 +90,7 @@ impl Page {
         put_gap(&mut self.text, self.layer.before(false, 0))?;
         put(&mut self.text, b"(")?;
         self.outer.push(self.layer.behind(false, 0))?;
-        self.layer = self.layer.inside(taken(&mut self.sizes));
+        self.layer = self.layer.inside(take_size(&mut self.sizes));
         Ok(())
     }
 
@@ -99,7 +99,7 @@ impl Page {
     {
         put_gap(&mut self.text, self.layer.ending())?;
         put(&mut self.text, b")")?;
-        self.layer = layer_behind(&mut self.outer);
+        self.layer = take_layer(&mut self.outer);
         put_gap(&mut self.text, self.layer.line_end())
     }
 

@@ -1,13 +1,14 @@
 -- The tests of sameness tell equality.
-use Rattle.std.proofs.Common.{◌≡◌, ℕ, ℤ, refl, ap, ◌∙◌, sym, Bool, true, false, List, [], ◌∷◌, ◌↔◌}
+use Rattle.std.proofs.Common.{◌≡◌, ℕ, ℤ, refl, ap, ◌∙◌, sym, Bool, true, false, List, [], ◌∷◌, ◌↔◌, Decides}
 use Rattle.std.specs.Prelude.{◌==◌, ◌&&◌, IsTrue}
 use Rattle.std.specs.Ordering.{int_eq}
 use Rattle.std.proofs.lemmas.Bool.{eqb-true, eq-eqb}
 use Rattle.std.proofs.lemmas.Bool.Decides.{Decides-int_eq}
+use Rattle.qs_base.proofs.Variants.{variants_exact}
 use Rattle.qs_assert.specs.declared.variable.VarKind.{VarKind}
 use Rattle.qs_assert.specs.declared.variable.VarKind.TheVariants.{Plain, Temporary, Old, Returned}
 use Rattle.qs_assert.specs.declared.variable.NumberType.{NumberType}
-use Rattle.qs_assert.specs.declared.variable.NumberType.TheVariants.{Int, Unsigned, Char}
+use Rattle.qs_assert.specs.contracts.variable.NumberType.{the_type}
 use Rattle.qs_assert.specs.declared.variable.Var.{Var}
 use Rattle.qs_assert.specs.declared.node.TermNode.{TermNode}
 use Rattle.qs_assert.specs.declared.node.TermNode.TheVariants.{Number, Variable, Add, Sub, Mul, Div, WrapUnsigned, WrapSigned, Bits}
@@ -60,16 +61,14 @@ kind_self (Temporary i) = eq-eqb i i refl
 kind_self (Old i) = eq-eqb i i refl
 kind_self Returned = refl
 
-number_type_equal : (a b : NumberType) → same_number_type a b ≡ true → a ≡ b
-number_type_equal Int Int h = refl
-number_type_equal Unsigned Unsigned h = refl
-number_type_equal Char Char h = refl
-number_type_equal _ _ h = absurd (cc)
+number_type_exact : (a b : NumberType) → Decides (same_number_type a b) (a ≡ b)
+number_type_exact a b = variants_exact the_type tt a b
 
-number_type_self : (a : NumberType) → same_number_type a a ≡ true
-number_type_self Int = refl
-number_type_self Unsigned = refl
-number_type_self Char = refl
+pub number_type_equal : (a b : NumberType) → same_number_type a b ≡ true → a ≡ b
+number_type_equal a b h = (number_type_exact a b).0 h
+
+pub number_type_self : (a : NumberType) → same_number_type a a ≡ true
+number_type_self a = (number_type_exact a a).1 refl
 
 pub variable_equal : (x y : Var) → same_variable x y ≡ true → x ≡ y
 variable_equal x y h =

@@ -1,9 +1,10 @@
 -- Variables are replaced by terms.
 use Rattle.std.specs.Prelude.{◌≡◌, ◌==◌, ◌&&◌, ℤ, Bool, true, false, if◌then◌else◌}
+use denote.Enum.Bare.{sameb}
+use Rattle.qs_assert.specs.contracts.variable.NumberType.{the_type}
 use Rattle.qs_assert.specs.declared.variable.VarKind.{VarKind}
 use Rattle.qs_assert.specs.declared.variable.VarKind.TheVariants.{Plain, Temporary, Old, Returned}
 use Rattle.qs_assert.specs.declared.variable.NumberType.{NumberType}
-use Rattle.qs_assert.specs.declared.variable.NumberType.TheVariants.{Int, Unsigned, Char}
 use Rattle.qs_assert.specs.declared.variable.Var.{Var}
 use Rattle.qs_assert.specs.Images.{Images, assertion_image}
 use Rattle.qs_assert.specs.Trees.{TermTree, variable, AssertionTree}
@@ -19,10 +20,7 @@ same_kind _ _ = false
 
 -- the same integer type
 abbrev pub same_number_type : NumberType → NumberType → Bool
-same_number_type Int Int = true
-same_number_type Unsigned Unsigned = true
-same_number_type Char Char = true
-same_number_type _ _ = false
+same_number_type = sameb the_type
 
 -- the same variable, at the same type
 abbrev pub same_variable : Var → Var → Bool

@@ -24,12 +24,7 @@ impl NumberType {
     pub fn same(self, other: NumberType) -> bool
         ensures { result ≡ same_number_type self other }
     {
-        match (self, other) {
-            (NumberType::Int, NumberType::Int) => true,
-            (NumberType::Unsigned, NumberType::Unsigned) => true,
-            (NumberType::Char, NumberType::Char) => true,
-            _ => false,
-        }
+        self == other
     }
 }
 

@@ -11,7 +11,7 @@ ghost use Rattle.qs_entail.specs.Stacks.{step_assertion, step_node, none_first};
 
 use crate::operation::{Operation, limited};
 pub use crate::operation::{atom_of, difference, number_of, times_number};
-use crate::stack::{Built, Head, joined, kept, on_both, on_one, taken, told};
+use crate::stack::{Built, Head, kept, on_both, on_one, take_first, take_joined, told};
 use crate::stop::Stop;
 use qs_assert::stack::{cut, put};
 use qs_assert::{AssertionNode, AssertionView, CondNode, Node, Term, TermNode, Var};
@@ -43,8 +43,8 @@ fn put_variable(alloc: Global, stack: &mut Vec<Built>, x: Var) -> Result<(), NoM
 fn put_difference(alloc: Global, stack: &mut Vec<Built>) -> Result<(), NoMemory>
     ensures { Changes (step_term TermNode.Sub) stack.old.items stack.new.items result }
 {
-    let a = taken(stack);
-    let b = taken(stack);
+    let a = take_first(stack);
+    let b = take_first(stack);
     let item = on_both(alloc, Operation::Difference, &a, &b)?;
     put(stack, item)
 }
@@ -52,21 +52,21 @@ fn put_difference(alloc: Global, stack: &mut Vec<Built>) -> Result<(), NoMemory>
 fn put_sum(alloc: Global, stack: &mut Vec<Built>, count: usize) -> Result<(), NoMemory>
     ensures { Changes (sum_step count) stack.old.items stack.new.items result }
 {
-    let item = joined(alloc, Operation::Sum, 0, count, stack)?;
+    let item = take_joined(alloc, Operation::Sum, 0, count, stack)?;
     put(stack, item)
 }
 
 fn put_product(alloc: Global, stack: &mut Vec<Built>, count: usize) -> Result<(), NoMemory>
     ensures { Changes (product_step count) stack.old.items stack.new.items result }
 {
-    let item = joined(alloc, Operation::Product, 1, count, stack)?;
+    let item = take_joined(alloc, Operation::Product, 1, count, stack)?;
     put(stack, item)
 }
 
 fn put_on_one(alloc: Global, stack: &mut Vec<Built>, head: Head) -> Result<(), NoMemory>
     ensures { Changes (head_step head) stack.old.items stack.new.items result }
 {
-    let part = taken(stack);
+    let part = take_first(stack);
     let item = on_one(alloc, head, part)?;
     put(stack, item)
 }
@@ -98,15 +98,15 @@ pub fn term_polynomial(alloc: Global, t: &Term) -> Result<Poly, Stop>
         at -= 1;
         step_term(alloc, &mut stack, nodes[at])?;
     }
-    told(taken(&mut stack))
+    told(take_first(&mut stack))
 }
 
 /// Takes two items off.
 fn drop_two(stack: &mut Vec<Built>)
     ensures { seen stack.new.items ≡ others (others (seen stack.old.items)) }
 {
-    let _first = taken(stack);
-    let _second = taken(stack);
+    let _first = take_first(stack);
+    let _second = take_first(stack);
 }
 
 impl Building {
@@ -141,7 +141,7 @@ impl Building {
     fn put_num(&mut self, alloc: Global) -> Result<(), NoMemory>
         ensures { Steps (step_assertion AssertionNode.Num) self.old self.new result }
     {
-        let part = taken(&mut self.terms);
+        let part = take_first(&mut self.terms);
         let item = on_one(alloc, Head::Num, part)?;
         put(&mut self.assertions, item)
     }
@@ -200,5 +200,5 @@ pub fn assertion_polynomial(alloc: Global, a: &AssertionView<'_>) -> Result<Poly
         at -= 1;
         building.step(alloc, &nodes[at])?;
     }
-    told(taken(&mut building.assertions))
+    told(take_first(&mut building.assertions))
 }

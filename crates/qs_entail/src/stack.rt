@@ -56,7 +56,7 @@ pub fn told(built: Built) -> Result<Poly, Stop>
 
 /// Takes the first item off, or a broken one where there is none.
 #[tactic(auto, using(qs_assert::proofs::StackViewLaws::mapped_first, qs_assert::proofs::StackViewLaws::mapped_others))]
-pub fn taken(stack: &mut Vec<Built>) -> Built
+pub fn take_first(stack: &mut Vec<Built>) -> Built
     ensures value { attempt_of result ≡ first (seen stack.old.items) }
     ensures left { seen stack.new.items ≡ others (seen stack.old.items) }
 {
@@ -105,7 +105,7 @@ pub fn on_one(alloc: Global, head: Head, a: Built) -> Result<Built, NoMemory>
 }
 
 /// Takes the first items off, and joins them to a number from left to right.
-pub fn joined(
+pub fn take_joined(
     alloc: Global,
     operation: Operation,
     start: i64,
@@ -119,7 +119,7 @@ pub fn joined(
     let mut left = count;
     while left > 0 {
         left -= 1;
-        let item = taken(stack);
+        let item = take_first(stack);
         so_far = on_both(alloc, operation, &so_far, &item)?;
     }
     Ok(so_far)

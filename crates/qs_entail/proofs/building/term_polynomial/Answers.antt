@@ -10,5 +10,5 @@ returns c =
     let stopped = c.loop-at-test.false in
     let at_start : c.loop-at.at ≡ 0 = omega arith in
     let whole = ap (λ i. term_steps (drop i c.nodes-nodes.result.now) []) at_start ∙ ap (λ xs. term_steps xs []) c.nodes-nodes.ensures ∙ term_read c.args.t.now [] in
-    let e : attempt_of c.taken.result ≡ building.term_polynomial c.args.t.now = c.taken.ensures.value ∙ ap first (c.loop-at.invariant.values ∙ whole) in
+    let e : attempt_of c.take_first.result ≡ building.term_polynomial c.args.t.now = c.take_first.ensures.value ∙ ap first (c.loop-at.invariant.values ∙ whole) in
     subst (λ a. Follows c.told.result a) e c.told.ensures

@@ -2,7 +2,7 @@ use Rattle.std.proofs.Common.{◌≡◌, drop}
 use Rattle.qs_poly.specs.Operations as operations
 use Rattle.qs_entail.specs.Building as building
 use Rattle.qs_entail.specs.Stacks.{attempt_of, seen, joined}
-use Rattle.qs_entail.proofs.stack.joined.Given as goal
+use Rattle.qs_entail.proofs.stack.take_joined.Given as goal
 
 abbrev pub invariant-loop-left : goal.invariant-loop-left
 invariant-loop-left l = record {

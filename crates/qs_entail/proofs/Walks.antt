@@ -2,8 +2,7 @@
 use Rattle.std.proofs.Common.{◌≡◌, ◌<◌, ◌+◌, ℕ, suc, drop, length, get_or, add-one, List, ◌∷◌, refl, sym, ap, ◌∙◌, subst, append-nil}
 use Rattle.std.specs.Option.{option_or}
 use Rattle.std.proofs.Math.Seq.{drop-cons}
-use Rattle.qs_poly.specs.Polynomials.{Polynomial}
-use Rattle.std.specs.Prelude.{Box, Option, Some, None, Result, Ok, Err}
+use Rattle.std.specs.Prelude.{Box, Option, Some, None, Result, Ok, Err, IfOk, OnOk}
 use Rattle.std.specs.declared.alloc.Global.{Global}
 use Rattle.qs_assert.specs.declared.tree.Assertion.{Assertion}
 use Rattle.qs_entail.specs.declared.certificate.Certificate.{Certificate, Certificate-F, fold-roll-Certificate}
@@ -20,13 +19,14 @@ use Rattle.qs_entail.specs.declared.stop.Stop.{Stop}
 use Rattle.qs_entail.specs.declared.stop.Stop.TheVariants.{NoMemory, Breaks, Passes}
 use Rattle.qs_entail.specs.declared.failed.Failed.{Failed}
 use Rattle.qs_entail.specs.declared.failed.Failed.TheVariants as failures
-use Rattle.qs_entail.specs.Answers.{Follows}
+use Rattle.qs_entail.specs.Answers.{Follows, FollowsAs}
 use Rattle.qs_base.specs.Results.{bind}
 use Rattle.qs_entail.specs.Building as building
-use Rattle.qs_entail.specs.Faults.{CertFault, step, limit, node, part, Guarded}
+use Rattle.qs_entail.specs.Faults.{CertFault, step, limit, node, part, done, Guarded}
 use Rattle.qs_entail.specs.Verdicts.{fault, faults_all, faults_parts}
-use Rattle.qs_entail.specs.Pushing.{Known, with_polynomials}
-use Rattle.qs_entail.specs.Walking.{Place, Says, settled}
+use Rattle.qs_entail.specs.Pushing.{Known}
+use Rattle.qs_entail.specs.Walking.{Place, Says, cut, settled}
+use Rattle.qs_entail.specs.declared.walk.Mark.{Mark}
 
 -- a node without parts
 pub says_settled : (w : Place) (rule : Rule) (r : Result (Unit {0}) Stop) (attempt : Result (Unit {0}) building.Stop) → Follows r attempt → Says w w (settled rule r) (node rule attempt (λ _. None))
@@ -97,12 +97,52 @@ drop_ok old mid new x r rule a b g h s j =
     let e = said_none old mid x (node rule a (λ z. node rule (b z) g)) s in
     drop_at old new x r rule a b g (λ z. h z old.known) (subst (λ (w : Place). Says old w (Ok x) (node rule a (λ z. node rule (b z) g))) e s) (subst (λ (w : Place). Says w new r (node rule a (λ z. h z w.known))) e j)
 
--- a fact, and then its part
-pub fact_given : (old mid new : Place) (r : Result (Unit {0}) Failed) (rule : Rule) (a : Result (List Polynomial) building.Stop) (k k' : Known) (f : Known → Option CertFault) → bind a (λ ps. Ok (with_polynomials ps k)) ≡ Ok k' → mid ≡ old → Says mid new r (f k') → Says old new r (node rule a (λ ps. f (with_polynomials ps k)))
-fact_given old mid new r rule (Ok ps) k k' f e b h =
-    let same : with_polynomials ps k ≡ k' = cc in
-    subst (λ (w : Place). Says w new r (f (with_polynomials ps k))) b (subst (λ (l : Known). Says mid new r (f l)) (sym same) h)
-fact_given old mid new r rule (Err failure) k k' f e b h = cc
+-- ---- a step of the node's rule, and then its part
+
+-- the step gave nothing
+pub says_failed : {A B : Type 0} (old new : Place) (rule : Rule) (r : Result A Stop) (failed : Failed) (view : A → B) (attempt : Result B building.Stop) (others : B → Option CertFault) → Err failed ≡ settled rule r → FollowsAs view r attempt → new.path ≡ old.path → Says old new (Err failed) (node rule attempt others)
+says_failed old new rule (Ok a) failed view attempt others e h same = cc
+says_failed old new rule (Err NoMemory) failed view attempt others e h same =
+    let is : failed ≡ failures.NoMemory = cc in
+    subst (λ (f : Failed). Says old new (Err f) (node rule attempt others)) (sym is) tt
+says_failed old new rule (Err Breaks) failed view attempt others e h same =
+    let is : failed ≡ failures.Step rule = cc in
+    subst (λ (f : Failed). Says old new (Err f) (node rule attempt others)) (sym is)
+    (subst (λ a. Says old new (Err (failures.Step rule)) (node rule a others)) (sym h) (refl, same ∙ sym (append-nil old.path)))
+says_failed old new rule (Err (Passes l)) failed view attempt others e h same =
+    let is : failed ≡ failures.Limit l = cc in
+    subst (λ (f : Failed). Says old new (Err f) (node rule attempt others)) (sym is)
+    (subst (λ a. Says old new (Err (failures.Limit l)) (node rule a others)) (sym h) (refl, same ∙ sym (append-nil old.path)))
+
+-- what was known before the step is known again at its mark
+pub says_at_mark : (old mid new : Place) (rule : Rule) (r : Result Mark Stop) (mark : Mark) (result : Result (Unit {0}) Failed) (known : Known) (attempt : Result Known building.Stop) (others : Known → Option CertFault) → Ok mark ≡ settled rule r → FollowsAs (λ _. known) r attempt → IfOk r (λ m. cut m mid ≡ old) → Says (cut mark mid) new result (others known) → Says old new result (node rule attempt others)
+says_at_mark old mid new rule (Ok m) mark result known attempt others e h back says =
+    let same : mark ≡ m = cc in
+    let there : cut mark mid ≡ old = ap (λ (n : Mark). cut n mid) same ∙ back in
+    subst (λ t. Says old new result (node rule t others)) (sym h) (subst (λ (w : Place). Says w new result (others known)) there says)
+says_at_mark old mid new rule (Err stop) mark result known attempt others e h back says = cc
+
+-- the part by what is made of the step's outcome
+pub node_onto : {A B : Type 0} (rule : Rule) (a : Result A building.Stop) (made : A → B) (others : B → Option CertFault) → node rule (bind a (λ x. Ok (made x))) others ≡ node rule a (λ x. others (made x))
+node_onto rule (Ok x) made others = refl
+node_onto rule (Err stop) made others = refl
+
+-- a condition and its negation were tried
+pub tried_failed : (old new : Place) (rule : Rule) (r : Result (Unit {0}) Stop) (failed : Failed) (a b : Result Known building.Stop) (f : Known → Option CertFault) → Err failed ≡ settled rule r → Follows r (bind a (λ _. bind b (λ _. done))) → new.path ≡ old.path → Says old new (Err failed) (node rule a (λ k. node rule b (λ _. f k)))
+tried_failed old new rule r failed (Ok k) (Ok l) f e h same = says_failed old new rule r failed (λ u. u) done (λ _. f k) e h same
+tried_failed old new rule r failed (Ok k) (Err stop) f e h same = says_failed old new rule r failed (λ u. u) (Err stop) (λ _. f k) e h same
+tried_failed old new rule r failed (Err stop) b f e h same = says_failed old new rule r failed (λ u. u) (Err stop) (λ _. None) e h same
+
+both_pushed : (rule : Rule) (u : Unit {0}) (a b : Result Known building.Stop) (f : Known → Option CertFault) → bind a (λ _. bind b (λ _. done)) ≡ Ok u → node rule a f ≡ node rule a (λ k. node rule b (λ _. f k))
+both_pushed rule u (Ok k) (Ok l) f h = refl
+both_pushed rule u (Ok k) (Err stop) f h = cc
+both_pushed rule u (Err stop) b f h = refl
+
+pub says_tried : (old mid new : Place) (rule : Rule) (r : Result (Unit {0}) Stop) (u : Unit {0}) (result : Result (Unit {0}) Failed) (a : Known → Result Known building.Stop) (b : Result Known building.Stop) (f : Known → Option CertFault) → Ok u ≡ settled rule r → Follows r (bind (a old.known) (λ _. bind b (λ _. done))) → OnOk r (mid ≡ old) → Says mid new result (node rule (a mid.known) f) → Says old new result (node rule (a old.known) (λ k. node rule b (λ _. f k)))
+says_tried old mid new rule (Ok v) u result a b f e h back says =
+    subst (λ o. Says old new result o) (both_pushed rule v (a old.known) b f h)
+    (subst (λ (w : Place). Says w new result (node rule (a w.known) f)) back says)
+says_tried old mid new rule (Err stop) u result a b f e h back says = cc
 
 -- ---- part by part
 

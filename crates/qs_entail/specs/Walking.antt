@@ -47,8 +47,8 @@ failure_of rule NoMemory = failures.NoMemory
 failure_of rule Breaks = failures.Step rule
 failure_of rule (Passes l) = failures.Limit l
 
-abbrev pub settled : Rule → Result (Unit {0}) Stop → Result (Unit {0}) Failed
-settled rule (Ok u) = Ok u
+abbrev pub settled : {A : Type 0} → Rule → Result A Stop → Result A Failed
+settled rule (Ok a) = Ok a
 settled rule (Err stop) = Err (failure_of rule stop)
 
 -- The answer is the verdict: without a fault the walk is again where it was, else its path goes on to the

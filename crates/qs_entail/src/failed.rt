@@ -46,12 +46,12 @@ pub fn failure(rule: Rule, stop: Stop) -> Failed
     }
 }
 
-/// The answer of a node without parts.
-pub fn settle(rule: Rule, outcome: Result<(), Stop>) -> Result<(), Failed>
+/// What a step of this rule gave.
+pub fn settle<T>(rule: Rule, outcome: Result<T, Stop>) -> Result<T, Failed>
     ensures { result ≡ settled rule outcome }
 {
     match outcome {
-        Ok(()) => Ok(()),
+        Ok(given) => Ok(given),
         Err(stop) => Err(failure(rule, stop)),
     }
 }

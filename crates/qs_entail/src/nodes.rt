@@ -9,7 +9,7 @@ ghost use Rattle.qs_entail.specs.Checking.{ChecksBy, ChecksFact};
 
 use crate::branches::branch;
 use crate::certificate::{Certificate, Fact};
-use crate::failed::{Failed, failure};
+use crate::failed::{Failed, settle};
 use crate::fault::Rule;
 use crate::parts::{Guarded, guarded_of, members, picked, summands};
 use crate::rules::{both_unfolded, ends, part_number};
@@ -248,10 +248,8 @@ impl Walk {
     ) -> Result<(), Failed>
         ensures { ChecksGuarded part.now defines.now guarded.now q.now self.old self.new result }
     {
-        match self.push(&guarded.condition, false) {
-            Ok(mark) => self.check_until(mark, defines, 0, part, &guarded.body, q),
-            Err(stop) => Err(failure(Rule::Assume, stop)),
-        }
+        let mark = settle(Rule::Assume, self.push(&guarded.condition, false))?;
+        self.check_until(mark, defines, 0, part, &guarded.body, q)
     }
 
     /// Checks that the condition of a guard holds, since 0 would else be at least infinity.
@@ -280,10 +278,8 @@ impl Walk {
         ensures { ChecksRefuted condition.now part.now defines.now self.old self.new result }
     {
         let (zero, infinity) = ends(self.alloc)?;
-        match self.push(condition, true) {
-            Ok(mark) => { self.check_until(mark, defines, 0, part, &zero.view(), &infinity.view()) }
-            Err(stop) => Err(failure(Rule::DropGuard, stop)),
-        }
+        let mark = settle(Rule::DropGuard, self.push(condition, true))?;
+        self.check_until(mark, defines, 0, part, &zero.view(), &infinity.view())
     }
 
     /// Checks a part for the body of a guard.
@@ -315,10 +311,8 @@ impl Walk {
     ) -> Result<(), Failed>
         ensures { ChecksFirst b.now part.now defines.now p.now q.now self.old self.new result }
     {
-        match self.tries_both(b) {
-            Ok(()) => self.check_branch(defines, b, true, part, p, q),
-            Err(stop) => Err(failure(Rule::Split, stop)),
-        }
+        settle(Rule::Split, self.tries_both(b))?;
+        self.check_branch(defines, b, true, part, p, q)
     }
 
     /// Checks the part in which the condition does not hold.
@@ -351,19 +345,15 @@ impl Walk {
     {
         let left = branch(self.alloc, b, first, p)?;
         let right = branch(self.alloc, b, first, q)?;
-        match self.push(b, !first) {
-            Ok(mark) => {
-                self.check_until(
-                    mark,
-                    defines,
-                    part_number(first),
-                    part,
-                    &left.view(),
-                    &right.view(),
-                )
-            }
-            Err(stop) => Err(failure(Rule::Split, stop)),
-        }
+        let mark = settle(Rule::Split, self.push(b, !first))?;
+        self.check_until(
+            mark,
+            defines,
+            part_number(first),
+            part,
+            &left.view(),
+            &right.view(),
+        )
     }
 
     #[cycle(check)]
@@ -377,10 +367,11 @@ impl Walk {
     ) -> Result<(), Failed>
         ensures { ChecksBy name.now part.now defines.now p.now q.now self.old self.new result }
     {
-        match both_unfolded(self.alloc, defines, name, p, q) {
-            Ok(both) => { self.check_part(defines, 0, part, &both.left.view(), &both.right.view()) }
-            Err(stop) => Err(failure(Rule::ByDefinition, stop)),
-        }
+        let both = settle(
+            Rule::ByDefinition,
+            both_unfolded(self.alloc, defines, name, p, q),
+        )?;
+        self.check_part(defines, 0, part, &both.left.view(), &both.right.view())
     }
 
     #[cycle(check)]
@@ -394,9 +385,7 @@ impl Walk {
     ) -> Result<(), Failed>
         ensures { ChecksFact fact.now part.now defines.now p.now q.now self.old self.new result }
     {
-        match self.add(fact) {
-            Ok(mark) => self.check_until(mark, defines, 0, part, p, q),
-            Err(stop) => Err(failure(Rule::Fact, stop)),
-        }
+        let mark = settle(Rule::Fact, self.add(fact))?;
+        self.check_until(mark, defines, 0, part, p, q)
     }
 }

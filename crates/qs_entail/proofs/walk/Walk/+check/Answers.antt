@@ -2,14 +2,16 @@ use Rattle.std.proofs.Common.{◌∙◌, sym, ap, subst, true, false, arith}
 use Rattle.std.specs.Prelude.{Err}
 use Rattle.std.proofs.lemmas.Result.{err_from_is_err_and}
 use Rattle.qs_assert.specs.Trees.{not, natural, infinity}
-use Rattle.qs_entail.proofs.Walks.{both_err, via_ok, via_of, split_known, split_err, split_of, drop_ok, drop_err, drop_of, fact_given, each_goes_on, pair_goes_on}
+use Rattle.qs_entail.proofs.Walks.{both_err, via_ok, via_of, split_known, split_err, split_of, drop_ok, drop_err, drop_of, says_failed, says_at_mark, node_onto, tried_failed, says_tried, each_goes_on, pair_goes_on}
 use Rattle.qs_entail.specs.declared.fault.Rule.TheVariants as rules
 use Rattle.qs_entail.specs.Faults.{part, branch, Guarded, guarded_of}
 use Rattle.qs_entail.specs.Verdicts.{rest, fault}
-use Rattle.qs_entail.specs.Pushing.{Known, push}
+use Rattle.qs_entail.specs.Pushing.{Known, with_polynomials, push}
+use Rattle.qs_entail.specs.Extending.{with_fact}
+use Rattle.qs_entail.specs.Checking.{part_fault, branch_fault}
 use Rattle.qs_entail.specs.Facts.{added}
 use Rattle.qs_entail.specs.View.{cert_tree, fact_tree, known_view}
-use Rattle.qs_entail.specs.Walking.{place, cut, Says}
+use Rattle.qs_entail.specs.Walking.{place, Says}
 use Rattle.qs_entail.proofs.walk.Walk.+check.Goals as goal
 
 pub check_rest-returns-in_err-check_part-in-Via : goal.check_rest-returns-in_err-check_part-in-Via
@@ -63,9 +65,31 @@ check_rest-returns-in_err-check_contradiction-in-DropGuard t c =
     (subst (λ z. Says (place c.args.self.now) (place c.check_contradiction.new.self) (Err c.in_err-check_contradiction-in-DropGuard.field-0.0) (rest z c.args.defines.now (known_view c.args.self.now.known) c.args.p.now c.args.q.now)) (sym e)
     (drop_err (place c.args.self.now) (place c.check_contradiction.new.self) c.in_err-check_contradiction-in-DropGuard.field-0.0 rules.DropGuard (guarded_of c.args.q.now) (λ (g : Guarded). push (not g.condition) (known_view c.args.self.now.known)) (λ k. part 0 (fault (cert_tree c.in-DropGuard.c.value) c.args.defines.now k (natural 0) infinity)) (λ (g : Guarded). part 1 (fault (cert_tree c.in-DropGuard.d.value) c.args.defines.now (known_view c.args.self.now.known) c.args.p.now g.body)) h))
 
-pub check_fact-returns-in-Ok : goal.check_fact-returns-in-Ok
-check_fact-returns-in-Ok t c =
-    fact_given (place c.args.self.now) (cut c.in-Ok.mark (place c.add.new.self)) (place c.check_until.new.self) c.check_until.result rules.Fact (added (fact_tree c.args.fact.now) (known_view c.args.self.now.known)) (known_view c.args.self.now.known) (known_view c.add.new.self.known) (λ k. part 0 (fault (cert_tree c.args.part.now) c.args.defines.now k c.args.p.now c.args.q.now)) c.in-Ok.ensures.step c.in-Ok.ensures.back c.check_until.ensures
+-- a step of the node's rule gave nothing, or its part answers
+
+pub check_first-returns-in_err-settle : goal.check_first-returns-in_err-settle
+check_first-returns-in_err-settle t c =
+    let p = err_from_is_err_and c.from_residual.result c.from_residual.ensures.1 in
+    rw (p.1, p.2)
+    (tried_failed (place c.args.self.now) (place c.tries_both.new.self) rules.Split c.tries_both.result c.in_err-settle.field-0.0 (push c.args.b.now (known_view c.args.self.now.known)) (push (not c.args.b.now) (known_view c.args.self.now.known)) (branch_fault c.args.b.now true c.args.part.now c.args.defines.now c.args.p.now c.args.q.now) c.in_err-settle.ensures c.tries_both.ensures.step c.tries_both.ensures.path)
+
+pub check_first-returns : goal.check_first-returns
+check_first-returns t c =
+    says_tried (place c.args.self.now) (place c.tries_both.new.self) (place c.check_branch.new.self) rules.Split c.tries_both.result tt c.check_branch.result (push c.args.b.now) (push (not c.args.b.now) (known_view c.args.self.now.known)) (branch_fault c.args.b.now true c.args.part.now c.args.defines.now c.args.p.now c.args.q.now) c.in_ok-settle.ensures c.tries_both.ensures.step c.tries_both.ensures.back c.check_branch.ensures
+
+pub check_fact-returns-in_err-mark : goal.check_fact-returns-in_err-mark
+check_fact-returns-in_err-mark t c =
+    let p = err_from_is_err_and c.from_residual.result c.from_residual.ensures.1 in
+    let k = known_view c.args.self.now.known in
+    rw (p.1, p.2)
+    (subst (λ v. Says (place c.args.self.now) (place c.add.new.self) (Err c.in_err-mark.field-0.0) v) (node_onto rules.Fact (added (fact_tree c.args.fact.now) k) (λ ps. with_polynomials ps k) (part_fault 0 c.args.part.now c.args.defines.now c.args.p.now c.args.q.now))
+    (says_failed (place c.args.self.now) (place c.add.new.self) rules.Fact c.add.result c.in_err-mark.field-0.0 (λ _. known_view c.add.new.self.known) (with_fact (fact_tree c.args.fact.now) k) (part_fault 0 c.args.part.now c.args.defines.now c.args.p.now c.args.q.now) c.in_err-mark.ensures c.add.ensures.step c.add.ensures.path))
+
+pub check_fact-returns : goal.check_fact-returns
+check_fact-returns t c =
+    let k = known_view c.args.self.now.known in
+    subst (λ v. Says (place c.args.self.now) (place c.check_until.new.self) c.check_until.result v) (node_onto rules.Fact (added (fact_tree c.args.fact.now) k) (λ ps. with_polynomials ps k) (part_fault 0 c.args.part.now c.args.defines.now c.args.p.now c.args.q.now))
+    (says_at_mark (place c.args.self.now) (place c.add.new.self) (place c.check_until.new.self) rules.Fact c.add.result c.in_ok-mark.mark c.check_until.result (known_view c.add.new.self.known) (with_fact (fact_tree c.args.fact.now) k) (part_fault 0 c.args.part.now c.args.defines.now c.args.p.now c.args.q.now) c.in_ok-mark.ensures c.add.ensures.step c.add.ensures.back c.check_until.ensures)
 
 pub check_each-loop-i-preserved : goal.check_each-loop-i-preserved
 check_each-loop-i-preserved t c =

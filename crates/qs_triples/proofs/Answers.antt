@@ -1,6 +1,6 @@
--- What answers without a fault say.
-use Rattle.std.proofs.Common.{◌≡◌, ℕ, List, [], ◌∷◌, Bool, true, false, Option, Some, None, refl, sym, ap, ◌∙◌}
-use Rattle.std.specs.Prelude.{cond, not, ◌||◌, is_none, Ok, Err}
+-- What answers say: those without a fault, steps that may fail, and answers that are another one.
+use Rattle.std.proofs.Common.{◌≡◌, ℕ, List, [], ◌∷◌, Bool, true, false, Option, Some, None, refl, sym, ap, subst, ◌∙◌}
+use Rattle.std.specs.Prelude.{cond, not, ◌||◌, is_none, Result, Ok, Err}
 use Rattle.std.specs.List.{find, list_any}
 use Rattle.std.specs.Option.{option_or}
 use Rattle.qs_base.specs.Results.{bind, require, fault_or}
@@ -12,8 +12,11 @@ use Rattle.qs_assert.proofs.SamenessLaws.{variable_equal}
 use Rattle.qs_entail.specs.Faults as certificates
 use Rattle.qs_core.specs.Trees as core
 use Rattle.qs_core.specs.Trees.{CoreExprTree, CoreStmtTree, CoreStmts, CoreFunctionTree}
+use Rattle.qs_triples.specs.declared.failure.Failure.{Failure}
+use Rattle.qs_triples.specs.declared.failure.Failure.TheVariants as failures
 use Rattle.qs_triples.specs.Derivations.{SpecTree}
 use Rattle.qs_triples.specs.Rules.{DerivFault, Answer, part, unless, unless_of, by_verdict, of_sequence, of_branch, of_loop, CallSite, of_call, Known, of_spec}
+use Rattle.qs_triples.specs.Told.{FailsAs, Follows}
 
 -- an answer that is this assertion
 abbrev pub Gives : Answer → AssertionTree → Type 0
@@ -121,3 +124,15 @@ not_false false h = cc
 pub some_there : {A : Type 0} → (o : Option A) → is_none o ≡ false → (a : A) × (o ≡ Some a)
 some_there (Some a) h = (a, refl)
 some_there None h = cc
+
+-- ---- steps that may fail, and answers that are another one
+
+pub bind_fails : (failure : Failure) (a : Answer) (next : AssertionTree → Answer) → FailsAs failure a → FailsAs failure (bind a next)
+bind_fails failures.NoMemory a next h = tt
+bind_fails (failures.Fault path cause) a next h = ap (λ (r : Answer). bind r next) h
+
+pub fails_by : (failure : Failure) (a b : Answer) → a ≡ b → FailsAs failure b → FailsAs failure a
+fails_by failure a b e h = subst (λ (r : Answer). FailsAs failure r) (sym e) h
+
+pub follows_by : (result : Result AssertionTree Failure) (a b : Answer) → a ≡ b → Follows result b → Follows result a
+follows_by result a b e h = subst (λ (r : Answer). Follows result r) (sym e) h

@@ -15,7 +15,6 @@ pub mod FunctionLaws
 pub mod PathLaws
 pub mod BoundLaws
 pub mod ListLaws
-pub mod FaultLaws
 mod CountDownExamples
 mod LoopExamples
 mod EvenOddExamples

@@ -23,7 +23,7 @@ use Rattle.qs_triples.specs.declared.derivation.Derivation.TheViews.{Sequence, L
 use Rattle.qs_triples.specs.declared.derivation.Derivation.TheVariants.{rolls-Sequence, rolls-Loop}
 use Rattle.qs_triples.specs.declared.failure.Failure.{Failure}
 use Rattle.qs_triples.specs.declared.forms.Turns.{Turns}
-use Rattle.qs_triples.proofs.FaultLaws.{fails_by, follows_by, bind_fails}
+use Rattle.qs_triples.proofs.Answers.{fails_by, follows_by, bind_fails}
 
 -- ---- sequences
 

@@ -20,7 +20,7 @@ use Rattle.qs_assert.specs.Trees.{TermTree, AssertionTree}
 use Rattle.qs_assert.specs.Values.{State, term_value, value}
 use Rattle.qs_assert.specs.Variables.{variables}
 use Rattle.qs_assert.proofs.Agreement.{value_agrees, value_after}
-use Rattle.qs_assert.proofs.SamenessLaws.{variable_equal}
+use Rattle.qs_assert.proofs.SamenessLaws.{number_type_self, variable_equal}
 use Rattle.qs_assert.proofs.VariableLaws.{of_its_variables}
 use Rattle.qs_entail.specs.Facts.{least, greatest_of_type}
 use Rattle.qs_entail.specs.Meaning.{InRange}
@@ -74,11 +74,6 @@ kind_equal (kinds.Old x) (kinds.Old y) h = ap kinds.Old (eqb-true x y h)
 kind_equal kinds.Returned kinds.Returned h = refl
 kind_equal _ _ h = cc
 
-pub type_self : (n : NumberType) → same_number_type n n ≡ true
-type_self Int = refl
-type_self Unsigned = refl
-type_self Char = refl
-
 type_turned : (m n : NumberType) → same_number_type m n ≡ same_number_type n m
 type_turned Int Int = refl
 type_turned Int Unsigned = refl
@@ -103,7 +98,7 @@ number_same f v w x e = ap (λ (o : Option Value). choice (is_own f x) o x.numbe
 pub own_number : (f : CoreFunctionTree) (v : Valuation) (k : VarKind) (n : NumberType) (z : Value) → own_type f k ≡ Some n → value_of k v ≡ Some z → number_at f v (record { kind = k; number = n }) ≡ number_of z n
 own_number f v k n z own is =
     ap (λ (o : Option NumberType). choice (is_number_type o n) (value_of k v) n) own
-    ∙ ap (λ b. choice b (value_of k v) n) (type_self n)
+    ∙ ap (λ b. choice b (value_of k v) n) (number_type_self n)
     ∙ ap (λ (o : Option Value). number_or_zero o n) is
 
 foreign_number : (f : CoreFunctionTree) (v : Valuation) (x : Var) → is_own f x ≡ false → number_at f v x ≡ pos 0

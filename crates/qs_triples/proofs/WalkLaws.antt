@@ -9,7 +9,7 @@ use Rattle.qs_core.specs.TreeOf.{core_stmt, core_stmts}
 use Rattle.qs_core.specs.Trees.{stmts_of}
 use Rattle.qs_triples.specs.Rules.{Answer, Posts, Scope, part, pre, sequence_pre, with_next}
 use Rattle.qs_triples.specs.Told.{FailsAs}
-use Rattle.qs_triples.proofs.FaultLaws.{fails_by, bind_fails}
+use Rattle.qs_triples.proofs.Answers.{fails_by, bind_fails}
 use Rattle.qs_triples.specs.TreeOf.{derivation_tree, derivation_trees}
 use Rattle.qs_triples.specs.declared.derivation.Derivation.{Derivation}
 use Rattle.qs_triples.specs.declared.failure.Failure.{Failure}

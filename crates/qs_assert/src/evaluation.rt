@@ -10,7 +10,7 @@ ghost use Rattle.qs_assert.specs.Stacks.{guard_step, choose_step, num_step};
 ghost use Rattle.qs_assert.specs.Comparing.{relation_of};
 
 use crate::amounts::Joining;
-use crate::stack::{cut, front, put, taken};
+use crate::stack::{cut, front, put, take_first};
 use crate::truths::Relation;
 use crate::{Amount, AssertionNode, CondNode, Node, TermNode, VarKind, amounts, numbers, truths};
 use indexmap::IndexMap;
@@ -79,8 +79,8 @@ fn put_product(stack: &mut Vec<Option<i128>>, count: usize) -> Result<(), NoMemo
 fn put_difference(stack: &mut Vec<Option<i128>>) -> Result<(), NoMemory>
     ensures { Changes difference_step stack.old.items stack.new.items result }
 {
-    let a = taken(stack, Some(0));
-    let b = taken(stack, Some(0));
+    let a = take_first(stack, Some(0));
+    let b = take_first(stack, Some(0));
     put(stack, numbers::difference(a, b))
 }
 
@@ -94,19 +94,19 @@ fn step_term(stack: &mut Vec<Option<i128>>, node: TermNode, args: &[i64]) -> Res
         TermNode::Sub => put_difference(stack),
         TermNode::Mul(count) => put_product(stack, count),
         TermNode::Div(k) => {
-            let a = taken(stack, Some(0));
+            let a = take_first(stack, Some(0));
             put(stack, numbers::quotient(a, k))
         }
         TermNode::WrapUnsigned => {
-            let a = taken(stack, Some(0));
+            let a = take_first(stack, Some(0));
             put(stack, numbers::wrapped_unsigned(a))
         }
         TermNode::WrapSigned => {
-            let a = taken(stack, Some(0));
+            let a = take_first(stack, Some(0));
             put(stack, numbers::wrapped_signed(a))
         }
         TermNode::Bits => {
-            let a = taken(stack, Some(0));
+            let a = take_first(stack, Some(0));
             put(stack, numbers::bits(a))
         }
     }
@@ -116,8 +116,8 @@ impl Evaluation {
     fn compare(&mut self, relation: Relation) -> Result<(), NoMemory>
         ensures { Steps (step_comparison (relation_of relation)) self.old self.new result }
     {
-        let a = taken(&mut self.numbers, Some(0));
-        let b = taken(&mut self.numbers, Some(0));
+        let a = take_first(&mut self.numbers, Some(0));
+        let b = take_first(&mut self.numbers, Some(0));
         put(&mut self.tests, truths::compared(relation, a, b))
     }
 
@@ -130,7 +130,7 @@ impl Evaluation {
             CondNode::Eq => self.compare(Relation::Equal),
             CondNode::Ne => self.compare(Relation::Different),
             CondNode::Not => {
-                let test = taken(&mut self.tests, Some(true));
+                let test = take_first(&mut self.tests, Some(true));
                 put(&mut self.tests, truths::negated(test))
             }
             CondNode::And(count) => {
@@ -157,8 +157,8 @@ impl Evaluation {
     fn guard(&mut self) -> Result<(), NoMemory>
         ensures { Steps guard_step self.old self.new result }
     {
-        let test = taken(&mut self.tests, Some(true));
-        let amount = taken(&mut self.amounts, Amount::Finite(0));
+        let test = take_first(&mut self.tests, Some(true));
+        let amount = take_first(&mut self.amounts, Amount::Finite(0));
         put(
             &mut self.amounts,
             amounts::chosen(test, amount, Amount::Infinite),
@@ -168,16 +168,16 @@ impl Evaluation {
     fn choose(&mut self) -> Result<(), NoMemory>
         ensures { Steps choose_step self.old self.new result }
     {
-        let test = taken(&mut self.tests, Some(true));
-        let first = taken(&mut self.amounts, Amount::Finite(0));
-        let second = taken(&mut self.amounts, Amount::Finite(0));
+        let test = take_first(&mut self.tests, Some(true));
+        let first = take_first(&mut self.amounts, Amount::Finite(0));
+        let second = take_first(&mut self.amounts, Amount::Finite(0));
         put(&mut self.amounts, amounts::chosen(test, first, second))
     }
 
     fn num(&mut self) -> Result<(), NoMemory>
         ensures { Steps num_step self.old self.new result }
     {
-        let number = taken(&mut self.numbers, Some(0));
+        let number = take_first(&mut self.numbers, Some(0));
         put(&mut self.amounts, amounts::natural(number))
     }
 
@@ -243,5 +243,5 @@ pub fn evaluate(
         at -= 1;
         evaluation.step(&nodes[at], args, costs, known)?;
     }
-    Ok(taken(&mut evaluation.amounts, Amount::Finite(0)))
+    Ok(take_first(&mut evaluation.amounts, Amount::Finite(0)))
 }

@@ -31,7 +31,7 @@ pub fn next<T>(stack: &mut Vec<T>) -> Option<T>
 }
 
 /// Takes the first item off, or `otherwise` where there is none.
-pub fn taken<T: Drop>(stack: &mut Vec<T>, otherwise: T) -> T
+pub fn take_first<T: Drop>(stack: &mut Vec<T>, otherwise: T) -> T
     ensures value { result ≡ first_or otherwise (reverse stack.old.items) }
     ensures left { reverse stack.new.items ≡ others (reverse stack.old.items) }
 {

@@ -60,7 +60,7 @@ pub fn take_first(stack: &mut Vec<Built>) -> Built
     ensures value { attempt_of result ≡ first (seen stack.old.items) }
     ensures left { seen stack.new.items ≡ others (seen stack.old.items) }
 {
-    stack::taken(stack, Built::Broken)
+    stack::take_first(stack, Built::Broken)
 }
 
 /// The operation on two, or why the first or the second isn't there.

@@ -8,7 +8,7 @@ ghost use Rattle.qs_triples.specs.TreeOf.{derivation_tree as tree_of};
 ghost use Rattle.qs_prooftext.specs.HeadWalks.{derivation_walk, Grows};
 
 use crate::statements::{DerivationHead, Reason};
-use crate::taking::{Subtree, boxed, taken, taken_all};
+use crate::taking::{Subtree, take_all, take_boxed, take_first};
 use qs_base::NoMemory;
 use qs_triples::Derivation;
 use std::alloc::Global;
@@ -25,16 +25,16 @@ impl Subtree for Derivation {
     }
 }
 
-fn conditional(alloc: Global, stack: &mut Vec<Derivation>) -> Result<Derivation, NoMemory>
+fn plant_conditional(alloc: Global, stack: &mut Vec<Derivation>) -> Result<Derivation, NoMemory>
     ensures made { Makes tree_of (planted heads.conditional) stack.old result }
     ensures left { Takes tree_of 2 stack.old stack.new result }
 {
-    let first = boxed(alloc, stack)?;
-    let second = boxed(alloc, stack)?;
+    let first = take_boxed(alloc, stack)?;
+    let second = take_boxed(alloc, stack)?;
     Ok(Derivation::Conditional(first, second))
 }
 
-fn repeated(
+fn plant_loop(
     alloc: Global,
     stack: &mut Vec<Derivation>,
     reason: Reason,
@@ -42,8 +42,8 @@ fn repeated(
     ensures made { Makes tree_of (planted (heads.loop (reason_view reason))) stack.old result }
     ensures left { Takes tree_of 2 stack.old stack.new result }
 {
-    let body = boxed(alloc, stack)?;
-    let step = boxed(alloc, stack)?;
+    let body = take_boxed(alloc, stack)?;
+    let step = take_boxed(alloc, stack)?;
     Ok(Derivation::Loop(reason.assertion, reason.certificate, body, step))
 }
 
@@ -59,14 +59,14 @@ fn plant(
     match made {
         DerivationHead::Leaf => Ok(Derivation::Leaf),
         DerivationHead::Sequence(count) => {
-            Ok(Derivation::Sequence(taken_all(alloc, stack, count)?))
+            Ok(Derivation::Sequence(take_all(alloc, stack, count)?))
         }
-        DerivationHead::Conditional => conditional(alloc, stack),
-        DerivationHead::Loop(reason) => repeated(alloc, stack, reason),
+        DerivationHead::Conditional => plant_conditional(alloc, stack),
+        DerivationHead::Loop(reason) => plant_loop(alloc, stack, reason),
         DerivationHead::Call(frame) => Ok(Derivation::Call(frame.assertion, frame.certificate)),
         DerivationHead::BalancedCall => Ok(Derivation::BalancedCall),
         DerivationHead::Consequence(stronger) => {
-            let part = boxed(alloc, stack)?;
+            let part = take_boxed(alloc, stack)?;
             Ok(Derivation::Consequence(stronger.assertion, stronger.certificate, part))
         }
     }
@@ -82,5 +82,5 @@ pub fn build(alloc: Global, heads: Vec<DerivationHead>) -> Result<Derivation, No
         let tree = plant(alloc, &mut stack, made)?;
         stack.push(tree)?;
     }
-    Ok(taken(&mut stack))
+    Ok(take_first(&mut stack))
 }

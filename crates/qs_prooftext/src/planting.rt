@@ -8,7 +8,7 @@ ghost use Rattle.qs_prooftext.specs.Planting.{Makes, Takes};
 ghost use Rattle.qs_prooftext.specs.HeadWalks.{certificate_walk, Grows};
 
 use crate::heads::CertHead;
-use crate::taking::{Subtree, boxed, taken, taken_all};
+use crate::taking::{Subtree, take_all, take_boxed, take_first};
 use qs_assert::{Assertion, Cond};
 use qs_base::NoMemory;
 use qs_entail::Certificate;
@@ -26,7 +26,7 @@ impl Subtree for Certificate {
     }
 }
 
-fn via(
+fn plant_via(
     alloc: Global,
     stack: &mut Vec<Certificate>,
     between: Assertion,
@@ -34,12 +34,12 @@ fn via(
     ensures made { Makes cert_tree (planted (heads.via between)) stack.old result }
     ensures left { Takes cert_tree 2 stack.old stack.new result }
 {
-    let first = boxed(alloc, stack)?;
-    let second = boxed(alloc, stack)?;
+    let first = take_boxed(alloc, stack)?;
+    let second = take_boxed(alloc, stack)?;
     Ok(Certificate::Via(between, first, second))
 }
 
-fn split(
+fn plant_split(
     alloc: Global,
     stack: &mut Vec<Certificate>,
     condition: Cond,
@@ -47,17 +47,17 @@ fn split(
     ensures made { Makes cert_tree (planted (heads.split condition)) stack.old result }
     ensures left { Takes cert_tree 2 stack.old stack.new result }
 {
-    let first = boxed(alloc, stack)?;
-    let second = boxed(alloc, stack)?;
+    let first = take_boxed(alloc, stack)?;
+    let second = take_boxed(alloc, stack)?;
     Ok(Certificate::Split(condition, first, second))
 }
 
-fn drop_guard(alloc: Global, stack: &mut Vec<Certificate>) -> Result<Certificate, NoMemory>
+fn plant_drop_guard(alloc: Global, stack: &mut Vec<Certificate>) -> Result<Certificate, NoMemory>
     ensures made { Makes cert_tree (planted heads.drop) stack.old result }
     ensures left { Takes cert_tree 2 stack.old stack.new result }
 {
-    let first = boxed(alloc, stack)?;
-    let second = boxed(alloc, stack)?;
+    let first = take_boxed(alloc, stack)?;
+    let second = take_boxed(alloc, stack)?;
     Ok(Certificate::DropGuard(first, second))
 }
 
@@ -72,17 +72,20 @@ fn plant(
 {
     match made {
         CertHead::Same => Ok(Certificate::Same),
-        CertHead::Via(between) => via(alloc, stack, between),
-        CertHead::Pick(number) => Ok(Certificate::Pick(number, boxed(alloc, stack)?)),
-        CertHead::All(count) => Ok(Certificate::All(taken_all(alloc, stack, count)?)),
-        CertHead::Parts(count) => Ok(Certificate::Parts(taken_all(alloc, stack, count)?)),
-        CertHead::Assume => Ok(Certificate::Assume(boxed(alloc, stack)?)),
-        CertHead::DropGuard => drop_guard(alloc, stack),
-        CertHead::Split(condition) => split(alloc, stack, condition),
+        CertHead::Via(between) => plant_via(alloc, stack, between),
+        CertHead::Pick(number) => Ok(Certificate::Pick(number, take_boxed(alloc, stack)?)),
+        CertHead::All(count) => Ok(Certificate::All(take_all(alloc, stack, count)?)),
+        CertHead::Parts(count) => Ok(Certificate::Parts(take_all(alloc, stack, count)?)),
+        CertHead::Assume => Ok(Certificate::Assume(take_boxed(alloc, stack)?)),
+        CertHead::DropGuard => plant_drop_guard(alloc, stack),
+        CertHead::Split(condition) => plant_split(alloc, stack, condition),
         CertHead::Contradict(items) => Ok(Certificate::Contradict(items)),
         CertHead::Arithmetic(items) => Ok(Certificate::Arithmetic(items)),
-        CertHead::ByDefinition(name) => Ok(Certificate::ByDefinition(name, boxed(alloc, stack)?)),
-        CertHead::Fact(fact) => Ok(Certificate::Fact(fact, boxed(alloc, stack)?)),
+        CertHead::ByDefinition(name) => Ok(Certificate::ByDefinition(
+            name,
+            take_boxed(alloc, stack)?,
+        )),
+        CertHead::Fact(fact) => Ok(Certificate::Fact(fact, take_boxed(alloc, stack)?)),
     }
 }
 
@@ -96,5 +99,5 @@ pub fn build(alloc: Global, heads: Vec<CertHead>) -> Result<Certificate, NoMemor
         let tree = plant(alloc, &mut stack, made)?;
         stack.push(tree)?;
     }
-    Ok(taken(&mut stack))
+    Ok(take_first(&mut stack))
 }

@@ -22,15 +22,15 @@ pub trait Subtree: Drop {
 }
 
 /// Takes the first part off.
-pub fn taken<T: Subtree>(stack: &mut Vec<T>) -> T
+pub fn take_first<T: Subtree>(stack: &mut Vec<T>) -> T
     ensures first { T.tree result ≡ first_or T.blank (stacked T.tree stack.old) }
     ensures left { stacked T.tree stack.new ≡ others (stacked T.tree stack.old) }
 {
-    stack::taken(stack, T::missing())
+    stack::take_first(stack, T::missing())
 }
 
 /// Takes so many parts off.
-pub fn taken_all<T: Subtree>(
+pub fn take_all<T: Subtree>(
     alloc: Global,
     stack: &mut Vec<T>,
     count: usize,
@@ -41,17 +41,17 @@ pub fn taken_all<T: Subtree>(
     let mut parts = Vec::new(alloc);
     let mut left = count;
     'parts: while left > 0 {
-        parts.push(taken(stack))?;
+        parts.push(take_first(stack))?;
         left -= 1;
     }
     Ok(parts)
 }
 
 /// Takes the first part off, boxed.
-pub fn boxed<T: Subtree>(alloc: Global, stack: &mut Vec<T>) -> Result<Box<T>, NoMemory>
+pub fn take_boxed<T: Subtree>(alloc: Global, stack: &mut Vec<T>) -> Result<Box<T>, NoMemory>
     ensures first { GivesFirst T.tree T.blank stack.old result }
     ensures left { Takes T.tree 1 stack.old stack.new result }
 {
-    let part = taken(stack);
+    let part = take_first(stack);
     Ok(Box::new(alloc, part)?)
 }

@@ -1,6 +1,6 @@
 use Rattle.std.proofs.Common.{◌≡◌, ◌++◌, map, reverse}
 use Rattle.qs_prooftext.specs.Planting.{behind, firsts}
-use Rattle.qs_prooftext.proofs.taking.taken_all.Given as goal
+use Rattle.qs_prooftext.proofs.taking.take_all.Given as goal
 
 abbrev pub invariant-parts : goal.invariant-parts
 invariant-parts g l = record {

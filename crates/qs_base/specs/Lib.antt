@@ -1,4 +1,5 @@
 pub mod Bytes
+pub mod Characters
 pub mod Keywords
 pub mod Names
 pub mod Positions

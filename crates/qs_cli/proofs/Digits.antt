@@ -8,7 +8,7 @@ use Rattle.std.specs.Result.{result_ok}
 use Rattle.std.specs.Str.Parse.{ParsesUnsigned, digits_value}
 use Rattle.std.proofs.lemmas.Str.Parse.{IsNumeralModel, numerals_by_value, parse_gives, digits_value_short}
 use Rattle.qs_base.specs.Bytes.{is_digit}
-use Rattle.qs_cli.specs.Characters.{hyphen}
+use Rattle.qs_base.specs.Characters.{hyphen}
 use Rattle.qs_cli.specs.Words.{Text}
 use Rattle.qs_cli.specs.Numbers.{number_of, signed_of}
 

@@ -3,7 +3,7 @@ use Rattle.std.proofs.Common.{◌≡◌, ◌∙◌, ℕ, Bool, true, false, not,
 use Rattle.std.specs.Prelude.{bytes_eq}
 use Rattle.std.specs.List.{list_any, before_first, after_first, prefix_len}
 use Rattle.std.proofs.lemmas.Bool.{eqb-true}
-use Rattle.qs_cli.specs.Characters.{equals_sign, hyphen}
+use Rattle.qs_base.specs.Characters.{equals_sign, hyphen}
 use Rattle.qs_cli.specs.Words.{Text, Word, Plain, Assigned, Named, Excluded, assigned, option_of, after_hyphen, word_of}
 use Rattle.clap.specs.Lexer.{long_of, short_of}
 

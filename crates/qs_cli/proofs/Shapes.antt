@@ -2,7 +2,7 @@
 use Rattle.std.proofs.Common.{◌≡◌, ◌≢◌, ◌∙◌, ℕ, ◌+◌, Bool, cond, true, false, not, ◌||◌, ◌==◌, refl, sym, ap, arith, List, [], ◌∷◌, Option, Some, None, true≢false, length, if◌then◌else◌, is_some, ap₂, map, drop, get_or, drop-cons, add-one, ◌<◌}
 use Rattle.std.specs.List.{list_any, position_or_len}
 use Rattle.std.proofs.lemmas.Bool.{eqb-true}
-use Rattle.qs_cli.specs.Characters.{equals_sign, hyphen}
+use Rattle.qs_base.specs.Characters.{equals_sign, hyphen}
 use Rattle.qs_cli.specs.Words.{Text, Word, Plain, Assigned, Named, Excluded, Item, option_of, after_hyphen, word_of, put, placed, items_from}
 use Rattle.qs_cli.specs.Reading.{is_shape, waiting_of}
 use Rattle.qs_cli.specs.declared.spelling.Shape.{Shape as CodeShape}

@@ -1,4 +1,3 @@
-pub mod Characters
 pub mod Words
 pub mod Numbers
 pub mod Commands

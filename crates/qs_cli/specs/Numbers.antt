@@ -3,7 +3,7 @@ use Rattle.std.specs.Prelude.{ℕ, ℤ, pos, neg_ℤ, List, [], ◌∷◌, ◌&&
 use Rattle.std.specs.List.{list_all, slice_split}
 use Rattle.std.specs.Str.Parse.{digits_value}
 use Rattle.qs_base.specs.Bytes.{is_digit}
-use Rattle.qs_cli.specs.Characters.{comma, hyphen}
+use Rattle.qs_base.specs.Characters.{comma, hyphen}
 use Rattle.qs_cli.specs.Words.{Text}
 
 -- 1 to `most` decimal digits

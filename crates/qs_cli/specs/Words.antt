@@ -2,7 +2,7 @@
 -- POSIX.1-2017, Base Definitions 12.1).
 use Rattle.std.specs.Prelude.{ℕ, List, [], ◌∷◌, Bool, true, not, ◌&&◌, ◌||◌, ◌==◌, if◌then◌else◌, Option, Some, None, codes, bytes_eq, map, option_map, option_and_then}
 use Rattle.std.specs.List.{list_any, list_all, before_first, after_first}
-use Rattle.qs_cli.specs.Characters.{equals_sign, hyphen}
+use Rattle.qs_base.specs.Characters.{equals_sign, hyphen}
 
 abbrev pub Text : Type 0
 Text = List ℕ

@@ -2,7 +2,7 @@
 ghost use Rattle.std.specs.Prelude.{◌≡◌, ◌≤◌, ◌<◌, ◌^◌, IfSome, IfOk, Some, None, ◌==◌};
 ghost use Rattle.std.specs.List.{list_all, slice_split};
 ghost use Rattle.qs_base.specs.Bytes.{is_digit};
-ghost use Rattle.qs_cli.specs.Characters.{comma};
+ghost use Rattle.qs_base.specs.Characters.{comma};
 ghost use Rattle.qs_cli.specs.Numbers.{number_of, count_of, signed_of, all_signed_of, steps_of};
 ghost use Rattle.qs_cli.specs.Numbers.{arguments_of};
 ghost use Rattle.qs_cli.specs.Reading.{lent_text, lent_texts, IsUsage};

@@ -2,7 +2,7 @@
 use Rattle.std.specs.Prelude.{ℕ, Bool, true, false, ◌&&◌, ◌||◌, List, [], ◌∷◌, ◌==◌, if◌then◌else◌}
 use Rattle.std.specs.List.{list_all}
 use Rattle.qs_base.specs.Bytes.{is_between, is_digit, is_word_byte}
-use Rattle.qs_lexer.specs.Characters.{carriage_return, horizontal_tab, period, space}
+use Rattle.qs_base.specs.Characters.{carriage_return, horizontal_tab, period, space}
 
 -- a letter, a digit, `_` or `.`
 abbrev pub is_number_byte : ℕ → Bool

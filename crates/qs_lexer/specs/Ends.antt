@@ -1,7 +1,7 @@
 -- What is read byte by byte up to its end: a comment, a literal.
 use Rattle.std.specs.Prelude.{ℕ, ◌+◌, Bool, true, false, ◌&&◌, List, [], ◌∷◌, ◌==◌, Option, Some, None, if◌then◌else◌}
 use Rattle.qs_lexer.specs.Bytes.{is_empty}
-use Rattle.qs_lexer.specs.Characters.{asterisk, backslash, new_line, slash}
+use Rattle.qs_base.specs.Characters.{asterisk, backslash, new_line, slash}
 
 -- The next byte goes on, is the last, or may not stand there. What goes on is a Bool: what the next byte has to know of those before it.
 pub data Turn : Type 0 where

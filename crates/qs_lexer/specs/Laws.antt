@@ -1,7 +1,7 @@
 -- What holds of the tokens of every text.
 use Rattle.std.specs.Prelude.{◌≡◌, ℕ, ◌-◌, ◌<◌, ◌≤◌, true, List, [], ◌∷◌, length, take, drop, Ok}
 use Rattle.qs_base.specs.Names.{is_name}
-use Rattle.qs_lexer.specs.Characters.{double_quote}
+use Rattle.qs_base.specs.Characters.{double_quote}
 use Rattle.qs_lexer.specs.Literals.{text_of}
 use Rattle.qs_lexer.specs.Pieces.{Longest, is_quoted, is_token}
 use Rattle.qs_lexer.specs.Tokens.{LexFaultAt, Tokens}

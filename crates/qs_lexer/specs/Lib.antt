@@ -1,4 +1,3 @@
-pub mod Characters
 pub mod Bytes
 pub mod Ends
 pub mod Numbers

@@ -2,7 +2,7 @@
 use Rattle.std.specs.Prelude.{ℕ, zero, suc, ◌+◌, ◌-◌, Bool, true, false, List, [], ◌∷◌, length, take, drop, nat_lt, ◌==◌, if◌then◌else◌, Option, Some, None, option_map, Result, Ok, Err}
 use Rattle.std.specs.List.{find, list_any, prefix_len}
 use Rattle.qs_lexer.specs.Bytes.{starts_with}
-use Rattle.qs_lexer.specs.Characters.{alert, backslash, backspace, carriage_return, double_quote, form_feed, horizontal_tab, lowercase_a, lowercase_b, lowercase_f, lowercase_n, lowercase_r, lowercase_t, lowercase_v, lowercase_x, new_line, question_mark, single_quote, vertical_tab}
+use Rattle.qs_base.specs.Characters.{alert, backslash, backspace, carriage_return, double_quote, form_feed, horizontal_tab, lowercase_a, lowercase_b, lowercase_f, lowercase_n, lowercase_r, lowercase_t, lowercase_v, lowercase_x, new_line, question_mark, single_quote, vertical_tab}
 use Rattle.qs_lexer.specs.Numbers.{digit_value, value_of}
 use Rattle.qs_lexer.specs.declared.literals.Element.{Element}
 use Rattle.qs_lexer.specs.declared.literals.Element.TheVariants as item

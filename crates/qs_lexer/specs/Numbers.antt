@@ -3,7 +3,7 @@ use Rattle.std.specs.Prelude.{ℕ, ◌+◌, ◌*◌, ◌-◌, ◌^◌, Bool, tru
 use Rattle.std.specs.List.{list_all}
 use Rattle.qs_base.specs.Bytes.{is_between, is_digit}
 use Rattle.qs_lexer.specs.Bytes.{starts_with}
-use Rattle.qs_lexer.specs.Characters.{digit_zero, lowercase_a, lowercase_f, lowercase_u, lowercase_x, uppercase_a, uppercase_f, uppercase_u, uppercase_x}
+use Rattle.qs_base.specs.Characters.{digit_zero, lowercase_a, lowercase_f, lowercase_u, lowercase_x, uppercase_a, uppercase_f, uppercase_u, uppercase_x}
 use Rattle.qs_lexer.specs.declared.fault.FaultKind.{FaultKind}
 use Rattle.qs_lexer.specs.declared.fault.FaultKind.TheVariants as faults
 use Rattle.qs_syntax.specs.declared.tokens.TokenKind.{TokenKind}

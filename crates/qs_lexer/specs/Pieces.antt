@@ -4,7 +4,7 @@ use Rattle.std.specs.List.{list_all}
 use Rattle.qs_base.specs.Bytes.{is_digit, is_in_line, is_letter}
 use Rattle.qs_base.specs.Names.{is_word}
 use Rattle.qs_lexer.specs.Bytes.{blanks_then_digit, first_then, is_blank, is_empty, is_number_byte, is_space, starts, starts_with}
-use Rattle.qs_lexer.specs.Characters.{asterisk, double_quote, new_line, number_sign, single_quote, slash}
+use Rattle.qs_base.specs.Characters.{asterisk, double_quote, new_line, number_sign, single_quote, slash}
 use Rattle.qs_lexer.specs.Ends.{closes, comment_turn, quote_turn}
 use Rattle.qs_lexer.specs.Literals.{character_of, text_of}
 use Rattle.qs_lexer.specs.Numbers.{number_of}

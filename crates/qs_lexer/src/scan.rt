@@ -1,9 +1,9 @@
 // What stands first in the rest of a text, class by class.
 ghost use Rattle.std.specs.Prelude.{◌≡◌, Bool, [], ◌∷◌, true};
 ghost use Rattle.qs_base.specs.Bytes.{is_digit, is_letter};
+ghost use Rattle.qs_base.specs.Characters.{asterisk, double_quote, number_sign};
+ghost use Rattle.qs_base.specs.Characters.{single_quote, slash};
 ghost use Rattle.qs_lexer.specs.Bytes.{is_space, starts, starts_with};
-ghost use Rattle.qs_lexer.specs.Characters.{asterisk, double_quote, number_sign};
-ghost use Rattle.qs_lexer.specs.Characters.{single_quote, slash};
 ghost use Rattle.qs_lexer.specs.Scan.{Opens, punctuator_front};
 ghost use Rattle.qs_lexer.specs.Pieces.{Next, Stands, still_fresh, token_or_fault};
 ghost use Rattle.qs_lexer.specs.declared.pieces.Class.TheVariants as class;

@@ -2,7 +2,7 @@
 -- a backslash and three octal digits.
 use Rattle.std.specs.Prelude.{ℕ, ◌+◌, ◌/◌, ◌%◌, Bool, true, false, List, [], ◌∷◌, ◌++◌, codes, decimal, flat_map}
 use Rattle.qs_base.specs.Keywords.{keyword_spelling}
-use Rattle.qs_lexer.specs.Characters.{backslash, digit_zero, double_quote, new_line, space}
+use Rattle.qs_base.specs.Characters.{backslash, digit_zero, double_quote, new_line, space}
 use Rattle.qs_syntax.specs.Punctuators.{punctuator_spelling}
 use Rattle.qs_syntax.specs.declared.terminal.Terminal.{Terminal}
 use Rattle.qs_syntax.specs.declared.terminal.Terminal.TheVariants as terminals

@@ -1,7 +1,7 @@
 -- What it is to write terminals: each is spelled, with a blank behind it.
 use Rattle.std.specs.Prelude.{◌≡◌, ℕ, List, [], ◌∷◌, ◌++◌, Vec}
 use Rattle.std.specs.declared.alloc.Global.{Global}
-use Rattle.qs_lexer.specs.Characters.{space}
+use Rattle.qs_base.specs.Characters.{space}
 use Rattle.qs_syntax.specs.declared.terminal.Terminal.{Terminal}
 use Rattle.qs_print.specs.Spelling.{spelling}
 

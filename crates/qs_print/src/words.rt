@@ -1,6 +1,6 @@
 // Writes single terminals, each with a blank behind it.
 ghost use Rattle.std.specs.Prelude.{◌≡◌, ◌++◌, [], ◌∷◌, OnOk};
-ghost use Rattle.qs_lexer.specs.Characters.{space};
+ghost use Rattle.qs_base.specs.Characters.{space};
 ghost use Rattle.qs_print.specs.Printed.{comma_unless};
 ghost use Rattle.qs_print.specs.Words.{Puts};
 ghost use Rattle.qs_syntax.specs.declared.terminal.Terminal.TheVariants as terminals;

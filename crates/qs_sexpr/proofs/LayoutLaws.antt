@@ -1,7 +1,7 @@
 -- What is laid out is a text of its forms.
 use Rattle.std.proofs.Common.{◌≡◌, ℕ, zero, suc, Bool, true, false, nat_lt, List, [], ◌∷◌, ◌++◌, refl, sym, subst, if◌then◌else◌}
 use Rattle.std.specs.Prelude.{replicate}
-use Rattle.qs_sexpr.specs.Characters.{new_line, right_parenthesis, space}
+use Rattle.qs_base.specs.Characters.{new_line, right_parenthesis, space}
 use Rattle.qs_sexpr.specs.Layout.{next_line, deeper, is_atom, before, behind, inside, ending, lay, lay_parts, lay_all}
 use Rattle.qs_sexpr.specs.Spelling.{IsSpace, Spells, a_symbol, a_number, a_list, SpellAll, no_part, first_part, SpellOthers, no_other, next_part, ReadsAs}
 use Rattle.qs_sexpr.specs.Writing.{Form, symbol_form, number_form, list_form, Forms, no_forms, form_and, size, AreWritable}

@@ -2,7 +2,7 @@
 use Rattle.std.proofs.Common.{arith, ◌≡◌, ℕ, ◌+◌, ◌-◌, min, Bool, true, false, nat_le, List, [], ◌∷◌, ◌++◌, length, append_assoc, refl, ap, ◌∙◌, if◌then◌else◌}
 use Rattle.std.proofs.lemmas.Bool.Decides.{nat_tests}
 use Rattle.std.specs.Fmt.{signed_decimal}
-use Rattle.qs_sexpr.specs.Characters.{left_parenthesis, new_line}
+use Rattle.qs_base.specs.Characters.{left_parenthesis, new_line}
 use Rattle.qs_sexpr.specs.Layout.{deeper, is_atom, before, behind, begun, inside, lay, lay_parts, lay_all, line}
 use Rattle.qs_sexpr.specs.Marks.{Mark, opens, closes, word, marks, all_marks, first_of, others_of, added, list_size, sizes, line_end, laid_marks, wide}
 use Rattle.qs_sexpr.specs.Writing.{Form, symbol_form, number_form, list_form, Forms, no_forms, form_and, size, size_all, size_others}

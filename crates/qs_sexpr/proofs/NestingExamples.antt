@@ -1,6 +1,6 @@
 -- Lists that nest up to their limit and one past it.
 use Rattle.std.proofs.Common.{arith, ◌≡◌, ℕ, zero, suc, ◌+◌, ◌*◌, ◌≤◌, List, [], ◌∷◌, refl, subst}
-use Rattle.qs_sexpr.specs.Characters.{left_parenthesis, right_parenthesis}
+use Rattle.qs_base.specs.Characters.{left_parenthesis, right_parenthesis}
 use Rattle.qs_sexpr.specs.Reading.{Reads, nothing, a_list, Reading, Within, outside, inside, too_deep, Fault}
 use Rattle.qs_sexpr.specs.Trees.{list, Sexps, no_parts, part_and}
 use Rattle.qs_sexpr.specs.declared.fault.SexprFault.TheVariants.{TooDeep}

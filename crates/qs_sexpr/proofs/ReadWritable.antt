@@ -4,7 +4,7 @@ use Rattle.std.specs.List.{prefix_len, list_all}
 use Rattle.std.proofs.lemmas.Bool.Decides.{nat_tests}
 use Rattle.std.proofs.lemmas.List.Folds.{length-prefix_len}
 use Rattle.qs_sexpr.specs.Bytes.{is_atom_byte, is_space, is_symbol_byte, starts_number, starts_symbol}
-use Rattle.qs_sexpr.specs.Characters.{left_parenthesis, minus, right_parenthesis, semicolon}
+use Rattle.qs_base.specs.Characters.{hyphen, left_parenthesis, right_parenthesis, semicolon}
 use Rattle.qs_sexpr.specs.Numbers.{are_digits, is_empty, magnitude, negated, negative, number_of, positive, value_of}
 use Rattle.qs_sexpr.specs.Pieces.{atom, first_piece, number, symbol}
 use Rattle.qs_sexpr.specs.Reading.{Reads, nothing, white_space, a_number, a_symbol, a_list, Reading}
@@ -45,7 +45,7 @@ magnitude_in bytes n e = by (not (is_empty bytes) && (are_digits bytes && nat_le
 
 number_in : (bytes : List ℕ) (v : ℤ) → number_of bytes ≡ Some v → IsInRange v
 number_in [] v e = cc
-number_in (byte ∷ bytes) v e = by (byte == minus) e
+number_in (byte ∷ bytes) v e = by (byte == hyphen) e
   where
     by : (b : Bool) → (if b then negative (magnitude bytes) else positive (magnitude (byte ∷ bytes))) ≡ Some v → IsInRange v
     by true f = negative_in (magnitude bytes) v (magnitude_in bytes) f

@@ -5,7 +5,7 @@ use Rattle.std.proofs.lemmas.List.Sums.{prefix_len-le-length}
 use Rattle.std.specs.List.{prefix_len}
 use Rattle.qs_base.specs.Bytes.{is_in_line}
 use Rattle.qs_sexpr.specs.Bytes.{is_atom_byte, is_space, is_symbol_byte, starts_number, starts_symbol}
-use Rattle.qs_sexpr.specs.Characters.{digit_zero, left_parenthesis, right_parenthesis, semicolon}
+use Rattle.qs_base.specs.Characters.{digit_zero, left_parenthesis, right_parenthesis, semicolon}
 use Rattle.qs_sexpr.specs.Numbers.{number_of, value_from}
 use Rattle.qs_sexpr.specs.Pieces.{atom, first_piece, number, symbol}
 use Rattle.qs_sexpr.specs.Trees.{Sexp}

@@ -4,7 +4,7 @@ use Rattle.std.proofs.lemmas.Bool.Decides.{nat_tests}
 use Rattle.std.specs.Fmt.{signed_decimal}
 use Rattle.std.specs.List.{list_all, prefix_len}
 use Rattle.qs_sexpr.specs.Bytes.{is_atom_byte, is_space}
-use Rattle.qs_sexpr.specs.Characters.{right_parenthesis}
+use Rattle.qs_base.specs.Characters.{right_parenthesis}
 use Rattle.qs_sexpr.specs.Pieces.{first_piece}
 use Rattle.qs_sexpr.specs.Reading.{Reads, nothing, white_space, a_list}
 use Rattle.qs_sexpr.specs.Spelling.{IsSpace, Spells, a_symbol, a_number, a_list as a_spelled_list, SpellAll, no_part, first_part, SpellOthers, no_other, next_part, ReadsAs}

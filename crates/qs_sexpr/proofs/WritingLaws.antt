@@ -6,7 +6,7 @@ use Rattle.std.proofs.Math.Seq.{take-append_seam, drop-append_seam}
 use Rattle.std.specs.List.{prefix_len, list_all}
 use Rattle.qs_base.specs.Bytes.{is_digit}
 use Rattle.qs_sexpr.specs.Bytes.{is_atom_byte, is_space, is_symbol_byte, starts_number, starts_symbol}
-use Rattle.qs_sexpr.specs.Characters.{digit_zero, left_parenthesis, minus, right_parenthesis, semicolon}
+use Rattle.qs_base.specs.Characters.{digit_zero, hyphen, left_parenthesis, right_parenthesis, semicolon}
 use Rattle.qs_sexpr.specs.Numbers.{are_digits, is_empty, magnitude, negative, number_of, positive, value_from, value_of}
 use Rattle.std.specs.Fmt.{decimal, signed_decimal}
 use Rattle.std.proofs.lemmas.Fmt.{decimal_by_steps}
@@ -149,7 +149,7 @@ le_true n m h = grind (arith, h)
 magnitude_of : (n : ℕ) (digits : List ℕ) → IsDecimal n digits → n ≤ 2 ^ 63 → magnitude digits ≡ Some n
 magnitude_of n digits d h = rw (d.some, d.are, d.value_is, le_true n (2 ^ 63) h) refl
 
-no_sign : (byte : ℕ) → is_digit byte ≡ true → (byte == minus) ≡ false
+no_sign : (byte : ℕ) → is_digit byte ≡ true → (byte == hyphen) ≡ false
 no_sign byte h = grind (arith, nat_tests, h)
 
 digit_starts : (byte : ℕ) → is_digit byte ≡ true → starts_number byte ≡ true
@@ -174,7 +174,7 @@ positive_word n (byte ∷ bytes) d h =
           ∙ (ap positive (magnitude_of n (byte ∷ bytes) d (omega (arith, h))) ∙ ap (λ (t : Bool). if t then Some (pos n) else None) (lt_true n (2 ^ 63) h));
     }
 
-negative_word : (n : ℕ) (digits : List ℕ) → IsDecimal (suc n) digits → n < 2 ^ 63 → IsWord (minus ∷ digits) (negsuc n)
+negative_word : (n : ℕ) (digits : List ℕ) → IsDecimal (suc n) digits → n < 2 ^ 63 → IsWord (hyphen ∷ digits) (negsuc n)
 negative_word n digits d h = record { first = refl; others = d.are; value_is = ap negative (magnitude_of (suc n) digits d (omega (arith, h))) }
 
 pub signed_word : (value : ℤ) → IsInRange value → IsWord (signed_decimal value) value

@@ -1,7 +1,7 @@
 -- Classes of bytes.
 use Rattle.std.specs.Prelude.{ℕ, Bool, ◌||◌, ◌==◌}
 use Rattle.qs_base.specs.Bytes.{is_digit, is_letter}
-use Rattle.qs_sexpr.specs.Characters.{carriage_return, dollar_sign, horizontal_tab, minus, new_line, number_sign, space}
+use Rattle.qs_base.specs.Characters.{carriage_return, dollar_sign, horizontal_tab, hyphen, new_line, number_sign, space}
 
 -- white space
 abbrev pub is_space : ℕ → Bool
@@ -9,7 +9,7 @@ is_space byte = byte == space || byte == horizontal_tab || byte == carriage_retu
 
 -- a digit or `-`
 abbrev pub starts_number : ℕ → Bool
-starts_number byte = is_digit byte || byte == minus
+starts_number byte = is_digit byte || byte == hyphen
 
 -- a letter, `_` or `$`
 abbrev pub starts_symbol : ℕ → Bool
@@ -21,4 +21,4 @@ is_symbol_byte byte = starts_symbol byte || is_digit byte || byte == number_sign
 
 -- a byte of symbols, or `-`
 abbrev pub is_atom_byte : ℕ → Bool
-is_atom_byte byte = is_symbol_byte byte || byte == minus
+is_atom_byte byte = is_symbol_byte byte || byte == hyphen

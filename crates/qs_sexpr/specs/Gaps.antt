@@ -1,6 +1,6 @@
 -- What stands before a part of a list, as bytes.
 use Rattle.std.specs.Prelude.{ℕ, List, [], ◌∷◌}
-use Rattle.qs_sexpr.specs.Characters.{space}
+use Rattle.qs_base.specs.Characters.{space}
 use Rattle.qs_sexpr.specs.Layout.{next_line}
 use Rattle.qs_sexpr.specs.declared.layout.Gap.{Gap}
 use Rattle.qs_sexpr.specs.declared.layout.Gap.TheVariants.{Nothing, Blank, NewLine}

@@ -5,7 +5,7 @@
 -- `(`, and the `)` on a last one, under the `(`. No line begins further right than column 60.
 use Rattle.std.specs.Prelude.{ℕ, ◌+◌, ◌-◌, min, Bool, true, false, nat_le, nat_lt, List, [], ◌∷◌, ◌++◌, replicate, if◌then◌else◌}
 use Rattle.std.specs.Fmt.{signed_decimal}
-use Rattle.qs_sexpr.specs.Characters.{left_parenthesis, new_line, right_parenthesis, space}
+use Rattle.qs_base.specs.Characters.{left_parenthesis, new_line, right_parenthesis, space}
 use Rattle.qs_sexpr.specs.Writing.{Form, symbol_form, number_form, list_form, Forms, no_forms, form_and, size}
 use Rattle.qs_sexpr.specs.declared.layout.Layer.{Layer}
 use Rattle.qs_sexpr.specs.declared.layout.Layer.TheVariants.{Top, OnLine, Head, Second, Others}

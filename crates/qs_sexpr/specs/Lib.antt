@@ -1,4 +1,3 @@
-pub mod Characters
 pub mod Bytes
 pub mod Numbers
 pub mod Pieces

@@ -1,7 +1,7 @@
 -- Forms as they are written: words, and where lists begin and end.
 use Rattle.std.specs.Prelude.{ℕ, ◌+◌, ◌-◌, min, List, [], ◌∷◌, ◌++◌, length, true, false}
 use Rattle.std.specs.Fmt.{decimal, signed_decimal}
-use Rattle.qs_sexpr.specs.Characters.{left_parenthesis, new_line, right_parenthesis}
+use Rattle.qs_base.specs.Characters.{left_parenthesis, new_line, right_parenthesis}
 use Rattle.qs_sexpr.specs.Layout.{before, behind, inside, ending}
 use Rattle.qs_sexpr.specs.Writing.{Form, symbol_form, number_form, list_form, Forms, no_forms, form_and}
 use Rattle.qs_sexpr.specs.declared.layout.Layer.{Layer}

@@ -2,7 +2,7 @@
 use Rattle.std.specs.Prelude.{ℕ, zero, suc, ◌+◌, ◌*◌, ◌-◌, ◌^◌, ℤ, pos, negsuc, Bool, true, false, ◌&&◌, not, List, [], ◌∷◌, nat_le, nat_lt, ◌==◌, if◌then◌else◌, Option, Some, None}
 use Rattle.std.specs.List.{list_all}
 use Rattle.qs_base.specs.Bytes.{is_digit}
-use Rattle.qs_sexpr.specs.Characters.{digit_zero, minus}
+use Rattle.qs_base.specs.Characters.{digit_zero, hyphen}
 
 -- the value of these digits behind digits of this value
 abbrev pub value_from : ℕ → List ℕ → ℕ
@@ -39,4 +39,4 @@ negative (Some value) = Some (negated value)
 -- the number that these bytes are
 abbrev pub number_of : List ℕ → Option ℤ
 number_of [] = None
-number_of (byte ∷ bytes) = if byte == minus then negative (magnitude bytes) else positive (magnitude (byte ∷ bytes))
+number_of (byte ∷ bytes) = if byte == hyphen then negative (magnitude bytes) else positive (magnitude (byte ∷ bytes))

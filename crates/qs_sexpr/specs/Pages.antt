@@ -2,7 +2,7 @@
 use Rattle.std.specs.Prelude.{◌≡◌, ℕ, ◌+◌, true, false, List, [], ◌∷◌, ◌++◌, length, map, reverse, Result, IfOk, OnOk}
 use Rattle.std.specs.declared.vec.Vec.{Vec}
 use Rattle.std.specs.declared.alloc.Global.{Global}
-use Rattle.qs_sexpr.specs.Characters.{left_parenthesis, right_parenthesis}
+use Rattle.qs_base.specs.Characters.{left_parenthesis, right_parenthesis}
 use Rattle.qs_sexpr.specs.Layout as layout
 use Rattle.qs_sexpr.specs.Layout.{behind, ending, inside, lay_all}
 use Rattle.qs_sexpr.specs.Marks.{Mark, added, all_marks, first_of, laid_marks, layer_of, layers_behind, line_end, list_sizes, mark_of, others_of, sizes}

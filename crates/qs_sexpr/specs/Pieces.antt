@@ -3,7 +3,7 @@ use Rattle.std.specs.Prelude.{ℕ, ◌+◌, ℤ, not, List, ◌∷◌, length, t
 use Rattle.std.specs.List.{prefix_len}
 use Rattle.qs_base.specs.Bytes.{is_in_line}
 use Rattle.qs_sexpr.specs.Bytes.{is_atom_byte, is_space, is_symbol_byte, starts_number, starts_symbol}
-use Rattle.qs_sexpr.specs.Characters.{left_parenthesis, right_parenthesis, semicolon}
+use Rattle.qs_base.specs.Characters.{left_parenthesis, right_parenthesis, semicolon}
 use Rattle.qs_sexpr.specs.Numbers.{number_of}
 use Rattle.qs_sexpr.specs.declared.pieces.Piece.{Piece}
 use Rattle.qs_sexpr.specs.declared.pieces.Piece.TheVariants.{White, Open, Close, Number, Symbol, BadByte, BadNumber}

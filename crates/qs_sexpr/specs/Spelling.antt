@@ -3,7 +3,7 @@ use Rattle.std.specs.Prelude.{◌≡◌, ℕ, ℤ, true, List, ◌∷◌, ◌++�
 use Rattle.std.specs.Fmt.{signed_decimal}
 use Rattle.std.specs.List.{list_all}
 use Rattle.qs_sexpr.specs.Bytes.{is_space}
-use Rattle.qs_sexpr.specs.Characters.{left_parenthesis, right_parenthesis}
+use Rattle.qs_base.specs.Characters.{left_parenthesis, right_parenthesis}
 use Rattle.qs_sexpr.specs.Reading.{Reading}
 use Rattle.qs_sexpr.specs.Trees.{Sexps}
 use Rattle.qs_sexpr.specs.Writing.{Form, symbol_form, number_form, list_form, Forms, no_forms, form_and, forms_of_parts}

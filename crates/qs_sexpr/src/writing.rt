@@ -1,6 +1,6 @@
 // Lists and atoms, laid out for people.
 ghost use Rattle.std.specs.Prelude.{◌≡◌, ◌++◌, reverse, replicate, OnOk};
-ghost use Rattle.qs_sexpr.specs.Characters.{space};
+ghost use Rattle.qs_base.specs.Characters.{space};
 ghost use Rattle.qs_sexpr.specs.Gaps.{gap_view};
 ghost use Rattle.qs_sexpr.specs.Marks.{first_of, layer_of, layers_behind, mark_of, others_of};
 ghost use Rattle.qs_sexpr.specs.Pages.{ClosesList, LaysOut, OpensList, PutsMark, PutsWord};

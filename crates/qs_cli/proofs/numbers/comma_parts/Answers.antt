@@ -1,7 +1,7 @@
 use Rattle.std.proofs.Common.{lit<}
 use Rattle.std.proofs.lemmas.Iterator.Consumers.{map_from_collect}
 use Rattle.std.proofs.lemmas.Iterator.Splits.{YieldsList-from_str_split}
-use Rattle.qs_cli.specs.Characters.{comma}
+use Rattle.qs_base.specs.Characters.{comma}
 use Rattle.qs_cli.proofs.numbers.comma_parts.Goals as goal
 
 pub returns : goal.returns

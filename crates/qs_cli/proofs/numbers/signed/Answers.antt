@@ -1,6 +1,6 @@
 use Rattle.std.proofs.Common.{◌∙◌, arith, rules, sym}
 use Rattle.std.proofs.lemmas.Str.Pattern.{strip_prefix_char}
-use Rattle.qs_cli.specs.Characters.{hyphen}
+use Rattle.qs_base.specs.Characters.{hyphen}
 use Rattle.qs_cli.proofs.Digits.{signed_none}
 use Rattle.qs_cli.proofs.numbers.signed.Goals as goal
 

@@ -1,6 +1,6 @@
 use Rattle.std.proofs.Common.{arith, rules}
 use Rattle.std.proofs.lemmas.Str.Pattern.{split_once_first}
-use Rattle.qs_cli.specs.Characters.{equals_sign}
+use Rattle.qs_base.specs.Characters.{equals_sign}
 use Rattle.qs_cli.proofs.Shapes.{named_shape}
 use Rattle.qs_cli.proofs.spelling.option_shape.Goals as goal
 

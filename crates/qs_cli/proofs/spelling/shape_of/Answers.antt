@@ -1,6 +1,6 @@
 use Rattle.std.proofs.Common.{arith, rules}
 use Rattle.std.proofs.lemmas.Str.Pattern.{strip_prefix_char}
-use Rattle.qs_cli.specs.Characters.{hyphen}
+use Rattle.qs_base.specs.Characters.{hyphen}
 use Rattle.qs_cli.proofs.Shapes.{hyphen_shape, plain_shape}
 use Rattle.qs_cli.proofs.spelling.shape_of.Goals as goal
 

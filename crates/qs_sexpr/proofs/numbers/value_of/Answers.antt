@@ -1,5 +1,5 @@
 use Rattle.std.proofs.Common.{arith, ◌+◌, ◌*◌, ◌-◌, drop, ap, get_or}
-use Rattle.qs_sexpr.specs.Characters.{digit_zero}
+use Rattle.qs_base.specs.Characters.{digit_zero}
 use Rattle.qs_sexpr.specs.Numbers.{value_from}
 use Rattle.qs_sexpr.proofs.ScanLaws.{value_goes, value_grows}
 use Rattle.qs_sexpr.proofs.numbers.value_of.Goals as goal

@@ -33,13 +33,33 @@ double_quote = 34
 abbrev pub number_sign : ℕ
 number_sign = 35
 
+-- `$`
+abbrev pub dollar_sign : ℕ
+dollar_sign = 36
+
 -- `'`
 abbrev pub single_quote : ℕ
 single_quote = 39
 
+-- `(`
+abbrev pub left_parenthesis : ℕ
+left_parenthesis = 40
+
+-- `)`
+abbrev pub right_parenthesis : ℕ
+right_parenthesis = 41
+
 -- `*`
 abbrev pub asterisk : ℕ
 asterisk = 42
+
+-- `,`
+abbrev pub comma : ℕ
+comma = 44
+
+-- `-`
+abbrev pub hyphen : ℕ
+hyphen = 45
 
 -- `.`
 abbrev pub period : ℕ
@@ -52,6 +72,14 @@ slash = 47
 -- `0`
 abbrev pub digit_zero : ℕ
 digit_zero = 48
+
+-- `;`
+abbrev pub semicolon : ℕ
+semicolon = 59
+
+-- `=`
+abbrev pub equals_sign : ℕ
+equals_sign = 61
 
 -- `?`
 abbrev pub question_mark : ℕ

@@ -27,7 +27,8 @@ fn natural_size(value: u64) -> usize
     digits.format(value).len()
 }
 
-fn take_size(left: &mut Vec<usize>) -> usize
+/// Takes the first size off, which is the last of the Vec; 0 where there is none.
+pub fn take_size(left: &mut Vec<usize>) -> usize
     ensures value { result ≡ first_of (reverse left.old.items) }
     ensures left { reverse left.new.items ≡ others_of (reverse left.old.items) }
 {

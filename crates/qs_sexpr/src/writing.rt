@@ -2,11 +2,11 @@
 ghost use Rattle.std.specs.Prelude.{◌≡◌, ◌++◌, reverse, replicate, OnOk};
 ghost use Rattle.qs_base.specs.Characters.{space};
 ghost use Rattle.qs_sexpr.specs.Gaps.{gap_view};
-ghost use Rattle.qs_sexpr.specs.Marks.{first_of, layer_of, layers_behind, mark_of, others_of};
+ghost use Rattle.qs_sexpr.specs.Marks.{layer_of, layers_behind, mark_of};
 ghost use Rattle.qs_sexpr.specs.Pages.{ClosesList, LaysOut, OpensList, PutsMark, PutsWord};
 
 use crate::layout::{Gap, Layer};
-use crate::sizes::list_sizes;
+use crate::sizes::{list_sizes, take_size};
 use crate::token::Token;
 use itoa::Buffer;
 use qs_base::NoMemory;
@@ -50,16 +50,6 @@ fn put_gap(text: &mut Vec<u8>, gap: Gap) -> Result<(), NoMemory>
             put(text, b"\n")?;
             put_blanks(text, column)
         }
-    }
-}
-
-fn take_size(sizes: &mut Vec<usize>) -> usize
-    ensures value { result ≡ first_of (reverse sizes.old.items) }
-    ensures left { reverse sizes.new.items ≡ others_of (reverse sizes.old.items) }
-{
-    match sizes.pop() {
-        Some(size) => size,
-        None => 0,
     }
 }
 

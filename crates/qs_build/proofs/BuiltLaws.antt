@@ -16,7 +16,7 @@ use Rattle.qs_isa.specs.Addresses.{code_start}
 use Rattle.qs_image.specs.Image.{Image, FunctionRecord, IsWellFormed}
 use Rattle.qs_tac.specs.Trees.{TacFunctionTree, TacUnitTree}
 use Rattle.qs_tac.specs.Places.{PlacesTree}
-use Rattle.qs_lower.specs.Threads.{threaded_function}
+use Rattle.qs_lower_expressions.specs.Threads.{threaded_function}
 use Rattle.qs_lower.specs.Units.{straight_function}
 use Rattle.qs_lower.proofs.UnitFits.{types_count, function_there}
 use Rattle.qs_select.specs.Limits.{first_fault}

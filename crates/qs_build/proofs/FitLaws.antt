@@ -32,7 +32,7 @@ use Rattle.qs_tac.specs.Trees.{InstructionTree, call, TacFunctionTree, TacUnitTr
 use Rattle.qs_tac.specs.Fits.{takes, callee_fits, taken_fits, operand_fits, instruction_fits, function_fits, data_fits, unit_fits}
 use Rattle.qs_tac.specs.Places.{Accepted, no_places, all_slots}
 use Rattle.qs_tac.specs.declared.operands.Operand.{Operand}
-use Rattle.qs_lower.specs.Threads.{threaded_function}
+use Rattle.qs_lower_expressions.specs.Threads.{threaded_function}
 use Rattle.qs_lower.specs.Units.{straight_function, lower_data}
 use Rattle.qs_lower.proofs.UnitFits.{lowered_fits}
 use Rattle.qs_select.specs.Laws.{HasFewArguments}

@@ -7,7 +7,7 @@ use Rattle.qs_core.specs.Trees.{CoreFunctionTree, CoreParameterTree, CoreUnitTre
 use Rattle.qs_tac.specs.Trees.{TacFunctionTree, TacUnitTree}
 use Rattle.qs_tac.specs.Places.{PlacesTree, no_places}
 use Rattle.qs_tac.specs.declared.units.TacData.{TacData}
-use Rattle.qs_lower.specs.Threads.{threaded_function}
+use Rattle.qs_lower_expressions.specs.Threads.{threaded_function}
 use Rattle.qs_lower.specs.Units.{straight_function}
 use Rattle.qs_frames.specs.Layout.{total}
 use Rattle.qs_frames.proofs.FrameLaws.{is_rounded}

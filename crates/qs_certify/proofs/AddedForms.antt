@@ -22,7 +22,7 @@ use Rattle.qs_sexpr.specs.Writing.{Form, is_symbol, IsWritable, AreWritable}
 use Rattle.qs_triples.specs.Filled.{for_call, for_calls, open_definition}
 use Rattle.qs_callgraph.proofs.MemberLaws.{member_first}
 use Rattle.qs_callgraph.proofs.UnitCalls.{call_within, length-below}
-use Rattle.qs_prooftext.specs.Writing.{Words, forms_of, assertion_form, assertion_forms, certificate_form, derivation_form, derivation_forms, define_form, entry_form}
+use Rattle.qs_prooftext_meaning.specs.Writing.{Words, forms_of, assertion_form, assertion_forms, certificate_form, derivation_form, derivation_forms, define_form, entry_form}
 use Rattle.qs_analyse.specs.Fillable.{body_in, body_of, open_entry}
 use Rattle.qs_analyse.specs.Written.{place_of, pick_certificate, written_call, written, all_written}
 use Rattle.qs_analyse.proofs.SettingLaws.{there_at}

@@ -7,12 +7,12 @@ use Rattle.qs_assert.specs.Variables.{variables, all_variables}
 use Rattle.qs_assert.specs.declared.define.Define.{Define}
 use Rattle.qs_core.specs.Trees.{CoreUnitTree}
 use Rattle.qs_core.proofs.FitLaws.{both}
-use Rattle.qs_prooftext.specs.Proofs.{no_proofs}
-use Rattle.qs_prooftext.specs.Reading.{Fault}
-use Rattle.qs_prooftext.specs.Settings.{Setting, in_definition}
-use Rattle.qs_prooftext.specs.Writable.{are_many, definition_stands, definitions_stand, IsOfUnit}
-use Rattle.qs_prooftext.specs.declared.fault.TextFault.{TextFault}
-use Rattle.qs_prooftext.specs.declared.fault.TextFault.TheVariants as texts
+use Rattle.qs_prooftext_meaning.specs.Proofs.{no_proofs}
+use Rattle.qs_prooftext_meaning.specs.Reading.{Fault}
+use Rattle.qs_prooftext_meaning.specs.Settings.{Setting, in_definition}
+use Rattle.qs_prooftext_meaning.specs.Writable.{are_many, definition_stands, definitions_stand, IsOfUnit}
+use Rattle.qs_prooftext_meaning.specs.declared.fault.TextFault.{TextFault}
+use Rattle.qs_prooftext_meaning.specs.declared.fault.TextFault.TheVariants as texts
 use Rattle.qs_triples.specs.Derivations.{EntryTree, ProofsTree, is_entry_of}
 use Rattle.qs_triples.specs.Entries.{AreClosed}
 use Rattle.qs_triples.proofs.FunctionLaws.{entry_is_of}

@@ -24,7 +24,7 @@ use Rattle.qs_triples.specs.Filled.{for_call, for_calls, open_definition, pre_in
 use Rattle.qs_triples.specs.Valuations.{state_of, number_at, at_entry, value_at_entry}
 use Rattle.qs_triples.proofs.Names.{state_is}
 use Rattle.qs_callgraph.proofs.MemberLaws.{member_first, first_cases}
-use Rattle.qs_prooftext.specs.Proofs.{no_proofs}
+use Rattle.qs_prooftext_meaning.specs.Proofs.{no_proofs}
 use Rattle.qs_analyse.specs.Paths.{IsLongestPath}
 use Rattle.qs_analyse.proofs.NameLaws.{same_self, one_name}
 use Rattle.qs_analyse.proofs.NeedLaws.{call_value, greatest_value, calls_value}

@@ -6,10 +6,10 @@ use Rattle.qs_assert.specs.Order.{order_fault, IsInOrder}
 use Rattle.qs_assert.specs.declared.define.Define.{Define}
 use Rattle.qs_core.specs.CallGraph.{IsCycle, IsWithoutRecursion, is_member}
 use Rattle.qs_core.specs.Trees.{CoreUnitTree}
-use Rattle.qs_prooftext.specs.Proofs.{no_proofs}
-use Rattle.qs_prooftext.specs.Reading.{Fault}
-use Rattle.qs_prooftext.specs.declared.fault.TextFault.{TextFault}
-use Rattle.qs_prooftext.proofs.OneMeaning as meanings
+use Rattle.qs_prooftext_meaning.specs.Proofs.{no_proofs}
+use Rattle.qs_prooftext_meaning.specs.Reading.{Fault}
+use Rattle.qs_prooftext_meaning.specs.declared.fault.TextFault.{TextFault}
+use Rattle.qs_prooftext_meaning.proofs.OneMeaning as meanings
 use Rattle.qs_triples.specs.Derivations.{ProofsTree, entry_of}
 use Rattle.qs_triples.specs.Entries.{has_entry, fault_of_entry, function_fault}
 use Rattle.qs_triples.specs.Filled.{Filled}

@@ -21,9 +21,9 @@ use Rattle.qs_callgraph.specs.CallLists.{flag, numbers}
 use Rattle.qs_callgraph.specs.Orders.{CalleesFirst}
 use Rattle.qs_callgraph.proofs.MemberLaws.{member_first, first_cases}
 use Rattle.qs_callgraph.proofs.UnitCalls.{call_within}
-use Rattle.qs_prooftext.specs.Proofs.{no_proofs, is_among, is_defined, is_open_name, defined_names}
-use Rattle.qs_prooftext.specs.Settings.{Setting, functions_of, in_definition, in_entry, numbered}
-use Rattle.qs_prooftext.specs.Writable.{is_function, definition_stands, definitions_stand, certificate_stands, derivation_stands, derivations_stand, entry_stands, entry_stands_in, IsWritable}
+use Rattle.qs_prooftext_meaning.specs.Proofs.{no_proofs, is_among, is_defined, is_open_name, defined_names}
+use Rattle.qs_prooftext_meaning.specs.Settings.{Setting, functions_of, in_definition, in_entry, numbered}
+use Rattle.qs_prooftext_meaning.specs.Writable.{is_function, definition_stands, definitions_stand, certificate_stands, derivation_stands, derivations_stand, entry_stands, entry_stands_in, IsWritable}
 use Rattle.qs_analyse.specs.Additions.{IsFilling}
 use Rattle.qs_analyse.specs.Fillable.{body_of, open_entry, path_entry, entries_only, with_entries}
 use Rattle.qs_analyse.specs.Written.{pick_certificate, written_call, written, all_written}

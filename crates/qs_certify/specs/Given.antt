@@ -3,10 +3,10 @@ use Rattle.std.specs.Prelude.{◌≡◌, ℕ, ◌<◌, ◌^◌, List, length, Op
 use Rattle.std.specs.Borrow.{Bor}
 use Rattle.qs_core.specs.Trees.{CoreUnitTree}
 use Rattle.qs_triples.specs.Derivations.{ProofsTree}
-use Rattle.qs_prooftext.specs.Proofs.{no_proofs}
-use Rattle.qs_prooftext.specs.Reading.{Reading, Fault}
-use Rattle.qs_prooftext.specs.declared.fault.TextFault.{TextFault}
-use Rattle.qs_prooftext.specs.declared.fault.TextFault.TheVariants as texts
+use Rattle.qs_prooftext_meaning.specs.Proofs.{no_proofs}
+use Rattle.qs_prooftext_meaning.specs.Reading.{Reading, Fault}
+use Rattle.qs_prooftext_meaning.specs.declared.fault.TextFault.{TextFault}
+use Rattle.qs_prooftext_meaning.specs.declared.fault.TextFault.TheVariants as texts
 use Rattle.qs_certify.specs.declared.fault.CertifyFault.{CertifyFault}
 use Rattle.qs_certify.specs.declared.fault.CertifyFault.TheVariants.{NoMemory, Text}
 

@@ -9,9 +9,9 @@ use Rattle.qs_core.specs.Trees.{CoreUnitTree}
 use Rattle.qs_core.specs.Units.{main_run}
 use Rattle.qs_nesting.specs.Nesting.{unit_nesting}
 use Rattle.qs_sexpr.specs.Reading.{depth_limit}
-use Rattle.qs_prooftext.specs.Reading.{Fault}
-use Rattle.qs_prooftext.specs.Writable.{IsWritable}
-use Rattle.qs_prooftext.specs.declared.fault.TextFault.{TextFault}
+use Rattle.qs_prooftext_meaning.specs.Reading.{Fault}
+use Rattle.qs_prooftext_meaning.specs.Writable.{IsWritable}
+use Rattle.qs_prooftext_meaning.specs.declared.fault.TextFault.{TextFault}
 use Rattle.qs_triples.specs.Derivations.{ProofsTree}
 use Rattle.qs_triples.specs.Entries.{has_entry, Covers, HasDerivedEntry}
 use Rattle.qs_triples.specs.Filled.{Filled}

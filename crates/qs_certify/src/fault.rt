@@ -3,7 +3,7 @@ ghost use Rattle.std.specs.Prelude.{◌≡◌};
 ghost use Rattle.qs_certify.specs.declared.fault.CertifyFault.TheVariants as fault;
 
 use qs_base::{FnId, Name, NoMemory};
-use qs_prooftext::TextFault;
+use qs_prooftext_meaning::TextFault;
 use qs_triples::DerivFault;
 use thiserror::Error;
 

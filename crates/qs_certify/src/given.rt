@@ -1,14 +1,15 @@
 // The proofs that a proof file gives.
 ghost use Rattle.std.specs.Prelude.{◌≡◌, ◌<◌, ◌^◌, IfErr, length, Some};
 ghost use Rattle.qs_core.specs.UnitTrees.{unit_tree};
-ghost use Rattle.qs_prooftext.specs.Reading.{Reading};
+ghost use Rattle.qs_prooftext_meaning.specs.Reading.{Reading};
 ghost use Rattle.qs_analyse.specs.Fillable.{IfProofs, IsFillable};
 ghost use Rattle.qs_certify.specs.Given.{GivenIs, IsShort, text_of, text_told};
 ghost use Rattle.qs_certify.specs.Certification.{IsTextFault};
 
 use crate::fault::CertifyFault;
 use qs_core::CoreUnit;
-use qs_prooftext::{TextFault, read};
+use qs_prooftext::read;
+use qs_prooftext_meaning::TextFault;
 use qs_triples::Proofs;
 use std::alloc::Global;
 

@@ -19,9 +19,9 @@ use Rattle.qs_core.specs.Fits.{unit_fits}
 use Rattle.qs_core.specs.Sizes.{values}
 use Rattle.qs_meaning.specs.Typed.{TypedProgram}
 use Rattle.qs_meaning.specs.Runs.{main_run, source_run}
-use Rattle.qs_elaborate.specs.FitLaws.{HasCore}
-use Rattle.qs_elaborate.specs.Units.{core_of}
-use Rattle.qs_elaborate.proofs.FitCore.{units_have_cores}
+use Rattle.qs_elaborate_laws.specs.FitLaws.{HasCore}
+use Rattle.qs_elaborate_bodies.specs.Units.{core_of}
+use Rattle.qs_elaborate_laws.proofs.FitCore.{units_have_cores}
 use Rattle.qs_limits.specs.Caps.{caps, needed, frame_size, EachBelow}
 use Rattle.qs_limits.specs.Measures.{bytes_in_words}
 use Rattle.qs_limits.proofs.FrameCaps.{caps_are_kept}
@@ -38,9 +38,9 @@ use Rattle.qs_machine.specs.Run.{machine, least_stack_pointer}
 use Rattle.qs_emit.specs.Agree.{Agree, Accounts}
 use Rattle.qs_emit.specs.Relation.{cost_at}
 use Rattle.std.proofs.lemmas.List.{length-map}
-use Rattle.qs_typing.specs.TypedOf.{typed_tree}
-use Rattle.qs_typing.specs.declared.typed_unit.TypedUnit.{TypedUnit}
-use Rattle.qs_typing.proofs.TypedLaws.{is_read}
+use Rattle.qs_findings.specs.TypedOf.{typed_tree}
+use Rattle.qs_findings.specs.declared.typed_unit.TypedUnit.{TypedUnit}
+use Rattle.qs_findings.proofs.TypedLaws.{is_read}
 use Rattle.qs_build.proofs.FitLaws.{function_found}
 use Rattle.qs_build.proofs.SmallUnits.{slots_at}
 use Rattle.qs_build.specs.Agrees.{values_of, HasStack, DoesAsCore}

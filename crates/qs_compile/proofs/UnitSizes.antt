@@ -11,7 +11,7 @@ use Rattle.qs_types.specs.WellTyped.{WellTyped}
 use Rattle.qs_core.specs.Trees.{CoreFunctionTree, CoreUnitTree}
 use Rattle.qs_core.specs.Fits.{unit_fits}
 use Rattle.qs_core.specs.Sizes.{values, held_in_all}
-use Rattle.qs_elaborate.specs.Units.{core_of}
+use Rattle.qs_elaborate_bodies.specs.Units.{core_of}
 use Rattle.qs_limits.specs.Measures.{bytes_in_words, data_end, data_size}
 use Rattle.qs_limits.proofs.CoreUnits.{functions_are_few, parameters_are_few, code_is_small, held_values_are_few}
 use Rattle.qs_limits.proofs.CoreBytes.{placed_bytes_are_few, data_bytes_are_few}

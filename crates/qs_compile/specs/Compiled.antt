@@ -10,7 +10,7 @@ use Rattle.qs_core.specs.Units.{initial_memory}
 use Rattle.qs_meaning.specs.Typed.{TypedProgram}
 use Rattle.qs_meaning.specs.Units.{typed_of}
 use Rattle.qs_meaning.specs.Runs.{main_run, source_run}
-use Rattle.qs_elaborate.specs.Units.{core_of}
+use Rattle.qs_elaborate_bodies.specs.Units.{core_of}
 use Rattle.qs_limits.specs.Caps.{caps, EachBelow}
 use Rattle.qs_image.specs.Image.{Image}
 use Rattle.qs_machine.specs.Arguments.{AreArguments, words_of}

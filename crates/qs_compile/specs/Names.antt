@@ -3,7 +3,7 @@ use Rattle.std.specs.Prelude.{ℕ, ◌≤◌, List, length, sum_by}
 use Rattle.qs_syntax.specs.Numbering.{numbered_unit}
 use Rattle.qs_syntax.specs.ReadsUnits.{ReadsUnit}
 use Rattle.qs_syntax.specs.Trees.{UnitTree}
-use Rattle.qs_syntax.specs.declared.tokens.Token.{Token}
+use Rattle.qs_vocabulary.specs.declared.tokens.Token.{Token}
 use Rattle.qs_lexer.specs.Terminals.{terminals}
 use Rattle.qs_lexer.specs.Tokens.{Tokens}
 use Rattle.qs_meaning.specs.Units.{functions_in}

@@ -7,8 +7,8 @@ use Rattle.qs_assert.specs.declared.variable.VarKind.TheVariants as kinds
 use Rattle.qs_assert.specs.Trees.{TermTree, variable, AssertionTree, natural, infinity, cost, num, total, assertions_of}
 use Rattle.qs_entail.specs.Certificates.{same}
 use Rattle.qs_triples.specs.Derivations.{EntryTree, leaf}
-use Rattle.qs_prooftext.specs.Proofs.{no_proofs}
-use Rattle.qs_prooftext.proofs.Examples.{u}
+use Rattle.qs_prooftext_meaning.specs.Proofs.{no_proofs}
+use Rattle.qs_prooftext_meaning.proofs.Examples.{u}
 use Rattle.qs_image.specs.Image.{Image, FunctionRecord}
 use Rattle.qs_driver.specs.Bounds.{costs_in, bound_by, bytes_by}
 use Rattle.qs_driver.specs.Certified.{CertifiedSource}

@@ -19,7 +19,7 @@ use Rattle.qs_core.specs.Interfaces.{main_types}
 use Rattle.qs_core.specs.Fits.{unit_fits}
 use Rattle.qs_core.specs.Trees.{CoreUnitTree}
 use Rattle.qs_core.specs.Units as core
-use Rattle.qs_elaborate.specs.Units.{core_of}
+use Rattle.qs_elaborate_bodies.specs.Units.{core_of}
 use Rattle.qs_meaning.specs.Typed.{TypedProgram}
 use Rattle.qs_triples.specs.Valuations.{value_at_entry}
 use Rattle.qs_lower.proofs.LoweringLaws.{lowering_follows}

@@ -3,7 +3,7 @@ use Rattle.std.proofs.Common.{◌≡◌, ◌⊎◌, ◌∙◌, ℕ, ◌<◌, Lis
 use Rattle.std.proofs.lemmas.Option.{same_Some}
 use Rattle.qs_syntax.specs.Trees.{UnitTree}
 use Rattle.qs_core.specs.Trees.{CoreUnitTree}
-use Rattle.qs_elaborate.specs.Units.{core_of}
+use Rattle.qs_elaborate_bodies.specs.Units.{core_of}
 use Rattle.qs_certify.specs.Certification.{CannotCertify}
 use Rattle.qs_certify.specs.declared.fault.CertifyFault.{CertifyFault}
 use Rattle.qs_certify.specs.declared.fault.CertifyFault.TheVariants as faults

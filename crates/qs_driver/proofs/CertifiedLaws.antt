@@ -7,9 +7,9 @@ use Rattle.qs_syntax.specs.Trees.{DeclTree}
 use Rattle.qs_syntax.specs.Units.{IsRead}
 use Rattle.qs_core.specs.Trees.{CoreUnitTree}
 use Rattle.qs_core.specs.UnitTrees.{unit_tree}
-use Rattle.qs_elaborate.specs.Units.{core_of}
-use Rattle.qs_elaborate.specs.FitLaws.{HasCore}
-use Rattle.qs_elaborate.proofs.FitCore.{units_have_cores}
+use Rattle.qs_elaborate_bodies.specs.Units.{core_of}
+use Rattle.qs_elaborate_laws.specs.FitLaws.{HasCore}
+use Rattle.qs_elaborate_laws.proofs.FitCore.{units_have_cores}
 use Rattle.qs_triples.specs.TreeOf.{proofs_tree}
 use Rattle.qs_certify.specs.Certification.{CannotCertify}
 use Rattle.qs_certify.specs.declared.fault.CertifyFault.{CertifyFault}

@@ -6,12 +6,12 @@ use Rattle.std.specs.declared.alloc.Global.{Global}
 use Rattle.qs_base.specs.declared.places.Pos.{Pos}
 use Rattle.qs_core.specs.Trees.{CoreUnitTree}
 use Rattle.qs_core.specs.FunctionNames.{function_name}
-use Rattle.qs_elaborate.specs.Units.{core_of}
+use Rattle.qs_elaborate_bodies.specs.Units.{core_of}
 use Rattle.qs_triples.specs.Derivations.{ProofsTree}
 use Rattle.qs_triples.specs.Rules.{DerivFault}
 use Rattle.qs_analyse.specs.Fillable.{entry_functions}
 use Rattle.qs_callgraph.specs.CallLists.{numbers}
-use Rattle.qs_prooftext.specs.declared.fault.TextFault.{TextFault}
+use Rattle.qs_prooftext_meaning.specs.declared.fault.TextFault.{TextFault}
 use Rattle.qs_report.specs.declared.fault_texts.Spot.{Spot}
 use Rattle.qs_report.specs.declared.fault_texts.ProofText.{ProofText}
 use Rattle.qs_certify.specs.Certification.{CannotCertify, IsCertified, IsCycleFault, HasNoOrder, OfGiven}

@@ -4,7 +4,7 @@ use Rattle.std.proofs.lemmas.Bool.Decides.{nat_tests}
 use Rattle.std.specs.Option.{option_or}
 use Rattle.qs_syntax.specs.declared.nodes.Node.{Node}
 use Rattle.qs_syntax.specs.declared.types.Base.{Base}
-use Rattle.qs_syntax.specs.declared.terminal.Terminal.{Terminal}
+use Rattle.qs_vocabulary.specs.declared.terminal.Terminal.{Terminal}
 use Rattle.qs_syntax.specs.Trees.{ExprTree, expr, ShapeTree, Exprs, no_exprs, expr_and, DeclaratorTree, InitialiserTree, value, list, Initialisers, no_initialisers, initialiser_and, VariableTree, ParameterTree, MembersTree, StartTree, no_start, start_expression, start_declaration, StmtTree, empty, expression, declaration, block, branch, while_loop, do_loop, for_loop, break, continue, return, Stmts, no_stmts, stmt_and, Else, no_else, else_by, StructTree, FunctionTree, DeclTree, structure, forward, function, variables, UnitTree}
 use Rattle.qs_syntax.specs.Trees as trees
 use Rattle.qs_syntax.specs.Nodes.{all_nodes, option_nodes, expr_nodes, shape_nodes, exprs_nodes, declarator_nodes, initialiser_nodes, initialisers_nodes, variable_nodes, declaration_nodes, parameter_nodes, members_nodes, start_nodes, stmt_nodes, stmts_nodes, else_nodes, struct_nodes, function_nodes, decl_nodes, unit_nodes, unit_count}
@@ -24,11 +24,11 @@ use Rattle.qs_types.specs.References.{TextBlock, expr_texts, shape_texts, exprs_
 use Rattle.qs_types.specs.Placed.{Local, variables_locals, start_locals, statement_locals, statements_locals, else_locals, parameters_locals, locals_in, is_placed, addressed_in, placed_in}
 use Rattle.qs_types.specs.WellTyped.{undefined_from, runs, first_undefined, has_main}
 use Rattle.qs_types.specs.Limits.{node_limit, first_past_nodes, function_limit, header_past, first_past_functions, parameter_limit, node_of_parameter, first_past_parameters, Block, block_end, block_past, variables_blocks, variable_blocks_from, text_block, data_blocks, global_limit, first_past_globals, local_block, local_blocks, local_past, local_past_from, local_limit, first_past_locals}
-use Rattle.qs_typing.specs.Findings.{is_before, lesser, least_with}
-use Rattle.qs_typing.specs.Refusals.{limit_fault, rule_fault, main_fault, undefined_fault, early_refusal, late_refusal, first_refusal}
+use Rattle.qs_findings.specs.Findings.{is_before, lesser, least_with}
+use Rattle.qs_findings.specs.Refusals.{limit_fault, rule_fault, main_fault, undefined_fault, early_refusal, late_refusal, first_refusal}
 use Rattle.qs_types.specs.declared.limits.LimitKind.{LimitKind}
 use Rattle.qs_types.specs.declared.limits.LimitKind.TheVariants as kinds
-use Rattle.qs_typing.specs.declared.checking.TypeFault.{TypeFault}
+use Rattle.qs_findings.specs.declared.type_fault.TypeFault.{TypeFault}
 use Rattle.qs_parser.specs.Answers.{ReadsAs}
 use Rattle.qs_driver.specs.Source.{node_of}
 use Rattle.qs_driver.proofs.NodeTokens.{Each, each_both, all_ids_low}

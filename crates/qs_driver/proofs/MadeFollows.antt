@@ -6,11 +6,11 @@ use Rattle.qs_syntax.specs.Trees.{UnitTree}
 use Rattle.qs_core.specs.Interfaces.{main_types}
 use Rattle.qs_core.specs.CallGraph.{IsWithoutRecursion}
 use Rattle.qs_core.specs.Trees.{CoreUnitTree}
-use Rattle.qs_elaborate.specs.Units.{core_of}
+use Rattle.qs_elaborate_bodies.specs.Units.{core_of}
 use Rattle.qs_assert.specs.declared.define.Amount.{Amount}
 use Rattle.qs_triples.specs.Derivations.{ProofsTree}
 use Rattle.qs_triples.specs.Entries.{has_entry}
-use Rattle.qs_prooftext.specs.Proofs.{no_proofs}
+use Rattle.qs_prooftext_meaning.specs.Proofs.{no_proofs}
 use Rattle.qs_memory.specs.declared.scalar.Scalar.{Scalar}
 use Rattle.qs_certify.specs.Bound.{AreNumbersOf}
 use Rattle.qs_certify.specs.Certification.{IsCertified}

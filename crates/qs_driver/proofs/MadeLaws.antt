@@ -1,7 +1,7 @@
 -- How an image and main's bound are made of a source.
 use Rattle.std.proofs.Common.{◌≡◌, ◌∙◌, ℕ, List, Result, Ok, Err, refl, ap, subst}
 use Rattle.qs_syntax.specs.Trees.{UnitTree}
-use Rattle.qs_typing.specs.TypedOf.{typed_tree}
+use Rattle.qs_findings.specs.TypedOf.{typed_tree}
 use Rattle.qs_core.specs.Trees.{CoreUnitTree}
 use Rattle.qs_core.specs.UnitTrees.{unit_tree}
 use Rattle.qs_triples.specs.Derivations.{ProofsTree}

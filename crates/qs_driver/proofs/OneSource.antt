@@ -3,7 +3,7 @@ use Rattle.std.proofs.Common.{◌≡◌, ◌∙◌, ℕ, List, Option, Some, Non
 use Rattle.std.proofs.lemmas.Option.{same_Some}
 use Rattle.qs_syntax.specs.Trees.{UnitTree}
 use Rattle.qs_core.specs.Trees.{CoreUnitTree}
-use Rattle.qs_elaborate.specs.Units.{core_of}
+use Rattle.qs_elaborate_bodies.specs.Units.{core_of}
 use Rattle.qs_triples.specs.Derivations.{ProofsTree}
 use Rattle.qs_certify.specs.Certification.{IsCertified}
 use Rattle.qs_certify.proofs.OneLaws.{one_certified}

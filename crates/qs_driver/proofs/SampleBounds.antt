@@ -8,8 +8,8 @@ use Rattle.qs_types.specs.Contexts.{Context}
 use Rattle.qs_types.specs.UnitRules.{after_declaration}
 use Rattle.qs_meaning.specs.Typed.{Function}
 use Rattle.qs_limits.specs.Caps.{cap, caps_from, EachBelow}
-use Rattle.qs_elaborate.specs.Names.{FunctionNames}
-use Rattle.qs_elaborate.specs.Units.{functions_core}
+use Rattle.qs_elaborate_bodies.specs.Names.{FunctionNames}
+use Rattle.qs_elaborate_bodies.specs.Units.{functions_core}
 use Rattle.qs_analyse.specs.Paths.{IsChainFrom, total_cost, IsLongestPath}
 use Rattle.qs_machine.specs.State.{stack_limit}
 use Rattle.qs_driver.proofs.SampleTrees.{function_name, next, IsValue, the_next, a_call, returning, function_of, main_of, main_body, IsTail, the_main, a_function}

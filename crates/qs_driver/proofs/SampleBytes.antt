@@ -5,7 +5,7 @@ use Rattle.std.proofs.lemmas.Bool.Decides.{nat_tests}
 use Rattle.std.proofs.lemmas.List.Folds.{list_all-append}
 use Rattle.std.specs.Fmt.{digits}
 use Rattle.std.specs.List.{list_all}
-use Rattle.qs_syntax.specs.Units.{is_byte}
+use Rattle.qs_vocabulary.specs.WellFormed.{is_byte}
 use Rattle.qs_driver.specs.SampleSource.{calling, function_after, functions, main_function, sample_text}
 
 -- ---- numbers

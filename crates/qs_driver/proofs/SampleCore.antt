@@ -8,8 +8,8 @@ use Rattle.qs_core.specs.CallGraph.{all_callees, callees_of, HasCall, IsChain, I
 use Rattle.qs_core.specs.Trees.{stmts_of, CoreUnitTree}
 use Rattle.qs_meaning.specs.Typed.{Function, TypedProgram}
 use Rattle.qs_meaning.specs.Runs.{main_from}
-use Rattle.qs_elaborate.specs.Names.{FunctionNames, names_in}
-use Rattle.qs_elaborate.specs.Units.{body_core, end_of_body, functions_core, unit_core, core_of}
+use Rattle.qs_elaborate_bodies.specs.Names.{FunctionNames, names_in}
+use Rattle.qs_elaborate_bodies.specs.Units.{body_core, end_of_body, functions_core, unit_core, core_of}
 use Rattle.qs_driver.proofs.SampleTrees.{IsTail}
 use Rattle.qs_driver.proofs.SampleMeaning.{typed_tail, sample_typed, unit_is_typed}
 

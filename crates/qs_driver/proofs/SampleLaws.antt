@@ -6,10 +6,10 @@ use Rattle.qs_lexer.specs.Terminals.{terminals}
 use Rattle.qs_lexer.proofs.TerminalLaws.{are_well_formed}
 use Rattle.qs_core.specs.CallGraph.{IsWithoutRecursion}
 use Rattle.qs_core.specs.Trees.{CoreUnitTree}
-use Rattle.qs_elaborate.specs.FitLaws.{HasCore}
-use Rattle.qs_elaborate.specs.Names.{names_in}
-use Rattle.qs_elaborate.specs.Units.{core_of}
-use Rattle.qs_elaborate.proofs.FitCore.{units_have_cores}
+use Rattle.qs_elaborate_laws.specs.FitLaws.{HasCore}
+use Rattle.qs_elaborate_bodies.specs.Names.{names_in}
+use Rattle.qs_elaborate_bodies.specs.Units.{core_of}
+use Rattle.qs_elaborate_laws.proofs.FitCore.{units_have_cores}
 use Rattle.qs_syntax.specs.Trees.{UnitTree}
 use Rattle.qs_driver.specs.SampleSource.{sample_text}
 use Rattle.qs_driver.specs.SampleLaws.{SamplesAreGood}

@@ -20,13 +20,13 @@ use Rattle.qs_lexer.proofs.PieceClasses.{next_is}
 use Rattle.qs_lexer.proofs.RestOfText.{LexesAs, token_then, white_then}
 use Rattle.qs_lexer.proofs.ScanTokens.{punctuator_1, character_ends}
 use Rattle.qs_lexer.proofs.TokenEnds.{number_next, word_next}
-use Rattle.qs_syntax.specs.Punctuators.{punctuator_of}
-use Rattle.qs_syntax.specs.declared.terminal.Terminal.{Terminal}
-use Rattle.qs_syntax.specs.declared.terminal.Terminal.TheVariants.{Name, Keyword, Constant, Punctuator}
-use Rattle.qs_syntax.specs.declared.punctuator.Punctuator as punctuator
-use Rattle.qs_syntax.specs.declared.punctuator.Punctuator.TheVariants as punctuators
-use Rattle.qs_syntax.specs.declared.tokens.TokenKind.{TokenKind}
-use Rattle.qs_syntax.specs.declared.tokens.TokenKind.TheVariants as kinds
+use Rattle.qs_vocabulary.specs.Punctuators.{punctuator_of}
+use Rattle.qs_vocabulary.specs.declared.terminal.Terminal.{Terminal}
+use Rattle.qs_vocabulary.specs.declared.terminal.Terminal.TheVariants.{Name, Keyword, Constant, Punctuator}
+use Rattle.qs_vocabulary.specs.declared.punctuator.Punctuator as punctuator
+use Rattle.qs_vocabulary.specs.declared.punctuator.Punctuator.TheVariants as punctuators
+use Rattle.qs_vocabulary.specs.declared.tokens.TokenKind.{TokenKind}
+use Rattle.qs_vocabulary.specs.declared.tokens.TokenKind.TheVariants as kinds
 use Rattle.qs_driver.proofs.SampleTrees.{function_name}
 
 -- ---- words, and what is white

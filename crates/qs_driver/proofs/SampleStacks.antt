@@ -5,8 +5,8 @@ use Rattle.qs_types.specs.Contexts.{start_context}
 use Rattle.qs_core.specs.Fits.{unit_fits}
 use Rattle.qs_core.specs.Trees.{CoreUnitTree}
 use Rattle.qs_core.specs.Interfaces.{types_of_main, main_types}
-use Rattle.qs_elaborate.specs.Names.{FunctionNames, names_in}
-use Rattle.qs_elaborate.specs.Units.{functions_core}
+use Rattle.qs_elaborate_bodies.specs.Names.{FunctionNames, names_in}
+use Rattle.qs_elaborate_bodies.specs.Units.{functions_core}
 use Rattle.qs_limits.specs.Caps.{caps}
 use Rattle.qs_analyse.specs.Paths.{IsLongestPath}
 use Rattle.qs_assert.specs.declared.define.Amount.TheVariants.{Finite}

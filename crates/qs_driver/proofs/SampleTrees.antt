@@ -1,7 +1,7 @@
 -- The trees of a sample's source, whatever the numbers and tokens of their nodes.
 use Rattle.std.proofs.Common.{ℕ, suc, false, List, [], ◌∷◌, Some, codes, decimal}
 use Rattle.qs_syntax.specs.declared.nodes.Node.{Node}
-use Rattle.qs_syntax.specs.declared.operators.BinaryOperator.TheVariants.{Add, Remainder}
+use Rattle.qs_vocabulary.specs.declared.operators.BinaryOperator.TheVariants.{Add, Remainder}
 use Rattle.qs_syntax.specs.declared.types.Base.TheVariants as bases
 use Rattle.qs_syntax.specs.declared.types.TypeName.{TypeName}
 use Rattle.qs_syntax.specs.Nodes.{decl_count}

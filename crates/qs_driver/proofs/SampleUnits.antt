@@ -3,10 +3,10 @@ use Rattle.std.proofs.Common.{◌≡◌, ℕ, zero, suc, ◌+◌, ◌<◌, ◌�
 use Rattle.std.proofs.lemmas.List.{append_assoc}
 use Rattle.std.specs.Fmt.{digits}
 use Rattle.qs_base.specs.declared.keyword.Keyword.TheVariants as keywords
-use Rattle.qs_syntax.specs.declared.operators.BinaryOperator.TheVariants.{Add, Remainder}
-use Rattle.qs_syntax.specs.declared.punctuator.Punctuator.TheVariants as punctuators
-use Rattle.qs_syntax.specs.declared.terminal.Terminal.{Terminal}
-use Rattle.qs_syntax.specs.declared.terminal.Terminal.TheVariants.{Name, Keyword, Constant, Punctuator}
+use Rattle.qs_vocabulary.specs.declared.operators.BinaryOperator.TheVariants.{Add, Remainder}
+use Rattle.qs_vocabulary.specs.declared.punctuator.Punctuator.TheVariants as punctuators
+use Rattle.qs_vocabulary.specs.declared.terminal.Terminal.{Terminal}
+use Rattle.qs_vocabulary.specs.declared.terminal.Terminal.TheVariants.{Name, Keyword, Constant, Punctuator}
 use Rattle.qs_syntax.specs.Numbering.{numbered, numbered_unit}
 use Rattle.qs_syntax.specs.Reads.{Postfix, Level, Assignment, Reads, a_name, a_constant, a_call, a_postfix, an_operand, stronger, an_operation, a_plain_level, a_plain_conditional, a_plain_assignment, a_last_argument}
 use Rattle.qs_syntax.specs.ReadsTypes.{no_prefix, an_int, no_const, a_type, an_outer_type, no_star}

@@ -2,7 +2,8 @@
 use Rattle.std.proofs.Common.{◌≡◌, ℕ, ◌≤◌, true, List, length, sym, ◌∙◌, subst, arith}
 use Rattle.std.specs.List.{list_all}
 use Rattle.qs_syntax.specs.Trees.{UnitTree}
-use Rattle.qs_syntax.specs.Units.{is_byte, IsRead}
+use Rattle.qs_syntax.specs.Units.{IsRead}
+use Rattle.qs_vocabulary.specs.WellFormed.{is_byte}
 use Rattle.qs_lexer.proofs.TerminalLaws.{are_well_formed}
 use Rattle.qs_lexer.specs.Terminals.{terminals}
 use Rattle.qs_types.specs.Limits.{IsWithinLimits}

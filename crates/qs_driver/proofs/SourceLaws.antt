@@ -2,7 +2,7 @@
 use Rattle.std.proofs.Common.{◌≡◌, ◌≢◌, inl, inr, ℕ, ◌<◌, ◌≤◌, List, length, get_or, Option, Some, None, Err, slice_get, refl, ap, subst, sym, ◌∙◌, arith}
 use Rattle.std.proofs.lemmas.Option.{slice_get-get_or, slice_get_within, same_Some}
 use Rattle.qs_base.specs.declared.places.Pos.{Pos}
-use Rattle.qs_syntax.specs.declared.tokens.Token.{Token}
+use Rattle.qs_vocabulary.specs.declared.tokens.Token.{Token}
 use Rattle.qs_syntax.specs.declared.nodes.Node.{Node}
 use Rattle.qs_syntax.specs.Nodes.{unit_count, unit_nodes}
 use Rattle.qs_syntax.specs.Numbering.{numbered_unit}
@@ -17,14 +17,14 @@ use Rattle.qs_lexer.specs.declared.fault.LexFault.TheVariants as faults
 use Rattle.qs_lexer.proofs.OneReading.{not_both, one_list, one_place, one_kind}
 use Rattle.qs_lexer.proofs.TerminalLaws.{as_many}
 use Rattle.qs_parser.specs.Answers.{Answers, HasFault, HasNoReading, ReadsAs}
-use Rattle.qs_syntax.specs.declared.terminal.Terminal.{Terminal}
+use Rattle.qs_vocabulary.specs.declared.terminal.Terminal.{Terminal}
 use Rattle.qs_parser.proofs.Top.{has_none, faults_are_unique}
 use Rattle.qs_parser.specs.declared.syntax_fault.SyntaxFault.{SyntaxFault}
 use Rattle.qs_parser.specs.declared.syntax_fault.SyntaxFault.TheVariants as syntax
 use Rattle.qs_grammar.proofs.UnitsComplete.{one_reading}
-use Rattle.qs_typing.specs.Refusals.{IsAccepted, IsCause, IsTold, first_refusal}
-use Rattle.qs_typing.specs.declared.checking.TypeFault.{TypeFault}
-use Rattle.qs_typing.specs.declared.checking.TypeFault.TheVariants as type_faults
+use Rattle.qs_findings.specs.Refusals.{IsAccepted, IsCause, IsTold, first_refusal}
+use Rattle.qs_findings.specs.declared.type_fault.TypeFault.{TypeFault}
+use Rattle.qs_findings.specs.declared.type_fault.TypeFault.TheVariants as type_faults
 use Rattle.qs_typing.proofs.CheckingLaws.{nothing_refused}
 use Rattle.qs_ports.specs.StoreView.{StoreView}
 use Rattle.qs_driver.specs.Limits.{source_limit}

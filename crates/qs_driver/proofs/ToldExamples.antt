@@ -8,7 +8,7 @@ use Rattle.qs_assert.specs.declared.variable.Var.{Var}
 use Rattle.qs_entail.specs.Faults.{step, limit}
 use Rattle.qs_entail.specs.declared.fault.Rule.TheVariants as rules
 use Rattle.qs_entail.specs.declared.stop.Limit.TheVariants.{Terms}
-use Rattle.qs_prooftext.proofs.Examples.{u}
+use Rattle.qs_prooftext_meaning.proofs.Examples.{u}
 use Rattle.qs_triples.specs.Rules.{in_precondition, in_postcondition, at_node, shape, mentions, certificate, entry}
 use Rattle.qs_report.specs.declared.fault_texts.Path.{Path}
 use Rattle.qs_report.specs.declared.fault_texts.ProofText.TheVariants as wrongs

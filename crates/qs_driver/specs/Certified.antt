@@ -4,19 +4,19 @@ use Rattle.std.specs.declared.alloc.Global.{Global}
 use Rattle.qs_base.specs.declared.function.FnId.{FnId}
 use Rattle.qs_base.specs.declared.places.Pos.{Pos}
 use Rattle.qs_syntax.specs.Trees.{UnitTree}
-use Rattle.qs_typing.specs.TypedOf.{typed_tree}
+use Rattle.qs_findings.specs.TypedOf.{typed_tree}
 use Rattle.qs_core.specs.CallGraph.{IsCycle, IsWithoutRecursion, is_member}
 use Rattle.qs_core.specs.Trees.{CoreUnitTree}
 use Rattle.qs_core.specs.UnitTrees.{unit_tree}
 use Rattle.qs_core.specs.FunctionNames.{function_name}
 use Rattle.qs_core.specs.declared.unit.CoreUnit.{CoreUnit}
-use Rattle.qs_elaborate.specs.FitLaws.{HasCore}
-use Rattle.qs_elaborate.specs.Units.{core_of}
+use Rattle.qs_elaborate_laws.specs.FitLaws.{HasCore}
+use Rattle.qs_elaborate_bodies.specs.Units.{core_of}
 use Rattle.qs_callgraph.specs.CallLists.{numbers}
-use Rattle.qs_prooftext.specs.Reading.{Reading}
-use Rattle.qs_prooftext.specs.Writing.{variable_text}
-use Rattle.qs_prooftext.specs.declared.fault.TextFault.{TextFault}
-use Rattle.qs_prooftext.specs.declared.fault.TextFault.TheVariants as texts
+use Rattle.qs_prooftext_meaning.specs.Reading.{Reading}
+use Rattle.qs_prooftext_meaning.specs.Writing.{variable_text}
+use Rattle.qs_prooftext_meaning.specs.declared.fault.TextFault.{TextFault}
+use Rattle.qs_prooftext_meaning.specs.declared.fault.TextFault.TheVariants as texts
 use Rattle.qs_assert.specs.Order.{IsInOrder}
 use Rattle.qs_entail.specs.declared.fault.CertFault.{CertFault}
 use Rattle.qs_entail.specs.declared.fault.CertFault.TheVariants as certificates

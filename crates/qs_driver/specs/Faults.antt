@@ -6,12 +6,12 @@ use Rattle.qs_lexer.specs.declared.fault.LexFault.{LexFault}
 use Rattle.qs_lexer.specs.declared.fault.LexFault.TheVariants as lexical
 use Rattle.qs_parser.specs.declared.syntax_fault.SyntaxFault.{SyntaxFault}
 use Rattle.qs_parser.specs.declared.syntax_fault.SyntaxFault.TheVariants as syntax
-use Rattle.qs_typing.specs.declared.checking.TypeFault.{TypeFault}
-use Rattle.qs_typing.specs.declared.checking.TypeFault.TheVariants as typing
+use Rattle.qs_findings.specs.declared.type_fault.TypeFault.{TypeFault}
+use Rattle.qs_findings.specs.declared.type_fault.TypeFault.TheVariants as typing
 use Rattle.qs_assert.specs.declared.define.Amount.{Amount}
 use Rattle.qs_assert.specs.declared.define.Amount.TheVariants.{Finite, Infinite, Wide}
-use Rattle.qs_prooftext.specs.declared.fault.TextFault.{TextFault}
-use Rattle.qs_prooftext.specs.declared.fault.TextFault.TheVariants as proof_file
+use Rattle.qs_prooftext_meaning.specs.declared.fault.TextFault.{TextFault}
+use Rattle.qs_prooftext_meaning.specs.declared.fault.TextFault.TheVariants as proof_file
 use Rattle.qs_report.specs.Lines as lines
 use Rattle.qs_report.specs.declared.fault_texts.FaultText.{FaultText}
 use Rattle.qs_report.specs.declared.fault_texts.FaultText.TheVariants as texts

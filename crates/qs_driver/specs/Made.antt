@@ -1,11 +1,11 @@
 -- What is made of a source that is certified: its image, which isn't written, and main's bound at some arguments.
 use Rattle.std.specs.Prelude.{◌≡◌, ◌↔◌, ℕ, ℤ, List, length, Some, Result, Ok, Err}
 use Rattle.qs_memory.specs.declared.scalar.Scalar.{Scalar}
-use Rattle.qs_typing.specs.TypedOf.{typed_tree}
+use Rattle.qs_findings.specs.TypedOf.{typed_tree}
 use Rattle.qs_assert.specs.declared.define.Amount.{Amount}
 use Rattle.qs_core.specs.Interfaces.{main_types}
 use Rattle.qs_core.specs.Trees.{CoreUnitTree}
-use Rattle.qs_elaborate.specs.Units.{core_of}
+use Rattle.qs_elaborate_bodies.specs.Units.{core_of}
 use Rattle.qs_certify.specs.Bound.{AreNumbersOf, AreArguments, main_bound}
 use Rattle.qs_ports.specs.StoreView.{StoreView, Files}
 use Rattle.qs_core.specs.UnitTrees.{unit_tree}

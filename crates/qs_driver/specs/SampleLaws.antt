@@ -3,7 +3,7 @@ use Rattle.std.specs.Prelude.{◌≡◌, ℕ, ◌≤◌, List, [], length, None}
 use Rattle.qs_assert.specs.declared.define.Amount.TheVariants.{Finite}
 use Rattle.qs_cli.specs.Numbers.{most_sample_functions}
 use Rattle.qs_core.specs.CallGraph.{IsWithoutRecursion}
-use Rattle.qs_elaborate.specs.FitLaws.{HasCore}
+use Rattle.qs_elaborate_laws.specs.FitLaws.{HasCore}
 use Rattle.qs_image.specs.Image.{Image}
 use Rattle.qs_machine.specs.Arguments.{AreArguments}
 use Rattle.qs_machine.specs.State.{stack_limit}

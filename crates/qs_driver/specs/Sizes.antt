@@ -2,9 +2,9 @@
 use Rattle.std.specs.Prelude.{◌≡◌, ℕ, ◌≤◌, true, List, length, Some}
 use Rattle.std.specs.List.{list_all}
 use Rattle.qs_syntax.specs.Trees.{UnitTree}
-use Rattle.qs_syntax.specs.Units.{is_byte}
+use Rattle.qs_vocabulary.specs.WellFormed.{is_byte}
 use Rattle.qs_core.specs.Trees.{CoreUnitTree}
-use Rattle.qs_elaborate.specs.Units.{core_of}
+use Rattle.qs_elaborate_bodies.specs.Units.{core_of}
 use Rattle.qs_build.specs.Limits.{Passes}
 use Rattle.qs_build.specs.declared.fault.BuildFault.{BuildFault}
 use Rattle.qs_build.specs.declared.fault.BuildFault.TheVariants.{NoMemory}

@@ -3,7 +3,7 @@ use Rattle.std.specs.Prelude.{◌≡◌, ◌↔◌, ℕ, List, length, Option, S
 use Rattle.qs_base.specs.Positions.{line_at, column_at}
 use Rattle.qs_base.specs.declared.places.Pos.{Pos}
 use Rattle.qs_syntax.specs.declared.nodes.Node.{Node}
-use Rattle.qs_syntax.specs.declared.tokens.Token.{Token}
+use Rattle.qs_vocabulary.specs.declared.tokens.Token.{Token}
 use Rattle.qs_syntax.specs.Nodes.{unit_nodes}
 use Rattle.qs_syntax.specs.Trees.{DeclTree}
 use Rattle.qs_lexer.specs.Tokens.{Tokens, LexFaultAt}
@@ -17,11 +17,11 @@ use Rattle.qs_parser.specs.declared.syntax_fault.SyntaxFault.{SyntaxFault}
 use Rattle.qs_parser.specs.declared.syntax_fault.SyntaxFault.TheVariants as syntax_faults
 use Rattle.qs_types.specs.WellTyped.{WellTyped}
 use Rattle.qs_types.specs.Limits.{IsWithinLimits}
-use Rattle.qs_typing.specs.Refusals.{IsCause}
-use Rattle.qs_typing.specs.TypedOf.{typed_tree}
-use Rattle.qs_typing.specs.declared.typed_unit.TypedUnit.{TypedUnit}
-use Rattle.qs_typing.specs.declared.checking.TypeFault.{TypeFault}
-use Rattle.qs_typing.specs.declared.checking.TypeFault.TheVariants as type_faults
+use Rattle.qs_findings.specs.Refusals.{IsCause}
+use Rattle.qs_findings.specs.TypedOf.{typed_tree}
+use Rattle.qs_findings.specs.declared.typed_unit.TypedUnit.{TypedUnit}
+use Rattle.qs_findings.specs.declared.type_fault.TypeFault.{TypeFault}
+use Rattle.qs_findings.specs.declared.type_fault.TypeFault.TheVariants as type_faults
 use Rattle.qs_ports.specs.StoreView.{StoreView}
 use Rattle.qs_driver.specs.Limits.{source_limit}
 use Rattle.qs_driver.specs.Files.{IsUntouched, HoldsWith, IsTooLong, WasRead, WasReadWith, CannotRead}

@@ -3,7 +3,7 @@ use Rattle.std.specs.Prelude.{ℕ, List, Option, Some, None}
 use Rattle.qs_poly.specs.declared.fault.PolyFault.{PolyFault}
 use Rattle.qs_poly.specs.declared.fault.PolyFault.TheVariants.{NoMemory, Wide, ManyTerms, HighDegree}
 use Rattle.qs_core.specs.Trees.{CoreUnitTree}
-use Rattle.qs_prooftext.specs.Writing.{variable_text}
+use Rattle.qs_prooftext_meaning.specs.Writing.{variable_text}
 use Rattle.qs_entail.specs.Faults.{CertFault, step, limit}
 use Rattle.qs_entail.specs.declared.stop.Limit.TheVariants.{Coefficient, Terms, Degree}
 use Rattle.qs_triples.specs.Rules.{DerivFault, Place, in_precondition, in_postcondition, at_node, shape, mentions, certificate, no_spec, entry, bad_order}

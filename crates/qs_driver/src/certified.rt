@@ -6,7 +6,7 @@ ghost use Rattle.qs_core.specs.UnitTrees.{unit_tree};
 ghost use Rattle.qs_certify.specs.Certification.{ToldOfFunctions};
 ghost use Rattle.qs_certify.specs.Given.{text_of, IsShort};
 ghost use Rattle.qs_certify.specs.declared.fault.CertifyFault.TheVariants as faults;
-ghost use Rattle.qs_typing.specs.TypedOf.{typed_tree};
+ghost use Rattle.qs_findings.specs.TypedOf.{typed_tree};
 ghost use Rattle.qs_driver.specs.Certified.{byte_of, file_of, names_of, words_in, AreFunctionsOf};
 ghost use Rattle.qs_driver.specs.Certified.{CertifiesTyped, ReadsAll, ReadsProof, TellsFault};
 ghost use Rattle.qs_driver.specs.Certified.{TellsOfAnyFile};
@@ -21,9 +21,9 @@ use qs_base::{FnId, Name, NoMemory};
 use qs_certify::{Certified, CertifyFault, certify};
 use qs_core::{CoreUnit, name_of};
 use qs_elaborate::elaborate;
+use qs_findings::TypedUnit;
 use qs_ports::Store;
-use qs_prooftext::TextFault;
-use qs_typing::TypedUnit;
+use qs_prooftext_meaning::TextFault;
 use std::alloc::Global;
 
 /// The words that name a source and its proof file.

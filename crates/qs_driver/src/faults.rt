@@ -9,15 +9,15 @@ use crate::names::{FileNames, file_name};
 use crate::{ProofFault, SourceFault, Status, TokenPlace, WordsFault};
 use qs_assert::Amount;
 use qs_base::Pos;
+use qs_findings::TypeFault;
 use qs_lexer::{FaultKind, LexFault};
 use qs_parser::SyntaxFault;
 use qs_ports::{Sink, SinkFault};
-use qs_prooftext::TextFault;
+use qs_prooftext_meaning::TextFault;
 use qs_report::{
     FaultText, ProofFileText, Shown, put_arg_count, put_arg_range, put_cycle, put_fault,
     put_proof_fault,
 };
-use qs_typing::TypeFault;
 
 fn lex_text(fault: LexFault, pos: Pos) -> FaultText
     ensures { result ≡ lex_text fault pos }

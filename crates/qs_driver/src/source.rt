@@ -6,7 +6,7 @@ ghost use Rattle.qs_lexer.specs.Results.{SaysFault};
 ghost use Rattle.qs_lexer.specs.Tokens.{Tokens};
 ghost use Rattle.qs_lexer.specs.Terminals.{terminals};
 ghost use Rattle.qs_parser.specs.Answers.{Answers, ReadsAs};
-ghost use Rattle.qs_typing.specs.Refusals.{IsCause, IsTold};
+ghost use Rattle.qs_findings.specs.Refusals.{IsCause, IsTold};
 ghost use Rattle.qs_driver.specs.Limits.{source_limit};
 ghost use Rattle.qs_driver.specs.Source.{byte_of, node_of, number_of, IsNodeStart, IsPlaceOf};
 ghost use Rattle.qs_driver.specs.Source.{IsTokenPlace, ReadsUnit, RefusesText, TypesText};
@@ -15,11 +15,13 @@ use crate::files::read_file;
 use crate::limits::SOURCE_LIMIT;
 use crate::{FileKind, SourceFault, Status, TokenPlace};
 use qs_base::{Pos, position};
+use qs_findings::{TypeFault, TypedUnit};
 use qs_lexer::{LexFault, tokens};
 use qs_parser::{SyntaxFault, unit};
 use qs_ports::Store;
-use qs_syntax::{Token, Unit};
-use qs_typing::{TypeFault, TypedUnit, check};
+use qs_syntax::Unit;
+use qs_typing::check;
+use qs_vocabulary::Token;
 use std::alloc::Global;
 
 /// The place of the byte `at`, or of the end where the text has no such byte.

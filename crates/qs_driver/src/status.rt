@@ -6,14 +6,14 @@ ghost use Rattle.qs_driver.specs.declared.status.FileKind.TheVariants.{Output};
 
 use qs_assert::Amount;
 use qs_base::{Name, NoMemory, Pos};
+use qs_findings::TypeFault;
 use qs_image::ImageFault;
 use qs_lexer::LexFault;
 use qs_machine::Cause;
 use qs_parser::SyntaxFault;
 use qs_ports::WriteFault;
-use qs_prooftext::TextFault;
+use qs_prooftext_meaning::TextFault;
 use qs_report::{ProofText, Spot};
-use qs_typing::TypeFault;
 use std::alloc::AllocFailed;
 use thiserror::Error;
 

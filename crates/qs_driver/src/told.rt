@@ -15,7 +15,7 @@ use qs_assert::Var;
 use qs_base::{FnId, NoMemory};
 use qs_core::{CoreUnit, name_of};
 use qs_entail::CertFault;
-use qs_prooftext::variable_text;
+use qs_prooftext_writing::variable_text;
 use qs_report::{Path, ProofText, Spot};
 use qs_triples::{DerivFault, Place};
 use std::alloc::Global;

@@ -2,7 +2,7 @@
 use Rattle.std.proofs.Common.{◌≡◌, ℕ, ◌+◌, ◌<◌, ◌==◌, zero, suc, Bool, true, false, List, [], ◌∷◌, ◌++◌, Some, None, length, take, get_or, map, refl, sym, ap, ◌∙◌, if◌then◌else◌, arith}
 use Rattle.std.proofs.lemmas.List.{map-append, take_more}
 use Rattle.std.specs.Option.{option_or}
-use Rattle.qs_elaborate.specs.Names.{Declared, VariableName, count_of, name_at}
+use Rattle.qs_elaborate_bodies.specs.Names.{Declared, VariableName, count_of, name_at}
 use Rattle.qs_elaborate.specs.Naming.{name_or_none, numbered_at, name_among, newest_first}
 
 -- a name that is known stays

@@ -5,10 +5,10 @@ use Rattle.std.proofs.lemmas.List.{append-nil}
 use Rattle.qs_memory.specs.Values.{null}
 use Rattle.qs_memory.specs.Memory.{Cell, byte, parts_of, times, zeros, nulls, repeated, nothing, joined}
 use Rattle.qs_core.specs.Trees.{PieceTree, blank, bytes, pointer}
-use Rattle.qs_typed.specs.declared.data.Datum.{Datum}
-use Rattle.qs_typed.specs.declared.data.Datum.TheVariants as data_parts
-use Rattle.qs_typed.specs.TreeOf.{datum_cells, contents_cells}
-use Rattle.qs_elaborate.specs.Data.{with_byte, with_null, pieces_behind}
+use Rattle.qs_typed_trees.specs.declared.data.Datum.{Datum}
+use Rattle.qs_typed_trees.specs.declared.data.Datum.TheVariants as data_parts
+use Rattle.qs_typed_trees.specs.TreeOf.{datum_cells, contents_cells}
+use Rattle.qs_elaborate_bodies.specs.Data.{with_byte, with_null, pieces_behind}
 use Rattle.qs_elaborate.specs.Pieces.{with_bytes, with_nulls, with_datum, with_contents, bytes_piece, nulls_piece, with_run, is_one_run}
 
 -- ---- a run in front of another kind

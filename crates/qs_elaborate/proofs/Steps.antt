@@ -2,8 +2,8 @@
 use Rattle.std.proofs.Common.{◌≡◌, ℕ, ◌+◌, ◌<◌, List, [], ◌∷◌, length, get_or, drop, refl, ap, ◌∙◌, arith}
 use Rattle.std.proofs.lemmas.List.{drop_more, drop-drop, get_or-drop}
 use Rattle.qs_meaning.specs.Typed.{Function}
-use Rattle.qs_elaborate.specs.Names.{FunctionNames}
-use Rattle.qs_elaborate.specs.Units.{function_core, no_names, functions_core}
+use Rattle.qs_elaborate_bodies.specs.Names.{FunctionNames}
+use Rattle.qs_elaborate_bodies.specs.Units.{function_core, no_names, functions_core}
 
 at_zero : (i : ℕ) → i + 0 ≡ i
 at_zero i = omega arith

@@ -4,7 +4,7 @@ use Rattle.std.proofs.lemmas.List.{drop_more, drop-drop, get_or-drop, length-app
 use Rattle.qs_syntax.specs.Trees.{Stmts, DeclTree, structure, forward, function, variables, UnitTree}
 use Rattle.qs_types.specs.Contexts.{Context, start_context}
 use Rattle.qs_types.specs.UnitRules.{after_declaration}
-use Rattle.qs_elaborate.specs.Names.{FunctionNames, function_names, declaration_names, declarations_names, names_in}
+use Rattle.qs_elaborate_bodies.specs.Names.{FunctionNames, function_names, declaration_names, declarations_names, names_in}
 use Rattle.qs_typed.specs.UnitVariables.{function_variables, declaration_variables, unit_variables_from, unit_variables}
 use Rattle.qs_elaborate.specs.UnitNames.{function_named, declaration_named, declarations_named}
 

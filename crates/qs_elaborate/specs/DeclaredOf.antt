@@ -6,7 +6,7 @@ use Rattle.qs_syntax.specs.declared.declarations.Variable.{Variable}
 use Rattle.qs_syntax.specs.declared.declarations.Parameter.{Parameter}
 use Rattle.qs_syntax.specs.declared.statements.Stmt.{Stmt}
 use Rattle.qs_syntax.specs.declared.units.Function.{Function}
-use Rattle.qs_elaborate.specs.Names as names
+use Rattle.qs_elaborate_bodies.specs.Names as names
 use Rattle.qs_elaborate.specs.declared.names.Declared.{Declared}
 
 abbrev pub declared_of : Declared → names.Declared

@@ -7,11 +7,11 @@ use Rattle.qs_core.specs.TreeOf.{parameter_tree, variable_tree, function_tree}
 use Rattle.qs_core.specs.declared.units.CoreParameter.{CoreParameter}
 use Rattle.qs_core.specs.declared.units.CoreVariable.{CoreVariable}
 use Rattle.qs_core.specs.declared.units.CoreFunction.{CoreFunction}
-use Rattle.qs_typed.specs.TreeOf as typed
-use Rattle.qs_typed.specs.declared.program.TypedFunction.{TypedFunction}
-use Rattle.qs_typed.specs.declared.program.TypedProgram.{TypedProgram}
+use Rattle.qs_typed_trees.specs.TreeOf as typed
+use Rattle.qs_typed_trees.specs.declared.program.TypedFunction.{TypedFunction}
+use Rattle.qs_typed_trees.specs.declared.program.TypedProgram.{TypedProgram}
 use Rattle.qs_elaborate.specs.NamesOf.{variable_name_of, names_of, named, no_name, variable_named}
-use Rattle.qs_elaborate.specs.Units as units
+use Rattle.qs_elaborate_bodies.specs.Units as units
 use Rattle.qs_elaborate.specs.declared.names.VariableName.{VariableName}
 use Rattle.qs_elaborate.specs.declared.names.FunctionNames.{FunctionNames}
 

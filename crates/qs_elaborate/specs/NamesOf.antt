@@ -2,7 +2,7 @@
 use Rattle.std.specs.Prelude.{ℕ, List, [], map}
 use Rattle.qs_memory.specs.declared.scalar.Scalar.{Scalar}
 use Rattle.qs_core.specs.Trees.{CoreVariableTree}
-use Rattle.qs_elaborate.specs.Names as names
+use Rattle.qs_elaborate_bodies.specs.Names as names
 use Rattle.qs_elaborate.specs.declared.names.VariableName.{VariableName}
 use Rattle.qs_elaborate.specs.declared.names.FunctionNames.{FunctionNames}
 

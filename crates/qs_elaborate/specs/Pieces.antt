@@ -5,11 +5,11 @@ use Rattle.qs_memory.specs.Memory.{nulls}
 use Rattle.qs_core.specs.Trees.{PieceTree, blank, bytes, pointer, DataBlockTree}
 use Rattle.qs_core.specs.TreeOf.{piece_tree}
 use Rattle.qs_core.specs.declared.units.Piece.{Piece}
-use Rattle.qs_typed.specs.TreeOf.{static_block_tree}
-use Rattle.qs_typed.specs.declared.data.StaticBlock.{StaticBlock}
-use Rattle.qs_typed.specs.declared.data.Datum.{Datum}
-use Rattle.qs_typed.specs.declared.data.Datum.TheVariants as data_parts
-use Rattle.qs_elaborate.specs.Data.{with_byte, with_null, data_core}
+use Rattle.qs_typed_trees.specs.TreeOf.{static_block_tree}
+use Rattle.qs_typed_trees.specs.declared.data.StaticBlock.{StaticBlock}
+use Rattle.qs_typed_trees.specs.declared.data.Datum.{Datum}
+use Rattle.qs_typed_trees.specs.declared.data.Datum.TheVariants as data_parts
+use Rattle.qs_elaborate_bodies.specs.Data.{with_byte, with_null, data_core}
 
 -- ---- bytes, null pointers and a datum in front of pieces
 

@@ -1,7 +1,7 @@
 -- The names of a unit, where the nodes of its functions' variables are known.
 use Rattle.std.specs.Prelude.{ℕ, List, [], ◌∷◌, ◌++◌, Option, Some, None, length, drop, map, slice_index_or}
 use Rattle.qs_syntax.specs.Trees.{ParameterTree, Stmts, FunctionTree, DeclTree, structure, forward, function, variables, UnitTree}
-use Rattle.qs_elaborate.specs.Names.{FunctionNames, parameter_name, function_declares, name_at}
+use Rattle.qs_elaborate_bodies.specs.Names.{FunctionNames, parameter_name, function_declares, name_at}
 
 -- ---- names by these nodes
 

@@ -1,8 +1,8 @@
 // What the blocks of a unit begin with, in core: piece by piece, as few as can be.
 ghost use Rattle.std.specs.Prelude.{◌≡◌, ◌+◌, true, [], ◌∷◌, IfOk, OnOk, map};
 ghost use Rattle.qs_core.specs.TreeOf.{piece_tree, data_block_tree};
-ghost use Rattle.qs_typed.specs.TreeOf.{static_block_tree};
-ghost use Rattle.qs_elaborate.specs.Data.{data_core};
+ghost use Rattle.qs_typed_trees.specs.TreeOf.{static_block_tree};
+ghost use Rattle.qs_elaborate_bodies.specs.Data.{data_core};
 ghost use Rattle.qs_elaborate.specs.Pieces.{with_bytes, with_nulls, pointer_before, with_datum};
 ghost use Rattle.qs_elaborate.specs.Pieces.{with_contents, bytes_piece, nulls_piece, is_one_run};
 ghost use Rattle.qs_elaborate.specs.Pieces.{Appends, Puts, data_cores};
@@ -10,7 +10,7 @@ ghost use Rattle.qs_elaborate.specs.Pieces.{Appends, Puts, data_cores};
 use qs_base::{NoMemory, sum};
 use qs_core::{DataBlock, Piece};
 use qs_memory::Blank;
-use qs_typed::{Datum, StaticBlock};
+use qs_typed_trees::{Datum, StaticBlock};
 use std::alloc::Global;
 use std::mem::replace;
 

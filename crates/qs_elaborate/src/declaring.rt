@@ -2,9 +2,9 @@
 ghost use Rattle.std.specs.Prelude.{◌≡◌, [], ◌∷◌, IfOk, map};
 ghost use Rattle.qs_syntax.specs.TreeOf.{variable_tree, parameter_tree, start_tree, stmt_tree};
 ghost use Rattle.qs_syntax.specs.TreeOf.{stmts_tree, else_tree};
-ghost use Rattle.qs_elaborate.specs.Names.{declared_variable, start_declares, statement_declares};
-ghost use Rattle.qs_elaborate.specs.Names.{statements_declare, else_declares, parameter_name};
-ghost use Rattle.qs_elaborate.specs.Names.{declared_parameter};
+ghost use Rattle.qs_elaborate_bodies.specs.Names.{declared_variable, start_declares, statement_declares};
+ghost use Rattle.qs_elaborate_bodies.specs.Names.{statements_declare, else_declares, parameter_name};
+ghost use Rattle.qs_elaborate_bodies.specs.Names.{declared_parameter};
 ghost use Rattle.qs_elaborate.specs.DeclaredOf.{declared_of, declared_variables};
 ghost use Rattle.qs_elaborate.specs.DeclaredOf.{declared_parameters, declared_in, Declares};
 

@@ -1,20 +1,19 @@
 // Functions in core.
 ghost use Rattle.std.specs.Prelude.{◌≡◌, IfOk, slice_index_or, []};
 ghost use Rattle.qs_core.specs.TreeOf.{variable_tree};
-ghost use Rattle.qs_elaborate.specs.Units.{named_parameters, end_of_body};
+ghost use Rattle.qs_elaborate_bodies.specs.Units.{named_parameters, end_of_body};
 ghost use Rattle.qs_elaborate.specs.FunctionOf.{parameter_trees, variable_trees, variable_at};
 ghost use Rattle.qs_elaborate.specs.FunctionOf.{named_variables, function_with, function_at};
 ghost use Rattle.qs_elaborate.specs.FunctionOf.{function_trees, functions, GivesFunction};
-ghost use Rattle.qs_elaborate.specs.Results.{Adds};
+ghost use Rattle.qs_elaborate_bodies.specs.Results.{Adds};
 
 use crate::names::{FunctionNames, VariableName};
-use crate::parts::push;
-use crate::statement::statements;
 use qs_base::{Name, NoMemory};
 use qs_calls::Parameter;
 use qs_core::{CoreExpr, CoreFunction, CoreParameter, CoreStmt, CoreVariable};
+use qs_elaborate_bodies::{push, statements};
 use qs_memory::Scalar;
-use qs_typed::TypedFunction;
+use qs_typed_trees::TypedFunction;
 use std::alloc::Global;
 
 // ---- names; every parameter and every variable has one

@@ -1,10 +1,10 @@
 -- Small lists that begin a unit, or none: each is shown, or computed by the parser.
 use Rattle.std.proofs.Common.{◌≡◌, ℕ, zero, suc, false, Ok, Err, Some, List, [], ◌∷◌, ◌++◌, length, refl, arith, ◌==◌}
 use Rattle.std.proofs.lemmas.Bool.{eqb-true, false_from_ne_true}
-use Rattle.qs_syntax.specs.declared.terminal.Terminal.{Terminal}
-use Rattle.qs_syntax.specs.declared.terminal.Terminal.TheVariants.{Name, Keyword, Punctuator}
+use Rattle.qs_vocabulary.specs.declared.terminal.Terminal.{Terminal}
+use Rattle.qs_vocabulary.specs.declared.terminal.Terminal.TheVariants.{Name, Keyword, Punctuator}
 use Rattle.qs_base.specs.declared.keyword.Keyword.TheVariants as keywords
-use Rattle.qs_syntax.specs.declared.punctuator.Punctuator.TheVariants as punctuators
+use Rattle.qs_vocabulary.specs.declared.punctuator.Punctuator.TheVariants as punctuators
 use Rattle.qs_syntax.specs.ReadsTypes.{no_prefix, no_const, an_int, an_outer_type, no_star}
 use Rattle.qs_syntax.specs.ReadsDeclarations.{no_length, are_given, a_declarator, an_unset_variable, a_last_variable, an_outer_declaration}
 use Rattle.qs_syntax.specs.ReadsUnits.{some_variables, ReadsUnit, a_last_external}

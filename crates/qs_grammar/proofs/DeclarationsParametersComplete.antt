@@ -1,17 +1,17 @@
 -- What has a reading as parameters of a function is read so.
 use Rattle.std.proofs.Common.{◌≡◌, ℕ, zero, suc, ◌<◌, ◌≤◌, max, List, [], ◌∷◌, ◌++◌, length, Ok, None, refl, ap, ◌∙◌, append_assoc, add-one, length-append, Bool, true, false, true≢false, cond, arith}
 use Rattle.std.specs.Prelude.{◌&&◌}
-use Rattle.qs_syntax.specs.declared.terminal.Terminal.{Terminal}
-use Rattle.qs_syntax.specs.declared.terminal.Terminal.TheVariants.{Name, Keyword, Punctuator}
+use Rattle.qs_vocabulary.specs.declared.terminal.Terminal.{Terminal}
+use Rattle.qs_vocabulary.specs.declared.terminal.Terminal.TheVariants.{Name, Keyword, Punctuator}
 use Rattle.qs_base.specs.declared.keyword.Keyword.TheVariants as keywords
-use Rattle.qs_syntax.specs.declared.punctuator.Punctuator as punctuator
-use Rattle.qs_syntax.specs.declared.punctuator.Punctuator.TheVariants as punctuators
+use Rattle.qs_vocabulary.specs.declared.punctuator.Punctuator as punctuator
+use Rattle.qs_vocabulary.specs.declared.punctuator.Punctuator.TheVariants as punctuators
 use Rattle.qs_syntax.specs.declared.types.Base.{Base}
 use Rattle.qs_syntax.specs.Trees.{unnumbered, LengthsTree, ParameterTree}
 use Rattle.qs_syntax.specs.ReadsTypes.{no_const, a_const, a_void, an_int, a_char, an_unsigned, an_unsigned_int, an_unsigned_char, a_signed, a_signed_int, a_struct, ReadsType, a_type, ReadsStars, no_star, a_star}
 use Rattle.qs_syntax.specs.Reads.{place}
 use Rattle.qs_syntax.specs.ReadsDeclarations.{no_length, a_length, ReadsLengths, are_given, first_open, ReadsParameter, a_named_parameter, an_unnamed_parameter, ReadsParameters, a_last_parameter, a_parameter, ReadsHead, no_parameter, a_void_head, some_parameters}
-use Rattle.qs_syntax.specs.Punctuators.{same_punctuator}
+use Rattle.qs_vocabulary.specs.Punctuators.{same_punctuator}
 use Rattle.qs_grammar.specs.Heads.{is_keyword, starts, begins_type}
 use Rattle.qs_grammar.specs.ParseDeclarations.{with_name, is_void_alone, parameter, parameters, is_void_head, head}
 use Rattle.qs_grammar.proofs.TypesComplete.{goes_on_type, goes_on_stars, finds_type, type_begins, finds_stars, stars_go_on}

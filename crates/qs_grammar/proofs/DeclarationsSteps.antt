@@ -1,9 +1,9 @@
 -- How laws of the parser's answers are put together, where all that was read before is named in what is claimed.
 use Rattle.std.proofs.Common.{◌≡◌, ℕ, List, [], ◌∷◌, ◌++◌, Result, Ok, Err, refl, sym, ap, subst, Bool, true, false, cond, true≢false}
-use Rattle.qs_syntax.specs.declared.terminal.Terminal.{Terminal}
-use Rattle.qs_syntax.specs.declared.terminal.Terminal.TheVariants.{Name, Keyword, Constant, Text, Punctuator}
-use Rattle.qs_syntax.specs.declared.punctuator.Punctuator as punctuator
-use Rattle.qs_syntax.specs.Operators.{number_of}
+use Rattle.qs_vocabulary.specs.declared.terminal.Terminal.{Terminal}
+use Rattle.qs_vocabulary.specs.declared.terminal.Terminal.TheVariants.{Name, Keyword, Constant, Text, Punctuator}
+use Rattle.qs_vocabulary.specs.declared.punctuator.Punctuator as punctuator
+use Rattle.qs_vocabulary.specs.Operators.{number_of}
 use Rattle.qs_grammar.specs.Heads.{is_punctuator, starts}
 use Rattle.qs_grammar.specs.Parse.{Stop, Parse, read_on, unexpected, expect, expect_name}
 use Rattle.qs_grammar.proofs.Sound.{Outcome, Sound, Sound-err, at_end, Sound-after, Sound-read_on}

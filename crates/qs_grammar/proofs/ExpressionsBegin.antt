@@ -1,12 +1,12 @@
 -- How an expression begins, and that its reading has a height.
 use Rattle.std.proofs.Common.{◌≡◌, ◌∙◌, sym, true≢false, ℕ, ◌<◌, Bool, true, false, List, [], ◌∷◌, ◌++◌, refl, append_assoc, arith}
-use Rattle.qs_syntax.specs.declared.terminal.Terminal.{Terminal}
-use Rattle.qs_syntax.specs.declared.terminal.Terminal.TheVariants.{Name, Keyword, Constant, Text, Punctuator}
-use Rattle.qs_syntax.specs.declared.punctuator.Punctuator.TheVariants as punctuators
-use Rattle.qs_syntax.specs.declared.operators.UnaryOperator.{UnaryOperator}
-use Rattle.qs_syntax.specs.declared.operators.UnaryOperator.TheVariants as unaries
+use Rattle.qs_vocabulary.specs.declared.terminal.Terminal.{Terminal}
+use Rattle.qs_vocabulary.specs.declared.terminal.Terminal.TheVariants.{Name, Keyword, Constant, Text, Punctuator}
+use Rattle.qs_vocabulary.specs.declared.punctuator.Punctuator.TheVariants as punctuators
+use Rattle.qs_vocabulary.specs.declared.operators.UnaryOperator.{UnaryOperator}
+use Rattle.qs_vocabulary.specs.declared.operators.UnaryOperator.TheVariants as unaries
 use Rattle.qs_syntax.specs.Trees.{ExprTree, Exprs}
-use Rattle.qs_syntax.specs.Operators.{punctuator_of_unary, punctuator_of_binary, punctuator_of_assign, punctuator_of_access}
+use Rattle.qs_vocabulary.specs.Operators.{punctuator_of_unary, punctuator_of_binary, punctuator_of_assign, punctuator_of_access}
 use Rattle.qs_syntax.specs.Reads.{Form, Postfix, Unary, Level, Conditional, Assignment, Expression, place, Reads, ReadsArguments, a_name, an_empty_call, a_call, a_constant, a_text, in_parentheses, an_index, a_member, an_increment_after, a_decrement_after, a_postfix, an_increment, a_decrement, an_operator, a_size_of_type, a_size_of_value, a_cast, an_operand, stronger, an_operation, a_plain_level, a_choice, a_plain_conditional, an_assignment, a_plain_assignment, a_comma, a_last_argument, an_argument}
 use Rattle.qs_grammar.specs.Heads.{starts, begins_type}
 use Rattle.qs_grammar.specs.Parse.{begins_one, begins_cast}

@@ -1,20 +1,20 @@
 -- Small expressions, read by the parser: each result is computed.
 use Rattle.std.proofs.Common.{◌≡◌, ℕ, List, [], ◌∷◌, Result, Ok, Err, false, refl}
-use Rattle.qs_syntax.specs.declared.terminal.Terminal.{Terminal}
-use Rattle.qs_syntax.specs.declared.terminal.Terminal.TheVariants.{Name, Keyword, Constant, Text, Punctuator}
+use Rattle.qs_vocabulary.specs.declared.terminal.Terminal.{Terminal}
+use Rattle.qs_vocabulary.specs.declared.terminal.Terminal.TheVariants.{Name, Keyword, Constant, Text, Punctuator}
 use Rattle.qs_base.specs.declared.keyword.Keyword.TheVariants as keywords
-use Rattle.qs_syntax.specs.declared.punctuator.Punctuator.TheVariants as punctuators
-use Rattle.qs_syntax.specs.declared.operators.UnaryOperator.{UnaryOperator}
-use Rattle.qs_syntax.specs.declared.operators.UnaryOperator.TheVariants as unaries
-use Rattle.qs_syntax.specs.declared.operators.BinaryOperator.{BinaryOperator}
-use Rattle.qs_syntax.specs.declared.operators.BinaryOperator.TheVariants as binaries
-use Rattle.qs_syntax.specs.declared.operators.AssignmentOperator.{AssignmentOperator}
-use Rattle.qs_syntax.specs.declared.operators.AssignmentOperator.TheVariants as assigns
-use Rattle.qs_syntax.specs.declared.operators.Access.TheVariants as accesses
-use Rattle.qs_syntax.specs.declared.operators.StepOperator.TheVariants as steps
+use Rattle.qs_vocabulary.specs.declared.punctuator.Punctuator.TheVariants as punctuators
+use Rattle.qs_vocabulary.specs.declared.operators.UnaryOperator.{UnaryOperator}
+use Rattle.qs_vocabulary.specs.declared.operators.UnaryOperator.TheVariants as unaries
+use Rattle.qs_vocabulary.specs.declared.operators.BinaryOperator.{BinaryOperator}
+use Rattle.qs_vocabulary.specs.declared.operators.BinaryOperator.TheVariants as binaries
+use Rattle.qs_vocabulary.specs.declared.operators.AssignmentOperator.{AssignmentOperator}
+use Rattle.qs_vocabulary.specs.declared.operators.AssignmentOperator.TheVariants as assigns
+use Rattle.qs_vocabulary.specs.declared.operators.Access.TheVariants as accesses
+use Rattle.qs_vocabulary.specs.declared.operators.StepOperator.TheVariants as steps
 use Rattle.qs_syntax.specs.declared.types.Base.TheVariants as bases
 use Rattle.qs_syntax.specs.Trees.{unnumbered, ExprTree, expr, constant, text, name, unary, step, cast, sizeof_type, sizeof_expr, binary, assign, conditional, comma, subscript, member, call, no_exprs, expr_and}
-use Rattle.qs_syntax.specs.Operators.{punctuator_of_unary, punctuator_of_binary, punctuator_of_assign}
+use Rattle.qs_vocabulary.specs.Operators.{punctuator_of_unary, punctuator_of_binary, punctuator_of_assign}
 use Rattle.qs_syntax.specs.Reads.{Expression}
 use Rattle.qs_grammar.specs.Parse.{Stop, Unexpected, Deep, E, texts_from, type, stars, type_name, arguments, primary, suffixes, unary_of_all, operations, climb, commas, expression, part}
 

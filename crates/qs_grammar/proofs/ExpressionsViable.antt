@@ -1,19 +1,19 @@
 -- The tokens before a fault in a type or an expression begin one that is low enough.
 use Rattle.std.proofs.Common.{◌≡◌, ℕ, zero, suc, ◌+◌, ◌<◌, ◌≤◌, Bool, true, false, cond, List, [], ◌∷◌, ◌++◌, length, Err, Ok, Option, Some, None, refl, sym, ap, subst, ◌∙◌, append_assoc, append-nil, add-one, arith, true≢false}
 use Rattle.std.specs.Prelude.{max, nat_le, ◌==◌, ◌&&◌, ◌||◌, is_some}
-use Rattle.qs_syntax.specs.declared.terminal.Terminal.{Terminal}
-use Rattle.qs_syntax.specs.declared.terminal.Terminal.TheVariants.{Name, Keyword, Constant, Text, Punctuator}
+use Rattle.qs_vocabulary.specs.declared.terminal.Terminal.{Terminal}
+use Rattle.qs_vocabulary.specs.declared.terminal.Terminal.TheVariants.{Name, Keyword, Constant, Text, Punctuator}
 use Rattle.qs_base.specs.declared.keyword.Keyword.TheVariants as keywords
-use Rattle.qs_syntax.specs.declared.punctuator.Punctuator as punctuator
-use Rattle.qs_syntax.specs.declared.punctuator.Punctuator.TheVariants as punctuators
+use Rattle.qs_vocabulary.specs.declared.punctuator.Punctuator as punctuator
+use Rattle.qs_vocabulary.specs.declared.punctuator.Punctuator.TheVariants as punctuators
 use Rattle.qs_syntax.specs.declared.types.Base.{Base}
 use Rattle.qs_syntax.specs.declared.types.TypeName.{TypeName}
-use Rattle.qs_syntax.specs.declared.operators.UnaryOperator.{UnaryOperator}
-use Rattle.qs_syntax.specs.declared.operators.BinaryOperator.{BinaryOperator}
-use Rattle.qs_syntax.specs.declared.operators.AssignmentOperator.{AssignmentOperator}
-use Rattle.qs_syntax.specs.declared.operators.Access.{Access}
+use Rattle.qs_vocabulary.specs.declared.operators.UnaryOperator.{UnaryOperator}
+use Rattle.qs_vocabulary.specs.declared.operators.BinaryOperator.{BinaryOperator}
+use Rattle.qs_vocabulary.specs.declared.operators.AssignmentOperator.{AssignmentOperator}
+use Rattle.qs_vocabulary.specs.declared.operators.Access.{Access}
 use Rattle.qs_syntax.specs.Trees.{ExprTree, Exprs}
-use Rattle.qs_syntax.specs.Operators.{punctuator_of_unary, punctuator_of_binary, precedence, weakest, punctuator_of_assign, punctuator_of_access, number_of, unary_of, binary_of, assign_of, access_of}
+use Rattle.qs_vocabulary.specs.Operators.{punctuator_of_unary, punctuator_of_binary, precedence, weakest, punctuator_of_assign, punctuator_of_access, number_of, unary_of, binary_of, assign_of, access_of}
 use Rattle.qs_syntax.specs.ReadsTypes.{ReadsConsts, no_const, ReadsBase, an_int, a_struct, ReadsType, a_type, no_star, ReadsTypeName, a_type_name}
 use Rattle.qs_syntax.specs.Reads.{Form, Postfix, Unary, Level, Conditional, Assignment, Expression, place, Reads, ReadsArguments, a_name, an_empty_call, a_call, a_constant, a_text, no_text, in_parentheses, an_index, a_member, an_increment_after, a_decrement_after, a_postfix, an_increment, a_decrement, an_operator, a_size_of_type, a_size_of_value, a_cast, an_operand, stronger, an_operation, a_plain_level, a_choice, a_plain_conditional, an_assignment, a_plain_assignment, a_comma, a_last_argument, an_argument}
 use Rattle.qs_grammar.specs.Heads.{is_punctuator, is_keyword, starts, operator_at, begins_type}

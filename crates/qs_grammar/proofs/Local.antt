@@ -1,12 +1,12 @@
 -- What a parser answers depends on no token behind the one at which it stops. How such laws are put together.
 use Rattle.std.proofs.Common.{◌≡◌, ℕ, zero, suc, ◌+◌, ◌<◌, ◌≤◌, Bool, true, false, cond, List, [], ◌∷◌, ◌++◌, length, Result, Ok, Err, refl, sym, ap, subst, ◌∙◌, arith, inl, inr, length-append}
 use Rattle.std.specs.Prelude.{◌⊎◌, Option, ◌&&◌}
-use Rattle.qs_syntax.specs.declared.terminal.Terminal.{Terminal}
-use Rattle.qs_syntax.specs.declared.terminal.Terminal.TheVariants.{Name, Keyword, Constant, Text, Punctuator}
-use Rattle.qs_syntax.specs.declared.punctuator.Punctuator as punctuator
+use Rattle.qs_vocabulary.specs.declared.terminal.Terminal.{Terminal}
+use Rattle.qs_vocabulary.specs.declared.terminal.Terminal.TheVariants.{Name, Keyword, Constant, Text, Punctuator}
+use Rattle.qs_vocabulary.specs.declared.punctuator.Punctuator as punctuator
 use Rattle.qs_syntax.specs.Reads.{place}
 use Rattle.qs_base.specs.declared.keyword.Keyword as key
-use Rattle.qs_syntax.specs.Operators.{number_of}
+use Rattle.qs_vocabulary.specs.Operators.{number_of}
 use Rattle.qs_grammar.specs.Heads.{is_punctuator, is_keyword, starts, operator_at}
 use Rattle.qs_grammar.specs.Parse.{Stop, Unexpected, Deep, Parse, read_on, unexpected, deep, above, deeper, expect, expect_name}
 use Rattle.qs_grammar.proofs.HeadsLaws.{punctuator_is, keyword_is}

@@ -2,7 +2,7 @@
 use Rattle.std.proofs.Common.{◌≡◌, ℕ, ◌≤◌, Bool, true, false, cond, List, Result, Ok, Err, refl, sym, subst, arith, true≢false}
 use Rattle.std.specs.Prelude.{nat_le, ◌==◌}
 use Rattle.std.proofs.lemmas.Bool.{le-leb, leb-true, eqb-true, eq-eqb}
-use Rattle.qs_syntax.specs.declared.terminal.Terminal.{Terminal}
+use Rattle.qs_vocabulary.specs.declared.terminal.Terminal.{Terminal}
 use Rattle.qs_grammar.specs.Parse.{Stop, Unexpected, Deep, Parse, read_on}
 
 abbrev Same : {A : Type 0} → Result (A × List Terminal) Stop → Result (A × List Terminal) Stop → Type 0

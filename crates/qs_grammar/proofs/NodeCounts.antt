@@ -1,11 +1,11 @@
 -- What tokens are read as has at most as many nodes as there are tokens.
 use Rattle.std.proofs.Common.{◌≡◌, ℕ, ◌+◌, ◌≤◌, List, [], ◌∷◌, ◌++◌, length, arith, length-append}
 use Rattle.std.specs.Prelude.{Option}
-use Rattle.qs_syntax.specs.declared.terminal.Terminal.{Terminal}
-use Rattle.qs_syntax.specs.declared.terminal.Terminal.TheVariants as terminals
-use Rattle.qs_syntax.specs.declared.punctuator.Punctuator.TheVariants as punctuators
+use Rattle.qs_vocabulary.specs.declared.terminal.Terminal.{Terminal}
+use Rattle.qs_vocabulary.specs.declared.terminal.Terminal.TheVariants as terminals
+use Rattle.qs_vocabulary.specs.declared.punctuator.Punctuator.TheVariants as punctuators
 use Rattle.qs_base.specs.declared.keyword.Keyword.TheVariants as keywords
-use Rattle.qs_syntax.specs.Operators.{punctuator_of_access, punctuator_of_binary, punctuator_of_assign}
+use Rattle.qs_vocabulary.specs.Operators.{punctuator_of_access, punctuator_of_binary, punctuator_of_assign}
 use Rattle.qs_syntax.specs.Trees.{ExprTree, Exprs, LengthsTree, DeclaratorTree, InitialiserTree, Initialisers, VariableTree, DeclarationTree, MembersTree, ParameterTree, StartTree, StmtTree, Stmts, DeclTree}
 use Rattle.qs_syntax.specs.Nodes.{all_count, option_count, expr_count, exprs_count, lengths_count, declarator_count, initialiser_count, initialisers_count, variable_count, declaration_count, parameter_count, members_count, start_count, stmt_count, stmts_count, decl_count, unit_count}
 use Rattle.qs_syntax.specs.declared.types.Base.{Base}

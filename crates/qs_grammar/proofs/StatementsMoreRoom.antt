@@ -2,10 +2,10 @@
 use Rattle.std.proofs.Common.{◌≡◌, ℕ, zero, suc, ◌+◌, ◌≤◌, Bool, true, false, cond, List, [], ◌∷◌, ◌++◌, length, refl, arith, Err}
 use Rattle.std.specs.Prelude.{max, ◌&&◌}
 use Rattle.std.proofs.lemmas.Bool.{or_parts}
-use Rattle.qs_syntax.specs.declared.terminal.Terminal.{Terminal}
+use Rattle.qs_vocabulary.specs.declared.terminal.Terminal.{Terminal}
 use Rattle.qs_base.specs.declared.keyword.Keyword.TheVariants as keywords
-use Rattle.qs_syntax.specs.declared.punctuator.Punctuator as punctuator
-use Rattle.qs_syntax.specs.declared.punctuator.Punctuator.TheVariants as punctuators
+use Rattle.qs_vocabulary.specs.declared.punctuator.Punctuator as punctuator
+use Rattle.qs_vocabulary.specs.declared.punctuator.Punctuator.TheVariants as punctuators
 use Rattle.qs_syntax.specs.declared.types.Base.{Base}
 use Rattle.qs_syntax.specs.Trees.{StmtTree, ParameterTree, DeclTree}
 use Rattle.qs_syntax.specs.Reads.{Expression, place}

@@ -1,7 +1,7 @@
 -- The precedence of punctuators: those that bind most strongly first.
 use Rattle.std.proofs.Common.{◌≡◌, [], ◌∷◌, refl}
 use Rattle.std.specs.Prelude.{map}
-use Rattle.qs_syntax.specs.declared.punctuator.Punctuator.TheVariants as punctuators
+use Rattle.qs_vocabulary.specs.declared.punctuator.Punctuator.TheVariants as punctuators
 use Rattle.qs_grammar.specs.Stops.{punctuator_precedence, precedence_at}
 
 operators : map punctuator_precedence (

@@ -1,11 +1,11 @@
 -- What has a reading as a unit is read so, and has no other reading.
 use Rattle.std.proofs.Common.{◌≡◌, ℕ, zero, suc, ◌+◌, ◌<◌, ◌≤◌, max, List, [], ◌∷◌, ◌++◌, length, Result, Ok, Some, None, refl, sym, ap, ◌∙◌, append_assoc, append-nil, add-one, length-append, false, arith}
 use Rattle.std.proofs.lemmas.Bool.{or_parts}
-use Rattle.qs_syntax.specs.declared.terminal.Terminal.{Terminal}
-use Rattle.qs_syntax.specs.declared.terminal.Terminal.TheVariants.{Name, Keyword, Punctuator}
+use Rattle.qs_vocabulary.specs.declared.terminal.Terminal.{Terminal}
+use Rattle.qs_vocabulary.specs.declared.terminal.Terminal.TheVariants.{Name, Keyword, Punctuator}
 use Rattle.qs_base.specs.declared.keyword.Keyword.TheVariants as keywords
-use Rattle.qs_syntax.specs.declared.punctuator.Punctuator as punctuator
-use Rattle.qs_syntax.specs.declared.punctuator.Punctuator.TheVariants as punctuators
+use Rattle.qs_vocabulary.specs.declared.punctuator.Punctuator as punctuator
+use Rattle.qs_vocabulary.specs.declared.punctuator.Punctuator.TheVariants as punctuators
 use Rattle.qs_syntax.specs.declared.types.Base.{Base}
 use Rattle.qs_syntax.specs.Trees.{unnumbered, LengthsTree, DeclaratorTree, MembersTree, ParameterTree, VariableTree, Stmts, DeclTree, structure, forward, function}
 use Rattle.qs_syntax.specs.Trees as trees

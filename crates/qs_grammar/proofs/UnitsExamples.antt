@@ -1,9 +1,9 @@
 -- Small statements, heads and units, read by the parser: each result is computed.
 use Rattle.std.proofs.Common.{◌≡◌, ℕ, List, [], ◌∷◌, Result, Ok, Err, Some, None, true, false, refl}
-use Rattle.qs_syntax.specs.declared.terminal.Terminal.{Terminal}
-use Rattle.qs_syntax.specs.declared.terminal.Terminal.TheVariants.{Name, Keyword, Constant, Punctuator}
+use Rattle.qs_vocabulary.specs.declared.terminal.Terminal.{Terminal}
+use Rattle.qs_vocabulary.specs.declared.terminal.Terminal.TheVariants.{Name, Keyword, Constant, Punctuator}
 use Rattle.qs_base.specs.declared.keyword.Keyword.TheVariants as keywords
-use Rattle.qs_syntax.specs.declared.punctuator.Punctuator.TheVariants as punctuators
+use Rattle.qs_vocabulary.specs.declared.punctuator.Punctuator.TheVariants as punctuators
 use Rattle.qs_syntax.specs.declared.types.Base.TheVariants as bases
 use Rattle.qs_syntax.specs.Trees.{unnumbered, ExprTree, expr, constant, name, LengthsTree, value, list, no_initialisers, initialiser_and, StmtTree, empty, branch, for_loop, break, start_declaration, no_else, else_by, no_stmts, stmt_and, DeclTree, structure, forward, function, variables, ParameterTree}
 use Rattle.qs_grammar.specs.Parse.{Stop, Unexpected, Deep, type, stars, primary, suffixes, unary_of_all, operations, climb, commas, expression, part}

@@ -1,12 +1,12 @@
 -- What is read as a unit has that reading, and all of the tokens are read.
 use Rattle.std.proofs.Common.{◌≡◌, ℕ, zero, suc, ◌+◌, ◌≤◌, max, List, [], ◌∷◌, ◌++◌, length, Ok, Err, Some, None, refl, sym, ap, subst, ◌∙◌, append_assoc, append-nil, add-one, Bool, true, false, cond, arith, ◌&&◌}
 use Rattle.std.proofs.lemmas.Bool.{and_parts}
-use Rattle.qs_syntax.specs.declared.terminal.Terminal.{Terminal}
-use Rattle.qs_syntax.specs.declared.terminal.Terminal.TheVariants.{Name, Keyword, Punctuator}
+use Rattle.qs_vocabulary.specs.declared.terminal.Terminal.{Terminal}
+use Rattle.qs_vocabulary.specs.declared.terminal.Terminal.TheVariants.{Name, Keyword, Punctuator}
 use Rattle.qs_base.specs.declared.keyword.Keyword.TheVariants as keywords
-use Rattle.qs_syntax.specs.declared.punctuator.Punctuator.TheVariants as punctuators
+use Rattle.qs_vocabulary.specs.declared.punctuator.Punctuator.TheVariants as punctuators
 use Rattle.qs_syntax.specs.declared.types.Base.{Base}
-use Rattle.qs_syntax.specs.Operators.{number_of}
+use Rattle.qs_vocabulary.specs.Operators.{number_of}
 use Rattle.qs_syntax.specs.Trees.{unnumbered, MembersTree, ParameterTree, DeclarationTree, StmtTree, stmts_of, DeclTree, structure, function}
 use Rattle.qs_syntax.specs.Trees as trees
 use Rattle.qs_syntax.specs.ReadsTypes.{ReadsPrefixes, no_prefix, a_const_prefix, a_static_prefix, ReadsOuterType, an_outer_type, ReadsStars}

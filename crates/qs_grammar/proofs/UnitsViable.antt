@@ -1,12 +1,12 @@
 -- The tokens before a fault in a unit begin one that is low enough.
 use Rattle.std.proofs.Common.{ℕ, zero, suc, ◌+◌, ◌≤◌, max, true, List, [], ◌∷◌, ◌++◌, length, sym, subst, append_assoc, arith, ◌&&◌}
 use Rattle.std.proofs.lemmas.Bool.{and_parts}
-use Rattle.qs_syntax.specs.declared.terminal.Terminal.{Terminal}
-use Rattle.qs_syntax.specs.declared.terminal.Terminal.TheVariants.{Name, Keyword, Punctuator}
+use Rattle.qs_vocabulary.specs.declared.terminal.Terminal.{Terminal}
+use Rattle.qs_vocabulary.specs.declared.terminal.Terminal.TheVariants.{Name, Keyword, Punctuator}
 use Rattle.qs_base.specs.declared.keyword.Keyword.TheVariants as keywords
-use Rattle.qs_syntax.specs.declared.punctuator.Punctuator.TheVariants as punctuators
+use Rattle.qs_vocabulary.specs.declared.punctuator.Punctuator.TheVariants as punctuators
 use Rattle.qs_syntax.specs.declared.types.Base.{Base}
-use Rattle.qs_syntax.specs.Operators.{number_of}
+use Rattle.qs_vocabulary.specs.Operators.{number_of}
 use Rattle.qs_syntax.specs.Trees.{MembersTree, ParameterTree, DeclTree}
 use Rattle.qs_syntax.specs.ReadsTypes.{no_prefix, no_const, an_int, ReadsOuterType, an_outer_type, ReadsStars}
 use Rattle.qs_syntax.specs.ReadsDeclarations.{ReadsAllMembers, ReadsHead, no_parameter, an_outer_declaration}

@@ -1,23 +1,23 @@
 -- The parser of expressions and types as functions on lists of tokens. An error says how many tokens are left where it stands, its own
 -- among them.
 use Rattle.std.specs.Prelude.{ℕ, zero, suc, ◌+◌, max, List, [], ◌∷◌, ◌++◌, length, Result, Ok, Err, Option, Some, None, Bool, true, false, nat_le, ◌==◌, ◌&&◌, ◌||◌, if◌then◌else◌, is_some}
-use Rattle.qs_syntax.specs.declared.terminal.Terminal.{Terminal}
-use Rattle.qs_syntax.specs.declared.terminal.Terminal.TheVariants.{Name, Keyword, Constant, Text, Punctuator}
+use Rattle.qs_vocabulary.specs.declared.terminal.Terminal.{Terminal}
+use Rattle.qs_vocabulary.specs.declared.terminal.Terminal.TheVariants.{Name, Keyword, Constant, Text, Punctuator}
 use Rattle.qs_base.specs.Results.{bind}
 use Rattle.qs_base.specs.declared.keyword.Keyword.TheVariants as keywords
-use Rattle.qs_syntax.specs.declared.punctuator.Punctuator as punctuator
-use Rattle.qs_syntax.specs.declared.punctuator.Punctuator.TheVariants as punctuators
+use Rattle.qs_vocabulary.specs.declared.punctuator.Punctuator as punctuator
+use Rattle.qs_vocabulary.specs.declared.punctuator.Punctuator.TheVariants as punctuators
 use Rattle.qs_syntax.specs.declared.types.Base.{Base}
 use Rattle.qs_syntax.specs.declared.types.Base.TheVariants as bases
 use Rattle.qs_syntax.specs.declared.types.TypeName.{TypeName}
-use Rattle.qs_syntax.specs.declared.operators.UnaryOperator.{UnaryOperator}
-use Rattle.qs_syntax.specs.declared.operators.StepOperator.{StepOperator}
-use Rattle.qs_syntax.specs.declared.operators.StepOperator.TheVariants as steps
-use Rattle.qs_syntax.specs.declared.operators.BinaryOperator.{BinaryOperator}
-use Rattle.qs_syntax.specs.declared.operators.AssignmentOperator.{AssignmentOperator}
-use Rattle.qs_syntax.specs.declared.operators.Access.{Access}
+use Rattle.qs_vocabulary.specs.declared.operators.UnaryOperator.{UnaryOperator}
+use Rattle.qs_vocabulary.specs.declared.operators.StepOperator.{StepOperator}
+use Rattle.qs_vocabulary.specs.declared.operators.StepOperator.TheVariants as steps
+use Rattle.qs_vocabulary.specs.declared.operators.BinaryOperator.{BinaryOperator}
+use Rattle.qs_vocabulary.specs.declared.operators.AssignmentOperator.{AssignmentOperator}
+use Rattle.qs_vocabulary.specs.declared.operators.Access.{Access}
 use Rattle.qs_syntax.specs.Trees.{unnumbered, ExprTree, expr, constant, text, name, unary, step, cast, sizeof_type, sizeof_expr, binary, assign, conditional, comma, subscript, member, call, exprs_of}
-use Rattle.qs_syntax.specs.Operators.{precedence, weakest, unary_of, binary_of, assign_of, access_of}
+use Rattle.qs_vocabulary.specs.Operators.{precedence, weakest, unary_of, binary_of, assign_of, access_of}
 use Rattle.qs_syntax.specs.Reads.{Form, Postfix, Unary, Level, Conditional, Assignment, Expression, place}
 use Rattle.qs_grammar.specs.Heads.{is_punctuator, is_keyword, starts, starts_step, operator_at, begins_type}
 

@@ -1,10 +1,10 @@
 -- The parser of declarations as functions on lists of tokens. Where `m` levels are left for parts, what a function gives is at most
 -- m + 1 high if it is a node, and else as high as its highest part. The first number of a list bounds its turns.
 use Rattle.std.specs.Prelude.{ℕ, zero, suc, ◌+◌, max, List, [], ◌∷◌, ◌++◌, length, ◌==◌, Result, Ok, Some, None, Bool, true, false, ◌&&◌, if◌then◌else◌, Option}
-use Rattle.qs_syntax.specs.declared.terminal.Terminal.{Terminal}
-use Rattle.qs_syntax.specs.declared.terminal.Terminal.TheVariants.{Name, Keyword, Constant, Text, Punctuator}
+use Rattle.qs_vocabulary.specs.declared.terminal.Terminal.{Terminal}
+use Rattle.qs_vocabulary.specs.declared.terminal.Terminal.TheVariants.{Name, Keyword, Constant, Text, Punctuator}
 use Rattle.qs_base.specs.declared.keyword.Keyword.TheVariants as keywords
-use Rattle.qs_syntax.specs.declared.punctuator.Punctuator.TheVariants as punctuators
+use Rattle.qs_vocabulary.specs.declared.punctuator.Punctuator.TheVariants as punctuators
 use Rattle.qs_syntax.specs.declared.types.Base.{Base}
 use Rattle.qs_syntax.specs.Trees.{unnumbered, ExprTree, LengthsTree, DeclaratorTree, InitialiserTree, value, list, initialisers_of, VariableTree, DeclarationTree, ParameterTree, MembersTree}
 use Rattle.qs_syntax.specs.Reads.{Conditional, Assignment, place}

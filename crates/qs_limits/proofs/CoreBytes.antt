@@ -6,8 +6,8 @@ use Rattle.qs_core.specs.Trees.{CoreFunctionTree, CoreUnitTree}
 use Rattle.qs_meaning.specs.Typed.{Function}
 use Rattle.qs_meaning.proofs.FitReadings.{read_is_as_read}
 use Rattle.qs_meaning.proofs.FitBlocks.{all_exact, typed_data_is_good, typed_data_is_whole}
-use Rattle.qs_elaborate.specs.Names.{FunctionNames, names_in}
-use Rattle.qs_elaborate.specs.Units.{functions_core}
+use Rattle.qs_elaborate_bodies.specs.Names.{FunctionNames, names_in}
+use Rattle.qs_elaborate_bodies.specs.Units.{functions_core}
 use Rattle.qs_limits.specs.Measures.{bytes_in_words, data_end, data_size}
 use Rattle.qs_limits.specs.Laws.{PlacedBytesAreFew, DataBytesAreFew}
 use Rattle.qs_limits.proofs.SourceHeights.{highest}

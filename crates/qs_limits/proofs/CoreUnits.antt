@@ -17,10 +17,10 @@ use Rattle.qs_meaning.specs.Typed.{Function, TypedProgram}
 use Rattle.qs_meaning.specs.Units.{typed_of}
 use Rattle.qs_meaning.specs.Runs.{main_from}
 use Rattle.qs_meaning.proofs.Options.{same}
-use Rattle.qs_elaborate.specs.Names.{FunctionNames, names_in}
-use Rattle.qs_elaborate.specs.Units.{functions_core, unit_core, core_of}
-use Rattle.qs_elaborate.proofs.CountedUnits.{unit_counted, source_words_are_few}
-use Rattle.qs_elaborate.proofs.FitCore.{units_have_cores}
+use Rattle.qs_elaborate_bodies.specs.Names.{FunctionNames, names_in}
+use Rattle.qs_elaborate_bodies.specs.Units.{functions_core, unit_core, core_of}
+use Rattle.qs_elaborate_laws.proofs.CountedUnits.{unit_counted, source_words_are_few}
+use Rattle.qs_elaborate_laws.proofs.FitCore.{units_have_cores}
 use Rattle.qs_limits.specs.Laws.{nesting_limit, FunctionsAreFew, ParametersAreFew, ArgumentsAreFew, CodeIsSmall, HeldValuesAreFew, StatementsNestLittle}
 use Rattle.qs_nesting.specs.Nesting.{functions_nesting}
 use Rattle.qs_limits.specs.Measures.{arguments_in_all}

@@ -6,8 +6,8 @@ use Rattle.qs_types.specs.Limits.{word_size, Block, block_end, blocks_end}
 use Rattle.qs_types.proofs.Rounding.{rounds, rounds_near}
 use Rattle.qs_meaning.specs.Typed.{StaticBlock}
 use Rattle.qs_meaning.specs.Whole.{AreWhole}
-use Rattle.qs_elaborate.specs.Data.{data_core}
-use Rattle.qs_elaborate.proofs.Data.{cells_kept}
+use Rattle.qs_elaborate_bodies.specs.Data.{data_core}
+use Rattle.qs_elaborate_laws.proofs.Data.{cells_kept}
 use Rattle.qs_limits.specs.Measures.{data_end, data_size}
 
 abbrev pub in_words : ℕ → ℕ

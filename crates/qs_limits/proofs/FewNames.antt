@@ -16,7 +16,7 @@ use Rattle.qs_core.proofs.FitLaws.{both}
 use Rattle.qs_meaning.specs.Units.{name_with_body, functions_in, start_scope}
 use Rattle.qs_meaning.proofs.Options.{never}
 use Rattle.qs_meaning.proofs.UnitsTyped.{start_known}
-use Rattle.qs_elaborate.proofs.FitRules.{bodies_differ}
+use Rattle.qs_elaborate_laws.proofs.FitRules.{bodies_differ}
 
 or_true : (a b : Bool) → b ≡ true → (a || b) ≡ true
 or_true true b h = refl

@@ -1,15 +1,15 @@
 -- What the typed tree of a form is as high as: at most 1 more than its parts.
 use Rattle.std.proofs.Common.{◌≡◌, ◌≤◌, ℕ, ◌+◌, max, Bool, true, false, List, Some, subst, arith, if◌then◌else◌}
-use Rattle.qs_syntax.specs.declared.operators.UnaryOperator.{UnaryOperator}
-use Rattle.qs_syntax.specs.declared.operators.UnaryOperator.TheVariants as unaries
-use Rattle.qs_syntax.specs.declared.operators.StepOperator.{StepOperator}
-use Rattle.qs_syntax.specs.declared.operators.StepOperator.TheVariants as steps
-use Rattle.qs_syntax.specs.declared.operators.BinaryOperator.{BinaryOperator}
-use Rattle.qs_syntax.specs.declared.operators.BinaryOperator.TheVariants as binaries
-use Rattle.qs_syntax.specs.declared.operators.AssignmentOperator.{AssignmentOperator}
-use Rattle.qs_syntax.specs.declared.operators.AssignmentOperator.TheVariants as assigns
-use Rattle.qs_syntax.specs.declared.operators.Access.{Access}
-use Rattle.qs_syntax.specs.declared.operators.Access.TheVariants as accesses
+use Rattle.qs_vocabulary.specs.declared.operators.UnaryOperator.{UnaryOperator}
+use Rattle.qs_vocabulary.specs.declared.operators.UnaryOperator.TheVariants as unaries
+use Rattle.qs_vocabulary.specs.declared.operators.StepOperator.{StepOperator}
+use Rattle.qs_vocabulary.specs.declared.operators.StepOperator.TheVariants as steps
+use Rattle.qs_vocabulary.specs.declared.operators.BinaryOperator.{BinaryOperator}
+use Rattle.qs_vocabulary.specs.declared.operators.BinaryOperator.TheVariants as binaries
+use Rattle.qs_vocabulary.specs.declared.operators.AssignmentOperator.{AssignmentOperator}
+use Rattle.qs_vocabulary.specs.declared.operators.AssignmentOperator.TheVariants as assigns
+use Rattle.qs_vocabulary.specs.declared.operators.Access.{Access}
+use Rattle.qs_vocabulary.specs.declared.operators.Access.TheVariants as accesses
 use Rattle.qs_memory.proofs.Options.{some_same, followed}
 use Rattle.qs_types.specs.Types.{TypeTree, int, unsigned, char, void, pointer, array, struct, is_struct, referenced, Structs}
 use Rattle.qs_types.specs.Layout.{extent_of, size_of}

@@ -24,12 +24,12 @@ use Rattle.qs_meaning.proofs.FitTypes.{SmallTable}
 use Rattle.qs_meaning.proofs.FitReadings.{read_is_as_read}
 use Rattle.qs_meaning.proofs.FitSignatures.{file_after}
 use Rattle.qs_meaning.proofs.FitBlocks.{table_after, start_small}
-use Rattle.qs_elaborate.specs.Counts.{expressions_in}
-use Rattle.qs_elaborate.specs.ExpressionCounts.{stmts_expressions}
-use Rattle.qs_elaborate.specs.Names.{FunctionNames, names_in}
-use Rattle.qs_elaborate.specs.Units.{function_core, no_names, functions_core}
-use Rattle.qs_elaborate.proofs.SizeFunctions.{values_are_few}
-use Rattle.qs_elaborate.proofs.CountedParts.{statements_parts}
+use Rattle.qs_elaborate_laws.specs.Counts.{expressions_in}
+use Rattle.qs_elaborate_laws.specs.ExpressionCounts.{stmts_expressions}
+use Rattle.qs_elaborate_bodies.specs.Names.{FunctionNames, names_in}
+use Rattle.qs_elaborate_bodies.specs.Units.{function_core, no_names, functions_core}
+use Rattle.qs_elaborate_laws.proofs.SizeFunctions.{values_are_few}
+use Rattle.qs_elaborate_laws.proofs.CountedParts.{statements_parts}
 use Rattle.qs_limits.specs.Caps.{frame_size, variable_count, cap, body_cap, caps_from, caps, needed, EachBelow}
 use Rattle.qs_limits.specs.Measures.{bytes_in_words}
 use Rattle.qs_limits.specs.Laws.{CapsAreKept}

@@ -23,7 +23,7 @@ use Rattle.qs_meaning.specs.Units.{placed_among, variables_among, locals_of, par
 use Rattle.qs_meaning.proofs.Options.{never, left, same}
 use Rattle.qs_meaning.proofs.FaultlessExpressions.{none_left, none_right, unbroken, first_unbroken, second_unbroken}
 use Rattle.qs_meaning.proofs.FunctionsTyped.{result_known}
-use Rattle.qs_elaborate.proofs.FitRules.{main_type_kept}
+use Rattle.qs_elaborate_laws.proofs.FitRules.{main_type_kept}
 
 -- each `return` has a value
 abbrev mutual

@@ -3,11 +3,11 @@ use Rattle.std.proofs.Common.{◌||◌, [], ◌∷◌, arith}
 use Rattle.qs_memory.specs.declared.scalar.Scalar.TheVariants as scalars
 use Rattle.qs_core.specs.Trees as core
 use Rattle.qs_meaning.specs.Typed.{Expr, constant, value, pointer_to, member, called, stepped_after, unary, cast, binary, logical_and, logical_or, conditional, assigned, sequence, Lvalue, variable, object, Arguments, no_arguments, argument_and, Assignment, set, update, Effect, nothing, discard, assign, perform, copy, fill, in_order}
-use Rattle.qs_elaborate.specs.Literals.{converted_core}
-use Rattle.qs_elaborate.specs.Acting.{acts, arguments_act}
-use Rattle.qs_elaborate.specs.Parts.{Temporaries, with_temporary, saved_if, address_saved_if, value_read}
-use Rattle.qs_elaborate.specs.Expressions.{expression_core, lvalue_core, arguments_core, assignment_core, effect_core}
-use Rattle.qs_elaborate.proofs.SizeFacts.{held_by_parts, converted_below}
+use Rattle.qs_elaborate_bodies.specs.Literals.{converted_core}
+use Rattle.qs_elaborate_bodies.specs.Acting.{acts, arguments_act}
+use Rattle.qs_elaborate_bodies.specs.Parts.{Temporaries, with_temporary, saved_if, address_saved_if, value_read}
+use Rattle.qs_elaborate_bodies.specs.Expressions.{expression_core, lvalue_core, arguments_core, assignment_core, effect_core}
+use Rattle.qs_elaborate_laws.proofs.SizeFacts.{held_by_parts, converted_below}
 use Rattle.qs_limits.proofs.TypedHeights.{height, lvalue_height, arguments_height, assignment_height, effect_height}
 use Rattle.qs_limits.proofs.MostHeld.{most-append}
 use Rattle.qs_limits.proofs.HeldParts.{Few, ListFew, either_few, saved_few, saved_if_few, valued_few, operation_few, logical_few, and_few, or_few, choice_few, choice_joined_few, before_few, AllFew, argument_few, call_few, call_listed_few, PlaceFew, read_few, place_saved_few, WrittenFew, set_few, update_few, discarded_few, write_valued_few, step_few, copied_few}

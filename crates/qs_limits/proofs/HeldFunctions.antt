@@ -3,14 +3,14 @@ use Rattle.std.proofs.Common.{◌≡◌, ◌≤◌, ℕ, ◌+◌, max, Bool, tru
 use Rattle.qs_core.specs.Trees.{CoreStmtTree, CoreFunctionTree}
 use Rattle.qs_core.specs.Trees as core
 use Rattle.qs_meaning.specs.Typed.{Stmt, evaluate, block, branch, while_loop, do_loop, for_loop, break, continue, return, return_nothing, Stmts, no_stmts, stmt_and, Function}
-use Rattle.qs_elaborate.specs.Literals.{converted_core}
-use Rattle.qs_elaborate.specs.Parts.{Temporaries, Valued, Listed, one_statement}
-use Rattle.qs_elaborate.specs.Expressions.{expression_core, effect_core}
-use Rattle.qs_elaborate.specs.Statements.{tested, guarded, looped, branched, statement_core, statements_core}
-use Rattle.qs_elaborate.specs.Names.{FunctionNames}
-use Rattle.qs_elaborate.specs.Units.{end_of_body, body_core, function_core, no_names, functions_core}
-use Rattle.qs_elaborate.proofs.SizeFacts.{converted_below}
-use Rattle.qs_elaborate.proofs.WordFunctions.{named_length}
+use Rattle.qs_elaborate_bodies.specs.Literals.{converted_core}
+use Rattle.qs_elaborate_bodies.specs.Parts.{Temporaries, Valued, Listed, one_statement}
+use Rattle.qs_elaborate_bodies.specs.Expressions.{expression_core, effect_core}
+use Rattle.qs_elaborate_bodies.specs.Statements.{tested, guarded, looped, branched, statement_core, statements_core}
+use Rattle.qs_elaborate_bodies.specs.Names.{FunctionNames}
+use Rattle.qs_elaborate_bodies.specs.Units.{end_of_body, body_core, function_core, no_names, functions_core}
+use Rattle.qs_elaborate_laws.proofs.SizeFacts.{converted_below}
+use Rattle.qs_elaborate_laws.proofs.WordFunctions.{named_length}
 use Rattle.qs_limits.proofs.SourceHeights.{highest}
 use Rattle.qs_limits.proofs.TypedHeights.{height, statement_height, statements_height}
 use Rattle.qs_limits.proofs.UnitHeights.{body_height, parameters_of}

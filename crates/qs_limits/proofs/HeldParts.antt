@@ -8,11 +8,11 @@ use Rattle.qs_core.specs.Trees.{CoreExprTree, CoreStmtTree}
 use Rattle.qs_core.specs.Trees as core
 use Rattle.qs_core.specs.Sizes.{held}
 use Rattle.qs_meaning.specs.Typed.{Conversion, unchanged, Order}
-use Rattle.qs_elaborate.specs.Literals.{is_literal, converted_core}
-use Rattle.qs_elaborate.specs.Parts.{Temporaries, next_number, keep, Valued, Listed, in_temporary, saved, saved_if, joined, before, Location, plain, pointed, Located, with_saved_address, address_saved_if, value_at, value_read, written}
-use Rattle.qs_elaborate.specs.Expressions.{operation_core, updated_core, step_amount, ValuedAll, argument_before, call_valued, call_listed, branch_with, truth_core, truth_literal, and_branching, or_branching, choice_branching, choice_joined, Written, set_core, update_core, write_discarded, write_at, write_valued, step_valued, copied}
-use Rattle.qs_elaborate.proofs.SizeFacts.{own_small, converted_below, operation_held, updated_held}
-use Rattle.qs_elaborate.proofs.SizeParts.{place_held, read_held}
+use Rattle.qs_elaborate_bodies.specs.Literals.{is_literal, converted_core}
+use Rattle.qs_elaborate_bodies.specs.Parts.{Temporaries, next_number, keep, Valued, Listed, in_temporary, saved, saved_if, joined, before, Location, plain, pointed, Located, with_saved_address, address_saved_if, value_at, value_read, written}
+use Rattle.qs_elaborate_bodies.specs.Expressions.{operation_core, updated_core, step_amount, ValuedAll, argument_before, call_valued, call_listed, branch_with, truth_core, truth_literal, and_branching, or_branching, choice_branching, choice_joined, Written, set_core, update_core, write_discarded, write_at, write_valued, step_valued, copied}
+use Rattle.qs_elaborate_laws.proofs.SizeFacts.{own_small, converted_below, operation_held, updated_held}
+use Rattle.qs_elaborate_laws.proofs.SizeParts.{place_held, read_held}
 use Rattle.qs_limits.proofs.MostHeld.{most_held, most_in, list_most, most-append, most_one}
 
 pub record Few (v : Valued) (n : ℕ) : Type 0 where

@@ -18,7 +18,7 @@ use Rattle.qs_meaning.specs.Runs.{frame_of, body_of, calls_within, main_from, ru
 use Rattle.qs_meaning.specs.Runs as source
 use Rattle.qs_meaning.proofs.Options.{never, left, right, nothing, same}
 use Rattle.qs_meaning.proofs.RelationLaws.{TurnsRelated, expression_related, effect_related, condition_related, for_condition_related, body_related}
-use Rattle.qs_elaborate.proofs.FitCore.{units_have_cores}
+use Rattle.qs_elaborate_laws.proofs.FitCore.{units_have_cores}
 use Rattle.qs_limits.specs.Laws.{MainReturns}
 use Rattle.qs_limits.proofs.GivenValues.{gives_values, all_give_values, GivesIfMain, mains_give}
 

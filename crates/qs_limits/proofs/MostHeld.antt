@@ -13,8 +13,8 @@ use Rattle.qs_core.specs.Interfaces.{types_of, signature, interface_of}
 use Rattle.qs_core.specs.Fits.{expr_fits, exprs_fit, destination_fits, call_fits, stmt_fits, stmts_fit}
 use Rattle.qs_core.specs.Sizes.{held, all_held, option_held, held_in, held_in_all}
 use Rattle.qs_core.proofs.FitLaws.{both}
-use Rattle.qs_elaborate.specs.Parts.{one_statement}
-use Rattle.qs_elaborate.proofs.SizeFacts.{own_small, own_held, parts_small}
+use Rattle.qs_elaborate_bodies.specs.Parts.{one_statement}
+use Rattle.qs_elaborate_laws.proofs.SizeFacts.{own_small, own_held, parts_small}
 use Rattle.qs_meaning.proofs.Options.{never, nothing, same}
 use Rattle.qs_limits.specs.Measures.{arguments_in, arguments_in_all}
 use Rattle.qs_limits.proofs.SourceHeights.{highest}

@@ -8,13 +8,13 @@ use Rattle.qs_nesting.specs.Nesting.{nesting, nesting_in_all, functions_nesting,
 use Rattle.qs_nesting.proofs.JoinedLaws.{joined_nest}
 use Rattle.qs_meaning.specs.Typed.{Expr, constant, value, pointer_to, member, called, stepped_after, unary, cast, binary, logical_and, logical_or, conditional, assigned, sequence, Lvalue, variable, object, Arguments, no_arguments, argument_and, Assignment, set, update, Effect, nothing, discard, assign, perform, copy, fill, in_order}
 use Rattle.qs_meaning.specs.Typed.{Stmt, evaluate, block, branch, while_loop, do_loop, for_loop, break, continue, return, return_nothing, Stmts, no_stmts, stmt_and, Function}
-use Rattle.qs_elaborate.specs.Literals.{is_literal, converted_core}
-use Rattle.qs_elaborate.specs.Acting.{acts, arguments_act}
-use Rattle.qs_elaborate.specs.Parts.{Temporaries, with_temporary, next_number, keep, Valued, in_temporary, saved, saved_if, Location, plain, pointed, Located, with_saved_address, address_saved_if, value_at, value_read, written, one_statement}
-use Rattle.qs_elaborate.specs.Expressions.{updated_core, step_amount, branch_with, truth_core, truth_literal, write_at, expression_core, lvalue_core, arguments_core, assignment_core, effect_core}
-use Rattle.qs_elaborate.specs.Statements.{tested, guarded, looped, statement_core, statements_core}
-use Rattle.qs_elaborate.specs.Names.{FunctionNames}
-use Rattle.qs_elaborate.specs.Units.{end_of_body, body_core, function_core, no_names, functions_core}
+use Rattle.qs_elaborate_bodies.specs.Literals.{is_literal, converted_core}
+use Rattle.qs_elaborate_bodies.specs.Acting.{acts, arguments_act}
+use Rattle.qs_elaborate_bodies.specs.Parts.{Temporaries, with_temporary, next_number, keep, Valued, in_temporary, saved, saved_if, Location, plain, pointed, Located, with_saved_address, address_saved_if, value_at, value_read, written, one_statement}
+use Rattle.qs_elaborate_bodies.specs.Expressions.{updated_core, step_amount, branch_with, truth_core, truth_literal, write_at, expression_core, lvalue_core, arguments_core, assignment_core, effect_core}
+use Rattle.qs_elaborate_bodies.specs.Statements.{tested, guarded, looped, statement_core, statements_core}
+use Rattle.qs_elaborate_bodies.specs.Names.{FunctionNames}
+use Rattle.qs_elaborate_bodies.specs.Units.{end_of_body, body_core, function_core, no_names, functions_core}
 use Rattle.qs_meaning.specs.Typed.{unchanged}
 use Rattle.qs_limits.proofs.SourceHeights.{highest}
 use Rattle.qs_limits.proofs.TypedHeights.{height, lvalue_height, arguments_height, assignment_height, effect_height, statement_height, statements_height}

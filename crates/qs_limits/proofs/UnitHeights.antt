@@ -12,7 +12,7 @@ use Rattle.qs_meaning.specs.Names.{Scope, within}
 use Rattle.qs_meaning.specs.Statements.{statements_typed}
 use Rattle.qs_meaning.specs.Units.{placed_among, variables_among, locals_of, parameters_in, scalars_of, sizes_of, parameters_typed, in_body, function_with, function_typed, file_variables_typed, declaration_typed, declarations_typed, start_scope, typed_of}
 use Rattle.qs_meaning.proofs.Options.{same}
-use Rattle.qs_elaborate.proofs.FitFunctionNames.{parameters_count}
+use Rattle.qs_elaborate_laws.proofs.FitFunctionNames.{parameters_count}
 use Rattle.qs_limits.proofs.SourceHeights.{highest, option_height, stmts_height, decl_height, unit_height}
 use Rattle.qs_limits.proofs.TypedHeights.{statements_height}
 use Rattle.qs_limits.proofs.StatementHeights.{statements_low}

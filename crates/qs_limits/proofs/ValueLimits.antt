@@ -18,12 +18,12 @@ use Rattle.qs_meaning.specs.Statements.{statements_typed}
 use Rattle.qs_meaning.specs.Units.{placed_among, plain_among, variables_among, locals_of, parameters_in, scalars_of, sizes_of, parameters_typed, in_body, function_with, function_typed, file_variables_typed, declaration_typed, declarations_typed, start_scope}
 use Rattle.qs_meaning.proofs.Options.{same}
 use Rattle.qs_meaning.proofs.FaultlessExpressions.{none_left, none_right}
-use Rattle.qs_elaborate.specs.Counts.{expressions_in}
-use Rattle.qs_elaborate.specs.ExpressionCounts.{initialiser_expressions, initialisers_expressions, variable_expressions, start_expressions, stmt_expressions, stmts_expressions, else_expressions}
-use Rattle.qs_elaborate.specs.Names.{FunctionNames, names_in}
-use Rattle.qs_elaborate.specs.Units.{no_names, functions_core}
-use Rattle.qs_elaborate.proofs.SizeFunctions.{values_are_few}
-use Rattle.qs_elaborate.proofs.CountedParts.{statements_parts}
+use Rattle.qs_elaborate_laws.specs.Counts.{expressions_in}
+use Rattle.qs_elaborate_laws.specs.ExpressionCounts.{initialiser_expressions, initialisers_expressions, variable_expressions, start_expressions, stmt_expressions, stmts_expressions, else_expressions}
+use Rattle.qs_elaborate_bodies.specs.Names.{FunctionNames, names_in}
+use Rattle.qs_elaborate_bodies.specs.Units.{no_names, functions_core}
+use Rattle.qs_elaborate_laws.proofs.SizeFunctions.{values_are_few}
+use Rattle.qs_elaborate_laws.proofs.CountedParts.{statements_parts}
 use Rattle.qs_limits.specs.Laws.{value_limit, ValuesAreLimited}
 use Rattle.qs_limits.proofs.SourceHeights.{highest}
 use Rattle.qs_limits.proofs.UnitHeights.{highest_joined}

@@ -8,7 +8,7 @@ use Rattle.qs_types.specs.UnitRules.{body_context, after_declaration}
 use Rattle.qs_core.specs.Trees.{CoreFunctionTree}
 use Rattle.qs_core.specs.Sizes.{values}
 use Rattle.qs_meaning.specs.Units.{variables_among, parameters_in}
-use Rattle.qs_elaborate.specs.ExpressionCounts.{stmts_expressions}
+use Rattle.qs_elaborate_laws.specs.ExpressionCounts.{stmts_expressions}
 use Rattle.qs_limits.specs.Measures.{bytes_in_words}
 
 -- the least multiple of 16 that has room for a return address, bytes of blocks, and values

@@ -11,7 +11,7 @@ use Rattle.qs_core.specs.Trees.{CoreUnitTree}
 use Rattle.qs_core.specs.Units.{main_run}
 use Rattle.qs_core.specs.Sizes.{held_in_all, values, unit_words}
 use Rattle.qs_nesting.specs.Nesting.{unit_nesting}
-use Rattle.qs_elaborate.specs.Units.{core_of}
+use Rattle.qs_elaborate_bodies.specs.Units.{core_of}
 use Rattle.qs_limits.specs.Caps.{caps, needed, EachBelow}
 use Rattle.qs_limits.specs.Measures.{arguments_in_all, bytes_in_words, data_end, data_size}
 

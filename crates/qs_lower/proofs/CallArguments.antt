@@ -17,11 +17,11 @@ use Rattle.qs_tac.specs.declared.operands.Operand.{Operand}
 use Rattle.qs_tac.specs.declared.operands.Condition.{Condition}
 use Rattle.qs_tac.specs.declared.operands.Condition.TheVariants as conditions
 use Rattle.qs_tac.specs.Fits.{is_word}
-use Rattle.qs_lower.specs.Exits.{Exit, falls, goes, exit_code, branch_code}
-use Rattle.qs_lower.specs.Operands.{converted, truth_of, truth_operand, unary_of, folded, gives_integer, gives_truth, is_idle, constant_step, swaps}
-use Rattle.qs_lower.specs.Expressions.{IndexCode, ExprCode, simple_code, code_of, own, based, known_code, tested, no_code, by_operand, by_value, number_of, by_test, further, behind_parts, unindexed, indexed_by, by_address, of_element, of_unary_value, with_test, of_truth, of_plus, of_compound, simple_or, converting, of_conversion, pair_code, of_binary_value, with_condition, of_operation, stepped_or, of_choice, of_and, of_or, of_conditional, lowered, all_code, all_operands}
+use Rattle.qs_lower_expressions.specs.Exits.{Exit, falls, goes, exit_code, branch_code}
+use Rattle.qs_lower_expressions.specs.Operands.{converted, truth_of, truth_operand, unary_of, folded, gives_integer, gives_truth, is_idle, constant_step, swaps}
+use Rattle.qs_lower_expressions.specs.Expressions.{IndexCode, ExprCode, simple_code, code_of, own, based, known_code, tested, no_code, by_operand, by_value, number_of, by_test, further, behind_parts, unindexed, indexed_by, by_address, of_element, of_unary_value, with_test, of_truth, of_plus, of_compound, simple_or, converting, of_conversion, pair_code, of_binary_value, with_condition, of_operation, stepped_or, of_choice, of_and, of_or, of_conditional, lowered, all_code, all_operands}
 use Rattle.qs_lower.specs.Statements.{Exits, Way, to_next, to_break, to_continue, Part, Tested, StmtCode, going, joined, redirected, straight, target_of, tested_behind, of_before, of_ways, branch_part, test_of, is_next, of_branch, test_last, body_first, body_alone, loop_part, stmt_code, stmts_code}
-use Rattle.qs_lower.specs.Threads.{retargeted}
+use Rattle.qs_lower_expressions.specs.Threads.{retargeted}
 use Rattle.qs_lower.specs.WordLaws.{arguments_of, FewArguments, most_arguments, most_arguments_in}
 
 module _ (n : ℕ) where

@@ -19,12 +19,12 @@ use Rattle.qs_tac.specs.Trees.{InstructionTree, call}
 use Rattle.qs_tac.specs.Holders.{temporaries}
 use Rattle.qs_tac.specs.Values.{operands}
 use Rattle.qs_tac.specs.Steps.{Waiting, take_result, enters, steps}
-use Rattle.qs_lower.specs.Expressions.{ExprCode, size_of, code_of, own, all_size, all_code, all_operands}
+use Rattle.qs_lower_expressions.specs.Expressions.{ExprCode, size_of, code_of, own, all_size, all_code, all_operands}
 use Rattle.qs_lower.specs.Statements.{of_call, taken_by}
-use Rattle.qs_lower.proofs.SizeLaws.{one_more, code_length, all_length}
-use Rattle.qs_lower.proofs.RealisationLaws.{Model, Comes, NoJump, moves, real_comes, real_call, comes_real, comes_same, comes_less, comes_emit, Act, Stack, HasAt, has_left, has_right, Kept, kept_all, kept_then, Real, real_fault, CallsReal, moment, IsCode, Agree, free}
-use Rattle.qs_lower.proofs.ValueReal as value_real
-use Rattle.qs_lower.proofs.ExprReal as expr
+use Rattle.qs_lower_expressions.proofs.SizeLaws.{one_more, code_length, all_length}
+use Rattle.qs_lower_expressions.proofs.RealisationLaws.{Model, Comes, NoJump, moves, real_comes, real_call, comes_real, comes_same, comes_less, comes_emit, Act, Stack, HasAt, has_left, has_right, Kept, kept_all, kept_then, Real, real_fault, CallsReal, moment, IsCode, Agree, free}
+use Rattle.qs_lower_expressions.proofs.ValueReal as value_real
+use Rattle.qs_lower_expressions.proofs.ExprReal as expr
 use Rattle.qs_lower.proofs.PlainReal as plain
 
 no_values : {A : Type 0} (o : Option A) (p : Option (List A)) → p ≡ None → (o >>= λ v. p >>= λ vs. Some (v ∷ vs)) ≡ None

@@ -11,8 +11,8 @@ use Rattle.qs_tac.specs.Values.{Activation, holds}
 use Rattle.qs_tac.specs.Steps.{Waiting, going_to, step, steps}
 use Rattle.qs_tac.specs.Units.{run}
 use Rattle.qs_tac.proofs.RelationLaws.{enters_related, step_related}
-use Rattle.qs_lower.specs.Threads.{leads_to}
-use Rattle.qs_lower.proofs.ThreadLaws.{target, stays, goes_on, code_of, frames_kept, IsPlain, Kind, kind_of, v, here, there, ahead, at_step}
+use Rattle.qs_lower_expressions.specs.Threads.{leads_to}
+use Rattle.qs_lower_expressions.proofs.ThreadLaws.{target, stays, goes_on, code_of, frames_kept, IsPlain, Kind, kind_of, v, here, there, ahead, at_step}
 use Rattle.qs_lower.proofs.OnceLaws.{once_enters, once_step}
 use Rattle.qs_lower.proofs.StmtReal.{Equal, equal_keeps}
 

@@ -8,14 +8,14 @@ use Rattle.qs_core.specs.Trees.{CoreExprTree, CoreFunctionTree}
 use Rattle.qs_core.specs.Expressions.{Locals, value}
 use Rattle.qs_core.specs.Statements.{Continuation, Continuations, Context, repeated, after_step, after_body}
 use Rattle.qs_tac.specs.Trees.{InstructionTree}
-use Rattle.qs_lower.specs.Exits.{Exit, falls, goes, is_fall, settled, exit_size, exit_code}
-use Rattle.qs_lower.specs.Expressions.{ExprCode}
+use Rattle.qs_lower_expressions.specs.Exits.{Exit, falls, goes, is_fall, settled, exit_size, exit_code}
+use Rattle.qs_lower_expressions.specs.Expressions.{ExprCode}
 use Rattle.qs_lower.specs.Statements.{Exits, falls_of, elsewhere, before, none_falls, next_falls, Way, to_next, to_break, to_continue, exit_to, falls_to, Part, Tested, going, joined, redirected, branch_part, body_falls, body_exits, front_exits, step_exits, test_last, last_falls, last_exits, body_first, body_alone}
 use Rattle.qs_lower.proofs.StmtSizeLaws.{PartSized, TestedSized}
-use Rattle.qs_lower.proofs.JumpLaws.{Leads}
-use Rattle.qs_lower.proofs.RealisationLaws.{Model, real_turns, comes_less, bounded_less as tally_bounded, Stack, HasAt, has_left, has_right, Kept, Real, real_less, CallsReal, moment, IsCode, Agree, free, Goes, by_answer}
-use Rattle.qs_lower.proofs.ValueReal as value_real
-use Rattle.qs_lower.proofs.ExprReal as expr
+use Rattle.qs_lower_expressions.proofs.JumpLaws.{Leads}
+use Rattle.qs_lower_expressions.proofs.RealisationLaws.{Model, real_turns, comes_less, bounded_less as tally_bounded, Stack, HasAt, has_left, has_right, Kept, Real, real_less, CallsReal, moment, IsCode, Agree, free, Goes, by_answer}
+use Rattle.qs_lower_expressions.proofs.ValueReal as value_real
+use Rattle.qs_lower_expressions.proofs.ExprReal as expr
 use Rattle.qs_lower.proofs.PlainReal as plain
 
 module _ (u : Model) (f : CoreFunctionTree) (code : List InstructionTree) (function : ℕ) (stack : Stack) (is_code : IsCode u f code function stack) (c : Context) (first depth : ℕ) (calls_real : CallsReal u depth c.calls) where

@@ -26,11 +26,11 @@ use Rattle.qs_tac.specs.Trees.{TacUnitTree}
 use Rattle.qs_tac.specs.Holders.{temporaries}
 use Rattle.qs_tac.specs.Steps.{Next, begins, enters, resume, steps}
 use Rattle.qs_tac.specs.Units.{tac_run}
-use Rattle.qs_lower.specs.Threads.{threaded_function, threaded_unit}
+use Rattle.qs_lower_expressions.specs.Threads.{threaded_function, threaded_unit}
 use Rattle.qs_lower.specs.Units.{function_code, straight_function, straight_unit}
-use Rattle.qs_lower.proofs.ThreadLaws.{code_in}
-use Rattle.qs_lower.proofs.JumpLaws.{IsWeight, one_more}
-use Rattle.qs_lower.proofs.RealisationLaws.{Stack, Tally, counted, weighed, Suits, Model, moved_by, ComesBy, BoundedBy, comes_same, comes_alike, comes_emit, comes_real_by, CallsMade, entering_in, IsCode}
+use Rattle.qs_lower_expressions.proofs.ThreadLaws.{code_in}
+use Rattle.qs_lower_expressions.proofs.JumpLaws.{IsWeight, one_more}
+use Rattle.qs_lower_expressions.proofs.RealisationLaws.{Stack, Tally, counted, weighed, Suits, Model, moved_by, ComesBy, BoundedBy, comes_same, comes_alike, comes_emit, comes_real_by, CallsMade, entering_in, IsCode}
 use Rattle.qs_lower.proofs.StmtReal.{Equal, equal_keeps}
 use Rattle.qs_lower.proofs.UnitReal as unit
 use Rattle.qs_lower.proofs.PlainReal as plain

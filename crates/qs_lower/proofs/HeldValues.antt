@@ -23,11 +23,11 @@ use Rattle.qs_tac.specs.declared.operands.Operand.{Operand}
 use Rattle.qs_tac.specs.declared.operands.Condition.{Condition}
 use Rattle.qs_tac.specs.declared.operands.Condition.TheVariants as conditions
 use Rattle.qs_tac.specs.Fits.{is_word}
-use Rattle.qs_lower.specs.Exits.{Exit}
-use Rattle.qs_lower.specs.Operands.{converted, truth_operand, unary_of, folded, gives_integer, gives_truth, is_idle, constant_step}
-use Rattle.qs_lower.specs.Expressions.{IndexCode, ExprCode, own, used_by, simple_size, by_operand, by_value, number_of, by_test, further, behind_parts, behind, unindexed, indexed_by, by_address, based, with_test, of_truth, of_plus, of_compound, simple_or, of_conversion, pair_used, of_binary_value, with_condition, of_operation, stepped_or, of_and, of_or, of_conditional, lowered, all_used}
+use Rattle.qs_lower_expressions.specs.Exits.{Exit}
+use Rattle.qs_lower_expressions.specs.Operands.{converted, truth_operand, unary_of, folded, gives_integer, gives_truth, is_idle, constant_step}
+use Rattle.qs_lower_expressions.specs.Expressions.{IndexCode, ExprCode, own, used_by, simple_size, by_operand, by_value, number_of, by_test, further, behind_parts, behind, unindexed, indexed_by, by_address, based, with_test, of_truth, of_plus, of_compound, simple_or, of_conversion, pair_used, of_binary_value, with_condition, of_operation, stepped_or, of_and, of_or, of_conditional, lowered, all_used}
 use Rattle.qs_lower.specs.Statements.{StmtCode, Way, of_before, of_ways, of_branch, stmt_code, stmts_code}
-use Rattle.qs_lower.proofs.SimpleOperands.{AreIntegers, IsThere, converted_there, converts, integers, operands_there}
+use Rattle.qs_lower_expressions.proofs.SimpleOperands.{AreIntegers, IsThere, converted_there, converts, integers, operands_there}
 
 -- ---- what core holds
 

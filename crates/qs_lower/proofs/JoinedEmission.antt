@@ -8,14 +8,14 @@ use Rattle.qs_tac.specs.Trees.{InstructionTree, return}
 use Rattle.qs_tac.specs.declared.operands.Operand.{Operand}
 use Rattle.qs_tac.specs.TreeOf.{instruction_tree}
 use Rattle.qs_tac.specs.declared.instruction.Instruction.{Instruction}
-use Rattle.qs_lower.specs.Expressions.{code_of, operand_of}
-use Rattle.qs_lower.specs.Plans.{expr_code, Emitted}
-use Rattle.qs_lower.specs.declared.plans.ExprPlan.{ExprPlan}
+use Rattle.qs_lower_expressions.specs.Expressions.{code_of, operand_of}
+use Rattle.qs_lower_expressions.specs.Plans.{expr_code, Emitted}
+use Rattle.qs_lower_expressions.specs.declared.plans.ExprPlan.{ExprPlan}
 use Rattle.qs_lower.specs.declared.stmt_plans.StmtPlan.{StmtPlan}
 use Rattle.qs_lower.specs.declared.stmt_plans.StmtPlan.TheVariants as plans
 use Rattle.qs_lower.specs.Statements.{StmtCode, Exits, falls_of}
 use Rattle.qs_lower.specs.StmtPlans.{stmt_part, joined_before, sizes_before, code_before}
-use Rattle.qs_lower.proofs.EmissionLaws.{emitted_then}
+use Rattle.qs_lower_expressions.proofs.EmissionLaws.{emitted_then}
 use Rattle.qs_lower.proofs.PlanTrees.{joined_is, return_is}
 use Rattle.qs_lower.proofs.JoinedLaws.{joined_size, joined_code}
 

@@ -2,7 +2,7 @@
 use Rattle.std.proofs.Common.{◌≡◌, ℕ, ◌+◌, ◌<◌, max, Bool, true, false, if◌then◌else◌, List, [], ◌∷◌, ◌++◌, length, append_assoc, Option, Some, None, IsSome, refl, sym, ap, ◌∙◌, arith}
 use Rattle.std.specs.Prelude.{◌||◌}
 use Rattle.qs_tac.specs.Trees.{InstructionTree}
-use Rattle.qs_lower.specs.Expressions.{ExprCode}
+use Rattle.qs_lower_expressions.specs.Expressions.{ExprCode}
 use Rattle.qs_lower.specs.Statements.{Part, Tested, StmtCode, Way, Exits, Falls, leaves, is_break, before, redirected, next_falls, tested_behind, of_before, of_ways, of_both}
 use Rattle.qs_lower.specs.StmtPlans.{idle_in, idle_of, test_in, test_at_end, tested_of, joined_before, sizes_before, code_before, most_used, some_breaks, redirected_to, all_joined, joined_to, put_before, all_before}
 

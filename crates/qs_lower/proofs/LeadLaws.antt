@@ -5,7 +5,7 @@ use Rattle.std.proofs.lemmas.List.{length-map}
 use Rattle.std.proofs.lemmas.Option.{slice_get-map}
 use Rattle.std.specs.List.{slice_get}
 use Rattle.qs_tac.specs.Trees.{InstructionTree}
-use Rattle.qs_lower.specs.Threads.{leads_to, onward_from, follow, retargeted, threaded}
+use Rattle.qs_lower_expressions.specs.Threads.{leads_to, onward_from, follow, retargeted, threaded}
 use Rattle.qs_lower.specs.Leads.{leads_of, lead_in, follow_leads}
 
 -- ---- the table

@@ -24,7 +24,7 @@ use Rattle.qs_tac.specs.declared.operands.Operand.{Operand}
 use Rattle.qs_tac.specs.declared.operands.Operand.TheVariants.{Temporary, Integer, Byte, Constant, Local}
 use Rattle.qs_tac.specs.declared.operands.Address.{Address}
 use Rattle.qs_tac.specs.declared.operands.Condition.TheVariants.{NotZero, Zero, Compare}
-use Rattle.qs_lower.specs.Threads.{threaded}
+use Rattle.qs_lower_expressions.specs.Threads.{threaded}
 use Rattle.qs_lower.specs.Units.{function_code, straight_function, lower_unit}
 
 -- ---- a function with the variables `int x, y; char c; struct s *p;`, one temporary and a block of 8 bytes: its

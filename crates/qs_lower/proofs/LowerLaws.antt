@@ -5,7 +5,7 @@ use Rattle.qs_core.specs.Fits as core
 use Rattle.qs_tac.specs.Trees.{TacFunctionTree, TacUnitTree}
 use Rattle.qs_tac.specs.Fits as tac
 use Rattle.qs_tac.specs.declared.units.TacData.{TacData}
-use Rattle.qs_lower.specs.Threads.{threaded_function}
+use Rattle.qs_lower_expressions.specs.Threads.{threaded_function}
 use Rattle.qs_lower.specs.Units.{straight_function, lower_data, lower_unit}
 use Rattle.qs_lower.proofs.UnitFits.{lowered_fits}
 

@@ -31,13 +31,13 @@ use Rattle.qs_tac.specs.Fits.{is_word}
 use Rattle.qs_tac.specs.declared.operands.Operand.{Operand}
 use Rattle.qs_tac.specs.declared.operands.Operand.TheVariants.{Temporary, Integer, Byte, Constant, Null, Local, Data}
 use Rattle.qs_tac.specs.declared.operands.Condition.TheVariants as conditions
-use Rattle.qs_lower.specs.Exits.{Exit, falls, goes}
-use Rattle.qs_lower.specs.Operands.{converted, truth_operand, unary_of, folded, block_operand, gives_integer, gives_truth, is_idle, constant_step}
-use Rattle.qs_lower.specs.Expressions.{ExprCode, size_of, code_of, operand_of, own, simple_operand, address_at, by_operand, by_address, behind, further, of_member, of_element, of_truth, of_plus, of_compound, simple_or, of_conversion, of_operation, of_binary_value, stepped_or, of_and, of_or, of_conditional, lowered, all_code, all_operands}
+use Rattle.qs_lower_expressions.specs.Exits.{Exit, falls, goes}
+use Rattle.qs_lower_expressions.specs.Operands.{converted, truth_operand, unary_of, folded, block_operand, gives_integer, gives_truth, is_idle, constant_step}
+use Rattle.qs_lower_expressions.specs.Expressions.{ExprCode, size_of, code_of, operand_of, own, simple_operand, address_at, by_operand, by_address, behind, further, of_member, of_element, of_truth, of_plus, of_compound, simple_or, of_conversion, of_operation, of_binary_value, stepped_or, of_and, of_or, of_conditional, lowered, all_code, all_operands}
 use Rattle.qs_lower.proofs.OperandFits.{small_word}
 use Rattle.qs_lower.proofs.CoreWords.{tested_words, held_read, some_taken, address_taken, tested_taken, taken_tested, some_tested, assigned_taken}
-use Rattle.qs_lower.proofs.SimpleOperands.{AreIntegers, IsThere, converted_there, folded_constant, AreConstants, converts, integers, operands_there}
-use Rattle.qs_lower.proofs.ExprWords.{jumps, Within, widened, code_words, words_both, operand_small, constant_small, operand_within, load_within, by_address_within, member_within, element_within, unary_value_within, with_test_within, convert_within, binary_value_within, with_condition_within, both_tests_within, either_test_within, choice_within}
+use Rattle.qs_lower_expressions.proofs.SimpleOperands.{AreIntegers, IsThere, converted_there, folded_constant, AreConstants, converts, integers, operands_there}
+use Rattle.qs_lower_expressions.proofs.ExprWords.{jumps, Within, widened, code_words, words_both, operand_small, constant_small, operand_within, load_within, by_address_within, member_within, element_within, unary_value_within, with_test_within, convert_within, binary_value_within, with_condition_within, both_tests_within, either_test_within, choice_within}
 
 -- ---- converted operands take no more words
 

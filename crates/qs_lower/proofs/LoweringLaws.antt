@@ -13,7 +13,7 @@ use Rattle.qs_tac.specs.Units.{tac_run}
 use Rattle.qs_lower.specs.Units.{function_code, straight_unit, lower_unit}
 use Rattle.qs_lower.specs.Laws.{LoweringFollows}
 use Rattle.qs_lower.proofs.ExactLaws.{run_exact}
-use Rattle.qs_lower.proofs.JumpLaws.{weight_of}
+use Rattle.qs_lower_expressions.proofs.JumpLaws.{weight_of}
 use Rattle.qs_lower.proofs.FollowLaws.{told, code_is, context, ParametersThere, same_run, threaded_run}
 use Rattle.qs_lower.proofs.PresenceLaws.{stmts_there, more_there, parameters_there}
 

@@ -33,11 +33,11 @@ use Rattle.qs_tac.specs.Trees.{TacFunctionTree, TacUnitTree}
 use Rattle.qs_tac.specs.declared.operands.Operand.{Operand}
 use Rattle.qs_tac.specs.declared.operands.Operand.TheVariants.{Temporary, Integer, Byte, Constant, Null, Local, Data}
 use Rattle.qs_tac.specs.Fits.{is_word, operand_fits, option_fits, operation_fits, callee_fits}
-use Rattle.qs_lower.specs.Operands.{constant, converted, truth_of, truth_operand, unary_of, binary_of, folded, block_operand, gives_integer, gives_truth, is_idle, is_upward, constant_step}
-use Rattle.qs_lower.specs.Expressions.{lowered, size_of, code_of, own, all_size, all_code, all_operands, all_used}
+use Rattle.qs_lower_expressions.specs.Operands.{constant, converted, truth_of, truth_operand, unary_of, binary_of, folded, block_operand, gives_integer, gives_truth, is_idle, is_upward, constant_step}
+use Rattle.qs_lower_expressions.specs.Expressions.{lowered, size_of, code_of, own, all_size, all_code, all_operands, all_used}
 use Rattle.qs_lower.specs.Units.{free_from}
 use Rattle.qs_lower.proofs.PresenceLaws.{variable_there, temporary_there}
-use Rattle.qs_lower.proofs.ExprFits.{together, below, Fit, fit_both, ExprFits, code_of_fits, operand_of_fits, operand_fits_all, load_fits, member_fits, compound_fits, simple_or_fits, if_fits, convert_fits, of_operation_fits, stepped_fits, and_fits, or_fits, conditional_fits}
+use Rattle.qs_lower_expressions.proofs.ExprFits.{together, below, Fit, fit_both, ExprFits, code_of_fits, operand_of_fits, operand_fits_all, load_fits, member_fits, compound_fits, simple_or_fits, if_fits, convert_fits, of_operation_fits, stepped_fits, and_fits, or_fits, conditional_fits}
 
 -- ---- constants
 

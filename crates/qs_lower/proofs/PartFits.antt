@@ -2,10 +2,10 @@
 use Rattle.std.proofs.Common.{◌≡◌, ℕ, ◌+◌, ◌<◌, ◌≤◌, Bool, true, false, List, ◌++◌, length, Option, Some, None, refl, sym, ap, ◌∙◌, subst, arith}
 use Rattle.std.specs.Prelude.{◌&&◌, ◌||◌, not, if◌then◌else◌}
 use Rattle.qs_tac.specs.Trees.{InstructionTree, TacFunctionTree, TacUnitTree}
-use Rattle.qs_lower.specs.Exits.{Exit, falls, goes, is_fall, settled, exit_size, exit_code}
-use Rattle.qs_lower.specs.Expressions.{ExprCode}
+use Rattle.qs_lower_expressions.specs.Exits.{Exit, falls, goes, is_fall, settled, exit_size, exit_code}
+use Rattle.qs_lower_expressions.specs.Expressions.{ExprCode}
 use Rattle.qs_lower.specs.Statements.{Exits, falls_of, before, elsewhere, next_falls, none_falls, Way, to_next, to_break, to_continue, exit_to, falls_to, leaves, is_break, Part, Tested, StmtCode, going, joined, redirected, straight, by_way, tested_behind, of_joined, of_before, of_ways, of_both, branch_part, test_of, is_next, of_branch}
-use Rattle.qs_lower.proofs.ExprFits.{Fit, fit_both, Lands, Behind, lands_behind, settled_lands, exit_fits, test_starts, ExprFits}
+use Rattle.qs_lower_expressions.proofs.ExprFits.{Fit, fit_both, Lands, Behind, lands_behind, settled_lands, exit_fits, test_starts, ExprFits}
 
 -- which exits of a part may be taken
 pub record Taken : Type 0 where

@@ -20,15 +20,15 @@ use Rattle.qs_tac.specs.Trees.{InstructionTree, store, copy, fill, return}
 use Rattle.qs_tac.specs.Holders.{temporaries}
 use Rattle.qs_tac.specs.Values.{operand, pointer}
 use Rattle.qs_tac.specs.Steps.{Next, leaves_memory, ends, step, steps}
-use Rattle.qs_lower.specs.Exits.{Exit, falls, goes, is_fall, exit_size, exit_code}
-use Rattle.qs_lower.specs.Expressions.{ExprCode, size_of, code_of, operand_of, own, address_at}
+use Rattle.qs_lower_expressions.specs.Exits.{Exit, falls, goes, is_fall, exit_size, exit_code}
+use Rattle.qs_lower_expressions.specs.Expressions.{ExprCode, size_of, code_of, operand_of, own, address_at}
 use Rattle.qs_lower.specs.Statements.{Exits, falls_of, Part, straight, target_of, of_assign, of_store, of_copy, of_fill, of_return, of_plain_return}
-use Rattle.qs_lower.proofs.SizeLaws.{both, one_more, code_length}
-use Rattle.qs_lower.proofs.ThreadLaws.{IsPlain}
-use Rattle.qs_lower.proofs.JumpLaws.{Leads}
-use Rattle.qs_lower.proofs.RealisationLaws.{Model, Comes, BoundedBy, moves, real_comes, comes_alike, comes_less, Act, Stack, HasAt, has_left, has_right, KeptBut, kept_all, kept_then, Real, real_less, real_fault, real_given, CallsReal, moment, IsCode, Agree, free, Goes}
-use Rattle.qs_lower.proofs.ValueReal as value_real
-use Rattle.qs_lower.proofs.ExprReal as expr
+use Rattle.qs_lower_expressions.proofs.SizeLaws.{both, one_more, code_length}
+use Rattle.qs_lower_expressions.proofs.ThreadLaws.{IsPlain}
+use Rattle.qs_lower_expressions.proofs.JumpLaws.{Leads}
+use Rattle.qs_lower_expressions.proofs.RealisationLaws.{Model, Comes, BoundedBy, moves, real_comes, comes_alike, comes_less, Act, Stack, HasAt, has_left, has_right, KeptBut, kept_all, kept_then, Real, real_less, real_fault, real_given, CallsReal, moment, IsCode, Agree, free, Goes}
+use Rattle.qs_lower_expressions.proofs.ValueReal as value_real
+use Rattle.qs_lower_expressions.proofs.ExprReal as expr
 
 pub given_none : {A : Type 0} (o : Option A) (g : A → RootRun) → o ≡ None → given o g ≡ undefined
 given_none o g h = ap (λ p. given p g) h

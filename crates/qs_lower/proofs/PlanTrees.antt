@@ -9,12 +9,12 @@ use Rattle.qs_core.specs.TreeOf as core
 use Rattle.qs_core.specs.TreeOf.{core_stmt, core_stmts}
 use Rattle.qs_core.specs.declared.statements.CoreStmt.{CoreStmt, CoreStmt-F, fold-roll-CoreStmt}
 use Rattle.qs_core.specs.declared.statements.CoreStmt.TheVariants as stmts
-use Rattle.qs_lower.specs.Expressions.{ExprCode}
-use Rattle.qs_lower.specs.Plans.{expr_code}
+use Rattle.qs_lower_expressions.specs.Expressions.{ExprCode}
+use Rattle.qs_lower_expressions.specs.Plans.{expr_code}
 use Rattle.qs_lower.specs.Statements.{StmtCode, of_return}
 use Rattle.qs_lower.specs.StmtPlans.{stmt_step, branch_step, loop_step, tested_step, stmt_part, joined_before, redirected_to, test_at_end, tested_of}
 use Rattle.qs_lower.specs.Ways.{way_tree}
-use Rattle.qs_lower.specs.declared.plans.ExprPlan.{ExprPlan}
+use Rattle.qs_lower_expressions.specs.declared.plans.ExprPlan.{ExprPlan}
 use Rattle.qs_lower.specs.declared.ways.Way.{Way}
 use Rattle.qs_lower.proofs.JoinedLaws.{joined_test, joined_has_test}
 use Rattle.qs_lower.specs.declared.stmt_plans.StmtPlan.{StmtPlan, StmtPlan-F, fold-roll-StmtPlan}

@@ -19,8 +19,8 @@ use Rattle.qs_core.specs.Statements.{Context}
 use Rattle.qs_core.specs.Fits.{expr_fits, exprs_fit, pointer_fits, call_fits, destination_fits, stmt_fits, stmts_fit, place_fits, parameter_fits, parameters_fit}
 use Rattle.qs_core.proofs.FitLaws.{both}
 use Rattle.qs_tac.specs.Trees.{InstructionTree}
-use Rattle.qs_lower.proofs.RealisationLaws.{Model, Stack, CallsReal, IsCode}
-use Rattle.qs_lower.proofs.ExprReal as expr
+use Rattle.qs_lower_expressions.proofs.RealisationLaws.{Model, Stack, CallsReal, IsCode}
+use Rattle.qs_lower_expressions.proofs.ExprReal as expr
 use Rattle.qs_lower.proofs.PlainReal as plain
 use Rattle.qs_lower.proofs.CallReal as calls
 use Rattle.qs_lower.proofs.UnitReal as unit

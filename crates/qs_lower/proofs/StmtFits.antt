@@ -20,11 +20,11 @@ use Rattle.qs_core.proofs.FitLaws.{both}
 use Rattle.qs_tac.specs.Trees.{store, copy, fill, call, jump, return, TacFunctionTree, TacUnitTree}
 use Rattle.qs_tac.specs.Fits as tac
 use Rattle.qs_tac.specs.Fits.{is_word}
-use Rattle.qs_lower.specs.Exits.{Exit, falls, goes, is_fall, settled}
-use Rattle.qs_lower.specs.Expressions.{ExprCode, code_of, operand_of, address_at, lowered, all_code, all_operands}
+use Rattle.qs_lower_expressions.specs.Exits.{Exit, falls, goes, is_fall, settled}
+use Rattle.qs_lower_expressions.specs.Expressions.{ExprCode, code_of, operand_of, address_at, lowered, all_code, all_operands}
 use Rattle.qs_lower.specs.Statements.{Exits, next_falls, to_next, to_break, to_continue, Part, Tested, StmtCode, target_of, taken_by, of_store, of_copy, of_fill, of_return, of_plain_return, Way, of_before, of_ways, of_branch, is_next, body_falls, body_exits, front_exits, step_exits, test_last, last_falls, last_exits, body_first, body_alone, plain_loop, loop_part, of_loop, stmt_code, stmts_code}
 use Rattle.qs_lower.proofs.PresenceLaws.{variable_there, temporary_there}
-use Rattle.qs_lower.proofs.ExprFits.{together, below, Fit, fit_cons, fit_one, fit_both, Lands, Behind, lands_behind, lands_at, settled_lands, test_starts, ExprFits, code_of_fits, operand_of_fits, address_at_fits}
+use Rattle.qs_lower_expressions.proofs.ExprFits.{together, below, Fit, fit_cons, fit_one, fit_both, Lands, Behind, lands_behind, lands_at, settled_lands, test_starts, ExprFits, code_of_fits, operand_of_fits, address_at_fits}
 use Rattle.qs_lower.proofs.OperandFits.{small_word, Has, lowered_fits, pointer_lowered, arguments_fit, argument_operands, argument_count}
 use Rattle.qs_lower.proofs.PartFits.{taken, AllFollow, AllReach, Follows, Reaches, PartFits, TestedFits, OptionFits, Fits, follows, follows_settled, reaches, reaches_settled, reach_follows, by_way_fits, straight_fits, both_fits, branch_fits}
 

@@ -11,11 +11,11 @@ use Rattle.qs_core.specs.Trees.{CoreExprTree, CoreFunctionTree}
 use Rattle.qs_core.specs.Expressions.{Locals, value}
 use Rattle.qs_core.specs.Statements.{Continuation, Continuations, Context, repeated, after_step, after_body}
 use Rattle.qs_tac.specs.Trees.{InstructionTree}
-use Rattle.qs_lower.specs.Expressions.{ExprCode}
+use Rattle.qs_lower_expressions.specs.Expressions.{ExprCode}
 use Rattle.qs_lower.specs.Statements.{Part, Way, to_next, to_break, to_continue, Tested, StmtCode, straight, leaves, is_break, by_way, tested_behind, of_joined, of_before, of_ways, of_both, test_of, is_next, of_test, of_branch, body_alone, body_first, test_last, loop_part, of_loop}
 use Rattle.qs_lower.proofs.StmtSizeLaws.{PartSized, OptionSized, StmtSized, going_sized, joined_sized, redirected_sized, branch_sized, loop_sized}
-use Rattle.qs_lower.proofs.RealisationLaws.{Model, Stack, CallsReal, IsCode, Agree, free}
-use Rattle.qs_lower.proofs.ExprReal as expr
+use Rattle.qs_lower_expressions.proofs.RealisationLaws.{Model, Stack, CallsReal, IsCode, Agree, free}
+use Rattle.qs_lower_expressions.proofs.ExprReal as expr
 use Rattle.qs_lower.proofs.PlainReal as plain
 use Rattle.qs_lower.proofs.FlowReal as flow
 

@@ -5,9 +5,9 @@ use Rattle.qs_memory.specs.declared.scalar.Scalar.{Scalar}
 use Rattle.qs_core.specs.Trees as core
 use Rattle.qs_core.specs.Trees.{CoreStmtTree, CoreStmts, no_stmts, stmt_and}
 use Rattle.qs_tac.specs.Trees.{InstructionTree, jump}
-use Rattle.qs_lower.specs.Expressions.{ExprCode, size_of, lowered}
+use Rattle.qs_lower_expressions.specs.Expressions.{ExprCode, size_of, lowered}
 use Rattle.qs_lower.specs.Statements.{Exits, falls_of, next_falls, none_falls, body_falls, Way, to_next, to_break, to_continue, Part, Tested, StmtCode, going, joined, redirected, straight, target_of, of_store, of_copy, tested_behind, of_joined, of_before, of_ways, branch_part, test_of, is_next, of_branch, test_last, body_first, body_alone, plain_loop, loop_part, stmt_code, stmts_code}
-use Rattle.qs_lower.proofs.SizeLaws.{both, one_more, cons, exit_length, Sized, code_length, sized, all_length}
+use Rattle.qs_lower_expressions.proofs.SizeLaws.{both, one_more, cons, exit_length, Sized, code_length, sized, all_length}
 
 abbrev pub PartSized : Part → Type 0
 PartSized p = (x : Exits) (at : ℕ) → length (p.code x at) ≡ p.size (falls_of x)

@@ -15,11 +15,11 @@ use Rattle.qs_core.proofs.FitLaws.{both}
 use Rattle.qs_tac.specs.Trees.{InstructionTree, store, copy, fill, call, jump, return, TacFunctionTree}
 use Rattle.qs_tac.specs.Sizes as sizes
 use Rattle.qs_tac.specs.Sizes.{is_near, callee_words}
-use Rattle.qs_lower.specs.Exits.{Exit, falls, goes, settled, exit_code}
-use Rattle.qs_lower.specs.Expressions.{ExprCode, code_of, operand_of, address_at, lowered, all_code, all_operands}
+use Rattle.qs_lower_expressions.specs.Exits.{Exit, falls, goes, settled, exit_code}
+use Rattle.qs_lower_expressions.specs.Expressions.{ExprCode, code_of, operand_of, address_at, lowered, all_code, all_operands}
 use Rattle.qs_lower.specs.Statements.{Exits, next_falls, none_falls, before, elsewhere, body_falls, body_exits, front_exits, step_exits, last_exits, Way, to_next, to_break, to_continue, exit_to, Part, Tested, StmtCode, joined, redirected, straight, by_way, target_of, taken_by, of_store, of_copy, of_fill, of_call, of_return, of_plain_return, tested_behind, of_before, of_ways, branch_part, test_of, is_next, of_branch, test_last, body_first, body_alone, loop_part, stmt_code, stmts_code}
 use Rattle.qs_lower.proofs.CoreWords.{tested_words}
-use Rattle.qs_lower.proofs.ExprWords.{jumps, code_words, words_both, words_cons, words_last, slot_small, exit_small}
+use Rattle.qs_lower_expressions.proofs.ExprWords.{jumps, code_words, words_both, words_cons, words_last, slot_small, exit_small}
 use Rattle.qs_lower.proofs.LoweredWords.{Good, expr_words, arguments_words}
 
 -- a jump to what is next, where it doesn't fall

@@ -23,14 +23,14 @@ use Rattle.qs_tac.specs.Trees.{InstructionTree, move, unary, binary, convert, ad
 use Rattle.qs_tac.specs.Trees.{copy, fill, call, jump, branch, return, TacFunctionTree, TacUnitTree}
 use Rattle.qs_tac.specs.Fits.{is_word, takes, callee_fits, condition_fits, instruction_fits, parameter_fits, function_fits, data_fits, unit_fits}
 use Rattle.qs_tac.specs.declared.operands.Operand.{Operand}
-use Rattle.qs_lower.specs.Exits.{falls, goes}
+use Rattle.qs_lower_expressions.specs.Exits.{falls, goes}
 use Rattle.qs_lower.specs.Statements.{Exits, next_falls}
-use Rattle.qs_lower.specs.Threads.{leads_to, onward_from, follow, retargeted, threaded, threaded_function}
+use Rattle.qs_lower_expressions.specs.Threads.{leads_to, onward_from, follow, retargeted, threaded, threaded_function}
 use Rattle.qs_lower.specs.Units.{free_from, body_code, end_code, function_code, straight_function, lower_data, lower_unit}
 use Rattle.qs_lower.specs.Laws.{LoweredFits}
 use Rattle.qs_lower.specs.WordLaws.{lowered_function}
 use Rattle.qs_lower.proofs.StmtSizeLaws.{stmts_sized}
-use Rattle.qs_lower.proofs.ExprFits.{together, below, Fit, fit_cons, fit_one, fit_both}
+use Rattle.qs_lower_expressions.proofs.ExprFits.{together, below, Fit, fit_cons, fit_one, fit_both}
 use Rattle.qs_lower.proofs.OperandFits.{small_word, Has}
 use Rattle.qs_lower.proofs.PartFits.{Reaches, PartFits, taken}
 use Rattle.qs_lower.proofs.StmtFits.{stmts_fit_all, stmts_break}

@@ -13,15 +13,15 @@ use Rattle.qs_core.proofs.RelationLaws as laws
 use Rattle.qs_tac.specs.Trees.{InstructionTree, return}
 use Rattle.qs_tac.specs.Holders.{temporaries}
 use Rattle.qs_tac.specs.Steps.{ends, step, steps}
-use Rattle.qs_lower.specs.Exits.{falls, goes}
-use Rattle.qs_lower.specs.Expressions.{lowered}
+use Rattle.qs_lower_expressions.specs.Exits.{falls, goes}
+use Rattle.qs_lower_expressions.specs.Expressions.{lowered}
 use Rattle.qs_lower.specs.Statements.{Exits, StmtCode, next_falls, to_next, to_break, to_continue, stmt_code, stmts_code}
 use Rattle.qs_lower.specs.Statements as lower
 use Rattle.qs_lower.specs.Units.{free_from, body_code, end_code, function_code}
 use Rattle.qs_lower.proofs.StmtSizeLaws.{StmtSized, stmt_sized, stmts_sized}
-use Rattle.qs_lower.proofs.RealisationLaws.{Model, moves, real_comes, comes_alike, comes_less, Stack, HasAt, real_fault, CallsReal, moment, IsCode, free}
-use Rattle.qs_lower.proofs.ValueReal as value_real
-use Rattle.qs_lower.proofs.ExprReal as expr
+use Rattle.qs_lower_expressions.proofs.RealisationLaws.{Model, moves, real_comes, comes_alike, comes_less, Stack, HasAt, real_fault, CallsReal, moment, IsCode, free}
+use Rattle.qs_lower_expressions.proofs.ValueReal as value_real
+use Rattle.qs_lower_expressions.proofs.ExprReal as expr
 use Rattle.qs_lower.proofs.PlainReal as plain
 use Rattle.qs_lower.proofs.FlowReal as flow
 use Rattle.qs_lower.proofs.StmtReal as stmt

@@ -17,13 +17,13 @@ use Rattle.qs_tac.specs.Trees.{InstructionTree, move, unary, binary, convert, ad
 use Rattle.qs_tac.specs.Trees.{copy, fill, call, jump, branch, return, TacFunctionTree}
 use Rattle.qs_tac.specs.Sizes as sizes
 use Rattle.qs_tac.specs.Sizes.{is_near, parameter_words, instruction_words, near_values}
-use Rattle.qs_lower.specs.Exits.{falls, goes}
+use Rattle.qs_lower_expressions.specs.Exits.{falls, goes}
 use Rattle.qs_lower.specs.Statements.{Exits, next_falls}
-use Rattle.qs_lower.specs.Threads.{follow, retargeted, threaded_function}
+use Rattle.qs_lower_expressions.specs.Threads.{follow, retargeted, threaded_function}
 use Rattle.qs_lower.specs.Units.{free_from, body_code, end_code, function_code, straight_function}
 use Rattle.qs_lower.specs.WordLaws.{lowered_function, IsInReach, FewArguments, most_arguments_in, KeepsSizes, UnitKeepsSizes}
 use Rattle.qs_lower.proofs.UnitFits.{function_there}
-use Rattle.qs_lower.proofs.ExprWords.{slot_small, words_both, words_cons}
+use Rattle.qs_lower_expressions.proofs.ExprWords.{slot_small, words_both, words_cons}
 use Rattle.qs_lower.proofs.StmtWords.{all_stmts_words}
 use Rattle.qs_lower.proofs.HeldValues.{stmts_hold}
 use Rattle.qs_lower.proofs.CallArguments.{stmts_few, threaded_few}

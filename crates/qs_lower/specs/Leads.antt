@@ -6,7 +6,7 @@ use Rattle.std.specs.List.{slice_get}
 use Rattle.qs_tac.specs.Trees.{InstructionTree}
 use Rattle.qs_tac.specs.TreeOf.{instruction_tree}
 use Rattle.qs_tac.specs.declared.instruction.Instruction.{Instruction}
-use Rattle.qs_lower.specs.Threads.{leads_to, retargeted, threaded}
+use Rattle.qs_lower_expressions.specs.Threads.{leads_to, retargeted, threaded}
 
 abbrev pub leads_of : List InstructionTree → List (Option ℕ)
 leads_of code = map (λ i. leads_to (Some i)) code

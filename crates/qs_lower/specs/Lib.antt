@@ -1,12 +1,7 @@
-pub mod Exits
-pub mod Operands
-pub mod Expressions
 pub mod Statements
-pub mod Threads
 pub mod Units
 pub mod Laws
 pub mod WordLaws
-pub mod Plans
 pub mod Ways
 pub mod StmtPlans
 pub mod Leads

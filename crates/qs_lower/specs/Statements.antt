@@ -8,8 +8,8 @@ use Rattle.qs_core.specs.Trees.{CoreStmtTree, CoreStmts, no_stmts, stmt_and}
 use Rattle.qs_core.specs.declared.numbers.Target.{Target}
 use Rattle.qs_core.specs.declared.numbers.Target.TheVariants as targets
 use Rattle.qs_tac.specs.Trees.{InstructionTree, store, copy, fill, call, jump, return}
-use Rattle.qs_lower.specs.Exits.{Exit, falls, goes, is_fall, settled, exit_size, exit_code}
-use Rattle.qs_lower.specs.Expressions.{ExprCode, size_of, code_of, operand_of, used_by, address_at, lowered, all_size, all_code, all_operands, all_used}
+use Rattle.qs_lower_expressions.specs.Exits.{Exit, falls, goes, is_fall, settled, exit_size, exit_code}
+use Rattle.qs_lower_expressions.specs.Expressions.{ExprCode, size_of, code_of, operand_of, used_by, address_at, lowered, all_size, all_code, all_operands, all_used}
 
 -- ---- exits
 

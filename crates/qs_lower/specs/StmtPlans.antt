@@ -11,13 +11,13 @@ use Rattle.qs_core.specs.TreeOf.{core_expr}
 use Rattle.qs_core.specs.declared.expressions.CoreExpr.{CoreExpr}
 use Rattle.qs_tac.specs.declared.instruction.Instruction.{Instruction}
 use Rattle.qs_tac.specs.Trees.{InstructionTree}
-use Rattle.qs_lower.specs.Expressions.{ExprCode}
+use Rattle.qs_lower_expressions.specs.Expressions.{ExprCode}
 use Rattle.qs_lower.specs.Statements as spec
 use Rattle.qs_lower.specs.Statements.{Way, StmtCode, to_next, leaves, is_break, redirected, by_way, of_assign, of_store, of_copy, of_fill, of_call, of_return, of_plain_return, of_joined, of_both, of_test, Exits, before, next_falls, test_last, body_first, body_alone, falls_of, of_branch}
-use Rattle.qs_lower.specs.Plans.{expr_code, expr_codes, exit_tree, EmitsAt, Grows}
+use Rattle.qs_lower_expressions.specs.Plans.{expr_code, expr_codes, exit_tree, EmitsAt, Grows}
 use Rattle.qs_lower.specs.Ways.{way_tree, only}
-use Rattle.qs_lower.specs.declared.exits.Exit.{Exit}
-use Rattle.qs_lower.specs.declared.plans.ExprPlan.{ExprPlan}
+use Rattle.qs_lower_expressions.specs.declared.exits.Exit.{Exit}
+use Rattle.qs_lower_expressions.specs.declared.plans.ExprPlan.{ExprPlan}
 use Rattle.qs_lower.specs.declared.stmt_plans.TestedParts.{TestedParts}
 use Rattle.qs_lower.specs.declared.stmt_plans.StmtPlan.{StmtPlan, StmtPlan-F, fold-StmtPlan}
 use Rattle.qs_lower.specs.declared.stmt_plans.BranchPlan.{BranchPlan, BranchPlan-F, fold-BranchPlan}

@@ -12,9 +12,9 @@ use Rattle.qs_tac.specs.TreeOf.{function_trees}
 use Rattle.qs_tac.specs.declared.units.TacFunction.{TacFunction}
 use Rattle.qs_tac.specs.Trees.{InstructionTree, return, TacFunctionTree, TacUnitTree}
 use Rattle.qs_tac.specs.declared.units.TacData.{TacData}
-use Rattle.qs_lower.specs.Exits.{falls, goes}
+use Rattle.qs_lower_expressions.specs.Exits.{falls, goes}
 use Rattle.qs_lower.specs.Statements.{next_falls, StmtCode, stmts_code}
-use Rattle.qs_lower.specs.Threads.{threaded_function, threaded_unit}
+use Rattle.qs_lower_expressions.specs.Threads.{threaded_function, threaded_unit}
 
 -- the first temporary that is neither a variable nor a temporary of core
 abbrev pub free_from : CoreFunctionTree → ℕ

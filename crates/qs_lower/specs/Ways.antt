@@ -1,8 +1,8 @@
 -- What the ways and exits of the program stand for.
 use Rattle.std.specs.Prelude.{Option, Some, None}
-use Rattle.qs_lower.specs.Exits as exits
+use Rattle.qs_lower_expressions.specs.Exits as exits
 use Rattle.qs_lower.specs.Statements as spec
-use Rattle.qs_lower.specs.Plans.{exit_tree}
+use Rattle.qs_lower_expressions.specs.Plans.{exit_tree}
 use Rattle.qs_lower.specs.declared.ways.Way.{Way}
 use Rattle.qs_lower.specs.declared.ways.Way.TheVariants.{Next, Break, Continue}
 use Rattle.qs_lower.specs.declared.ways.Falls.{Falls}

@@ -7,13 +7,13 @@ ghost use Rattle.qs_core.specs.TreeOf.{core_expr, core_exprs, core_stmt, core_st
 ghost use Rattle.qs_lower.specs.Statements as spec;
 ghost use Rattle.qs_lower.specs.StmtPlans.{AreStmtPlansIn, IsStmtPlanIn, IsStmtPlanOf, copy_stmt};
 
-use crate::planning::lowered;
 use crate::stmt_planning::{all_lowered, joined, of_branch, of_loop, taken_by, target_of};
 use crate::stmt_plans::StmtPlan;
 use crate::ways::Way;
 use qs_base::NoMemory;
 use qs_calls::Callee;
 use qs_core::{CoreExpr, CoreStmt, Target};
+use qs_lower_expressions::lowered;
 use qs_memory::{Blank, Scalar};
 use std::alloc::Global;
 

@@ -2,13 +2,12 @@
 ghost use Rattle.std.specs.Prelude.{◌≡◌, IfOk, OnOk};
 ghost use Rattle.qs_core.specs.TreeOf as core;
 ghost use Rattle.qs_tac.specs.TreeOf.{function_tree};
-ghost use Rattle.qs_lower.specs.Plans.{Emits, HasCode};
+ghost use Rattle.qs_lower_expressions.specs.Plans.{Emits, HasCode};
 ghost use Rattle.qs_lower.specs.StmtPlans.{stmt_part};
 ghost use Rattle.qs_lower.specs.Units as spec;
 ghost use Rattle.qs_lower.specs.Units.{lowered_function};
 
 use crate::bodies::body_plan;
-use crate::exits::{Exit, put};
 use crate::stmt_emission::emit_stmt;
 use crate::stmt_plans::StmtPlan;
 use crate::stmt_scratch::stmt_used;
@@ -18,6 +17,7 @@ use crate::ways::{Exits, next_falls};
 use qs_base::{NoMemory, count, sum};
 use qs_calls::Parameter;
 use qs_core::{CoreFunction, CoreParameter};
+use qs_lower_expressions::{Exit, put};
 use qs_tac::{Instruction, TacFunction};
 use std::alloc::Global;
 

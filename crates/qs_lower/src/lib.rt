@@ -1,18 +1,10 @@
 //! From core to linear code: what each form becomes, and that it does what it did.
 #![tactic(auto)]
 
-mod addresses;
 mod bodies;
 mod data;
-mod emission;
-mod exits;
 mod functions;
 mod laws;
-mod operands;
-mod planning;
-mod plans;
-mod scratch;
-mod sizes;
 mod stmt_emission;
 mod stmt_planning;
 mod stmt_plans;
@@ -20,7 +12,6 @@ mod stmt_scratch;
 mod stmt_sizes;
 mod threads;
 mod unit;
-mod values;
 mod ways;
 
 pub use data::blank_size;

@@ -1,20 +1,14 @@
 // The code of statements.
 ghost use Rattle.std.specs.Prelude.{◌≡◌, ◌+◌, ◌++◌, None, OnOk};
-ghost use Rattle.qs_lower.specs.Expressions as spec;
-ghost use Rattle.qs_lower.specs.Plans.{EmitsAt, Grows, expr_codes};
+ghost use Rattle.qs_lower_expressions.specs.Expressions as spec;
+ghost use Rattle.qs_lower_expressions.specs.Plans.{EmitsAt, Grows, expr_codes};
 ghost use Rattle.qs_lower.specs.StmtPlans.{stmt_part, branch_part, loop_part, tested_part};
 ghost use Rattle.qs_lower.specs.StmtPlans.{EmitsBefore, EmitsCopy, EmitsPart, EmitsTo, GrowsByCopy};
 ghost use Rattle.qs_lower.specs.StmtPlans.{GrowsByPart, GrowsTo, call_code, fill_code};
 ghost use Rattle.qs_lower.specs.StmtPlans.{sizes_before, stmt_parts, store_code};
 ghost use Rattle.qs_lower.specs.Ways.{exits_tree};
-ghost use Rattle.qs_lower.specs.Expressions.{all_operands};
+ghost use Rattle.qs_lower_expressions.specs.Expressions.{all_operands};
 
-use crate::addresses::{address_at, operand_of};
-use crate::emission::{emit_base, emit_into, emit_operand, emit_test};
-use crate::exits::{Exit, emit_exit, place, put};
-use crate::plans::ExprPlan;
-use crate::scratch::{base_own, own};
-use crate::sizes::test_size;
 use crate::stmt_plans::{BranchPlan, LoopPlan, StmtPlan, TestedPlan};
 use crate::stmt_sizes::{entry, entry_before, stmt_size};
 use crate::ways::{
@@ -22,6 +16,10 @@ use crate::ways::{
 };
 use qs_base::{NoMemory, sum};
 use qs_calls::Callee;
+use qs_lower_expressions::{
+    Exit, ExprPlan, address_at, base_own, emit_base, emit_exit, emit_into, emit_operand, emit_test,
+    operand_of, own, place, put, test_size,
+};
 use qs_memory::{Blank, Scalar};
 use qs_tac::{Instruction, Operand};
 use std::alloc::Global;

@@ -1,19 +1,18 @@
 // Planning the code of statements: each form of core becomes what the definition of its code says.
 ghost use Rattle.std.specs.Prelude.{◌≡◌, IfOk, IsSome};
 ghost use Rattle.qs_core.specs.TreeOf.{core_exprs};
-ghost use Rattle.qs_lower.specs.Plans.{ArePlansIn};
+ghost use Rattle.qs_lower_expressions.specs.Plans.{ArePlansIn};
 ghost use Rattle.qs_lower.specs.Statements as spec;
 ghost use Rattle.qs_lower.specs.StmtPlans.{stmt_part, all_before, all_joined, IsStmtPlanOf};
 ghost use Rattle.qs_lower.specs.StmtPlans.{branch_plans, joined_plans, loop_at_end, loop_of};
 ghost use Rattle.qs_lower.specs.StmtPlans.{stmt_parts, test_at_end};
 
-use crate::planning::lowered;
-use crate::plans::ExprPlan;
 use crate::stmt_plans::{BranchPlan, LoopPlan, StmtPlan, TestedParts, TestedPlan};
 use crate::stmt_scratch::stmt_used;
 use crate::ways::{Way, is_next};
 use qs_base::{NoMemory, sum};
 use qs_core::{CoreExpr, Target};
+use qs_lower_expressions::{ExprPlan, lowered};
 use std::alloc::Global;
 
 // ---- several statements

@@ -5,10 +5,10 @@ ghost use Rattle.qs_lower.specs.StmtPlans.{stmt_parts, test_at_end, tested_parts
 ghost use Rattle.qs_lower.specs.Ways.{option_way, way_tree};
 ghost use Rattle.qs_lower.specs.Statements.{is_break, leaves};
 
-use crate::plans::ExprPlan;
 use crate::ways::{Way, is_next};
 use qs_base::NoMemory;
 use qs_calls::Callee;
+use qs_lower_expressions::ExprPlan;
 use qs_memory::{Blank, Scalar};
 use std::alloc::Global;
 

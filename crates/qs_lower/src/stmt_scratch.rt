@@ -1,13 +1,12 @@
 // How many temporaries the code of a statement takes besides those of the function.
 ghost use Rattle.std.specs.Prelude.{◌≡◌, IfOk};
-ghost use Rattle.qs_lower.specs.Expressions as spec;
-ghost use Rattle.qs_lower.specs.Plans.{expr_codes};
+ghost use Rattle.qs_lower_expressions.specs.Expressions as spec;
+ghost use Rattle.qs_lower_expressions.specs.Plans.{expr_codes};
 ghost use Rattle.qs_lower.specs.StmtPlans.{stmt_part, most_used, stmt_parts};
 
-use crate::plans::ExprPlan;
-use crate::scratch::{base_own, base_used, own, test_used, used, used_by};
 use crate::stmt_plans::StmtPlan;
 use qs_base::{NoMemory, sum};
+use qs_lower_expressions::{ExprPlan, base_own, base_used, own, test_used, used, used_by};
 
 // For all of them, one behind the other.
 fn all_used(es: &[ExprPlan]) -> Result<u32, NoMemory>

@@ -1,18 +1,16 @@
 // How many instructions the code of a statement has, and where jumps to it go.
 ghost use Rattle.std.specs.Prelude.{◌≡◌, ◌+◌, IfOk};
-ghost use Rattle.qs_lower.specs.Expressions as spec;
-ghost use Rattle.qs_lower.specs.Plans.{expr_code, expr_codes};
+ghost use Rattle.qs_lower_expressions.specs.Expressions as spec;
+ghost use Rattle.qs_lower_expressions.specs.Plans.{expr_code, expr_codes};
 ghost use Rattle.qs_lower.specs.StmtPlans.{stmt_part, branch_part, loop_part, tested_part};
 ghost use Rattle.qs_lower.specs.StmtPlans.{joined_plans, sizes_before, stmt_parts};
 ghost use Rattle.qs_lower.specs.Ways.{falls_tree};
-ghost use Rattle.qs_lower.specs.Expressions.{size_of};
+ghost use Rattle.qs_lower_expressions.specs.Expressions.{size_of};
 
-use crate::exits::exit_size;
-use crate::plans::ExprPlan;
-use crate::sizes::{base_size, size, size_of, test_size};
 use crate::stmt_plans::{BranchPlan, LoopPlan, StmtPlan, TestedPlan};
 use crate::ways::{Falls, body_falls, last_falls, next_falls, none_falls};
 use qs_base::{NoMemory, sum};
+use qs_lower_expressions::{ExprPlan, base_size, exit_size, size, size_of, test_size};
 
 // Of all of them, one behind the other.
 fn all_size(es: &[ExprPlan]) -> Result<u32, NoMemory>

@@ -4,7 +4,7 @@ ghost use Rattle.std.specs.List.{slice_get};
 ghost use Rattle.qs_tac.specs.TreeOf.{instruction_tree};
 ghost use Rattle.qs_lower.specs.Leads.{leads_of, lead_in, follow_leads, IsThreaded, followed};
 ghost use Rattle.qs_lower.specs.Leads.{instruction_trees};
-ghost use Rattle.qs_lower.specs.Threads as spec;
+ghost use Rattle.qs_lower_expressions.specs.Threads as spec;
 
 use qs_base::NoMemory;
 use qs_tac::Instruction;

@@ -1,10 +1,10 @@
 // Where statements go on.
 ghost use Rattle.std.specs.Prelude.{◌≡◌};
 ghost use Rattle.qs_lower.specs.Statements as statements;
-ghost use Rattle.qs_lower.specs.Plans.{exit_tree};
+ghost use Rattle.qs_lower_expressions.specs.Plans.{exit_tree};
 ghost use Rattle.qs_lower.specs.Ways.{way_tree, option_way, falls_tree, exits_tree};
 
-use crate::exits::Exit;
+use qs_lower_expressions::Exit;
 
 /// Where a statement goes that does nothing else.
 #[derive(Clone, Copy, PartialEq, Eq, Debug)]

@@ -5,7 +5,8 @@ use Rattle.qs_syntax.specs.declared.nodes.Node.{Node}
 use Rattle.qs_syntax.specs.Trees.{ExprTree, expr, ShapeTree, Exprs, no_exprs, expr_and, DeclaratorTree, InitialiserTree, value, list, no_initialisers, initialiser_and, VariableTree, MembersTree, StartTree, no_start, start_expression, start_declaration, StmtTree, empty, expression, declaration, block, branch, while_loop, do_loop, for_loop, break, continue, return, Stmts, no_stmts, stmt_and, Else, no_else, else_by, DeclTree, structure, forward, function, variables, UnitTree}
 use Rattle.qs_syntax.specs.Trees as trees
 use Rattle.qs_syntax.specs.Nodes.{unit_nodes}
-use Rattle.qs_syntax.specs.Units.{is_byte, IsRead}
+use Rattle.qs_syntax.specs.Units.{IsRead}
+use Rattle.qs_vocabulary.specs.WellFormed.{is_byte}
 use Rattle.qs_types.specs.Placed.{is_one_of}
 use Rattle.qs_types.specs.Sites.{Site, unit_sites}
 use Rattle.qs_types.specs.Limits.{IsWithinLimits}

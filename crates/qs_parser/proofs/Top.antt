@@ -4,11 +4,12 @@ use Rattle.std.specs.Prelude.{take, drop, Result}
 use Rattle.std.proofs.lemmas.Bool.{cases_order, cases_lt}
 use Rattle.std.proofs.lemmas.List.{take_at}
 use Rattle.std.specs.List.{list_all}
-use Rattle.qs_syntax.specs.declared.terminal.Terminal.{Terminal}
+use Rattle.qs_vocabulary.specs.declared.terminal.Terminal.{Terminal}
 use Rattle.qs_syntax.specs.Trees.{DeclTree}
 use Rattle.qs_syntax.specs.Numbering.{numbered_unit}
 use Rattle.qs_syntax.specs.Nodes.{unit_count}
-use Rattle.qs_syntax.specs.Units.{IsRead, is_well_formed}
+use Rattle.qs_syntax.specs.Units.{IsRead}
+use Rattle.qs_vocabulary.specs.WellFormed.{is_well_formed}
 use Rattle.qs_syntax.specs.ReadsUnits.{ReadsUnit}
 use Rattle.qs_syntax.specs.declared.unit.Unit as unit_type
 use Rattle.qs_syntax.specs.UnitTrees.{unit_tree}

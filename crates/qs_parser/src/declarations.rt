@@ -13,21 +13,20 @@ ghost use Rattle.qs_grammar.specs.ParseDeclarations.{declaration, declaration_wi
 ghost use Rattle.qs_grammar.specs.ParseDeclarations.{members, groups, with_name, is_void_alone};
 ghost use Rattle.qs_grammar.specs.ParseDeclarations.{without_first, parameter, parameters};
 ghost use Rattle.qs_grammar.specs.ParseDeclarations.{is_void_head, head};
-ghost use Rattle.qs_parser.specs.View.{Reads, ReadsList, ReadsParameter, listed};
-ghost use Rattle.qs_parser.specs.Readers.{lengths_of, initialisers, initialised, bracketed};
+ghost use Rattle.qs_parser_expressions.specs.View.{Reads, ReadsList, listed};
+ghost use Rattle.qs_parser.specs.UnitView.{ReadsParameter};
+ghost use Rattle.qs_parser.specs.UnitReaders.{lengths_of, initialisers, initialised, bracketed};
 
-use crate::context::Context;
-use crate::expressions::{Form, followed, part};
-use crate::halt::Halt;
-use crate::heads::{
-    begins_one, expect, expect_name, is_keyword, is_punctuator, place, starts, strip,
-};
-use crate::types::{stars, type_of};
 use qs_base::Name;
-use qs_syntax::{
-    Base, Declaration, Declarator, Expr, Initialiser, InitialiserList, Keyword, Lengths, Members,
-    Node, Parameter, Punctuator, Terminal, TypeName, Variable,
+use qs_parser_expressions::{
+    Context, Form, Halt, begins_one, expect, expect_name, followed, is_keyword, is_punctuator,
+    part, place, stars, starts, strip, type_of,
 };
+use qs_syntax::{
+    Base, Declaration, Declarator, Expr, Initialiser, InitialiserList, Lengths, Members, Node,
+    Parameter, TypeName, Variable,
+};
+use qs_vocabulary::{Keyword, Punctuator, Terminal};
 
 /// The lengths in brackets, none of them empty (C11 6.7.6.2).
 #[tactic(auto, using(crate::proofs::CodeDeclarations::length_steps))]

@@ -2,18 +2,12 @@
 //! height at most 128.
 #![tactic(auto)]
 
-mod context;
 mod declarations;
-mod expressions;
-mod halt;
-mod heads;
 mod laws;
-mod nodes;
 mod parse;
 mod statement_nodes;
 mod statements;
 mod syntax_fault;
-mod types;
 mod units;
 
 pub use laws::{faults_are_unique, one_reading};

@@ -1,16 +1,17 @@
 // From tokens to a unit.
 ghost use Rattle.std.specs.Prelude.{◌≡◌, ◌+◌, ◌≤◌, ◌<◌, ◌^◌, true, length};
 ghost use Rattle.std.specs.List.{list_all};
-ghost use Rattle.qs_syntax.specs.Units.{is_well_formed};
+ghost use Rattle.qs_vocabulary.specs.WellFormed.{is_well_formed};
 ghost use Rattle.qs_lexer.specs.Tokens.{Tokens};
 ghost use Rattle.qs_lexer.specs.Terminals.{terminals};
 ghost use Rattle.qs_parser.specs.Answers.{Answers, IsDecision};
 
-use crate::halt::Halt;
 use crate::syntax_fault::SyntaxFault;
 use crate::units::read_unit;
 use qs_lexer::terminals;
-use qs_syntax::{Terminal, Token, Unit, numbered};
+use qs_parser_expressions::Halt;
+use qs_syntax::{Unit, numbered};
+use qs_vocabulary::{Terminal, Token};
 use std::alloc::Global;
 
 /// The number of the token at which this many are left of these.

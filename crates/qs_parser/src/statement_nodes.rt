@@ -3,8 +3,8 @@ ghost use Rattle.std.specs.Prelude.{◌≡◌};
 ghost use Rattle.qs_syntax.specs.Trees as trees;
 ghost use Rattle.qs_syntax.specs.Trees.{stmts_of, unnumbered};
 ghost use Rattle.qs_syntax.specs.TreeOf.{expr_tree, option_tree, stmt_tree};
-ghost use Rattle.qs_parser.specs.View.{listed};
-ghost use Rattle.qs_parser.specs.Nodes.{branch_tree, while_tree, do_tree, for_tree};
+ghost use Rattle.qs_parser_expressions.specs.View.{listed};
+ghost use Rattle.qs_parser.specs.StatementNodes.{branch_tree, while_tree, do_tree, for_tree};
 
 use qs_syntax::{Expr, Node, Start, Stmt};
 

@@ -7,20 +7,20 @@ ghost use Rattle.qs_grammar.specs.ParseStatements.{optional, condition, start_of
 ghost use Rattle.qs_grammar.specs.ParseStatements.{item, items, in_block, otherwise, after_if};
 ghost use Rattle.qs_grammar.specs.ParseStatements.{after_while, expect_while, after_do, after_for};
 ghost use Rattle.qs_grammar.specs.ParseStatements.{after_return, running, statement_at, statement};
-ghost use Rattle.qs_parser.specs.View.{Gives, Reads, ReadsList, boxed_stmt, second_tree, rest_of};
-ghost use Rattle.qs_parser.specs.Heads.{is_nesting};
-ghost use Rattle.qs_parser.specs.Readers.{with_statements, plain_statement, keyword_statement};
+ghost use Rattle.qs_parser_expressions.specs.View.{Gives, Reads, ReadsList, rest_of};
+ghost use Rattle.qs_parser.specs.UnitView.{boxed_stmt, second_tree};
+ghost use Rattle.qs_parser_expressions.specs.Heads.{is_nesting};
+ghost use Rattle.qs_parser.specs.UnitReaders.{with_statements, plain_statement, keyword_statement};
 ghost use Rattle.qs_parser.specs.Turns.{step_tree, turn_tree, step_and_body, turn_of};
 
-use crate::context::Context;
 use crate::declarations::declaration_within;
-use crate::expressions::{Form, followed, part};
-use crate::halt::Halt;
-use crate::heads::{
-    begins_one, begins_type, expect, is_keyword, is_punctuator, place, starts, starts_with, strip,
-};
 use crate::statement_nodes as nodes;
-use qs_syntax::{Expr, Keyword, Punctuator, Start, Stmt, Terminal};
+use qs_parser_expressions::{
+    Context, Form, Halt, begins_one, begins_type, expect, followed, is_keyword, is_punctuator,
+    part, place, starts, starts_with, strip,
+};
+use qs_syntax::{Expr, Start, Stmt};
+use qs_vocabulary::{Keyword, Punctuator, Terminal};
 
 /// An expression, if there is one, and the punctuator behind it.
 fn optional(

@@ -4,20 +4,19 @@ ghost use Rattle.qs_syntax.specs.TreeOf.{body_tree, decl_tree};
 ghost use Rattle.qs_syntax.specs.Units.{height_limit};
 ghost use Rattle.qs_grammar.specs.ParseStatements.{is_named, struct_of, forward_of, function_of};
 ghost use Rattle.qs_grammar.specs.ParseStatements.{typed, external, is_empty, externals, unit};
-ghost use Rattle.qs_parser.specs.View.{Gives, Reads, ReadsList, function_with, unit_of};
-ghost use Rattle.qs_parser.specs.Readers.{body_of, most_levels};
+ghost use Rattle.qs_parser_expressions.specs.View.{Gives, Reads, ReadsList};
+ghost use Rattle.qs_parser.specs.UnitView.{function_with, unit_of};
+ghost use Rattle.qs_parser_expressions.specs.Readers.{most_levels};
+ghost use Rattle.qs_parser.specs.UnitReaders.{body_of};
 
-use crate::context::Context;
 use crate::declarations::{declared, groups, head};
-use crate::halt::Halt;
-use crate::heads::{expect, expect_name, is_keyword, place, starts, strip};
 use crate::statements::items;
-use crate::types::{outer_type, stars};
 use qs_base::Name;
-use qs_syntax::{
-    Base, Decl, Forward, Function, Keyword, Node, Parameter, Punctuator, Stmt, Struct, Terminal,
-    TypeName,
+use qs_parser_expressions::{
+    Context, Halt, expect, expect_name, is_keyword, outer_type, place, stars, starts, strip,
 };
+use qs_syntax::{Base, Decl, Forward, Function, Node, Parameter, Stmt, Struct, TypeName};
+use qs_vocabulary::{Keyword, Punctuator, Terminal};
 use std::alloc::Global;
 
 /// The height to which the parts of a function's body are read: with it the unit is at most 128

@@ -18,9 +18,9 @@ use crate::types::{put_base, put_stars};
 use crate::words::{put_comma_unless, put_keyword, put_name, put_punctuator};
 use qs_base::{Name, NoMemory};
 use qs_syntax::{
-    Base, Declaration, Declarator, Expr, Initialiser, Keyword, Lengths, Members, Parameter,
-    Punctuator, Variable,
+    Base, Declaration, Declarator, Expr, Initialiser, Lengths, Members, Parameter, Variable,
 };
+use qs_vocabulary::{Keyword, Punctuator};
 
 fn put_length(out: &mut Vec<u8>, e: &Expr) -> Result<(), NoMemory>
     ensures { OnOk result (Puts out.old (printed_length (expr_tree e.now)) out.new) }

@@ -3,9 +3,9 @@ ghost use Rattle.std.specs.Prelude.{◌≡◌};
 ghost use Rattle.qs_print.specs.Levels.{level, shape_level, step_level};
 ghost use Rattle.qs_syntax.specs.TreeOf.{expr_tree, shape_tree};
 
-use qs_syntax::{
-    ASSIGNMENT_PRECEDENCE, COMMA_PRECEDENCE, CONDITIONAL_PRECEDENCE, Expr, Shape, StepOperator,
-    WEAKEST,
+use qs_syntax::{Expr, Shape};
+use qs_vocabulary::{
+    ASSIGNMENT_PRECEDENCE, COMMA_PRECEDENCE, CONDITIONAL_PRECEDENCE, StepOperator, WEAKEST,
 };
 
 /// The level of a postfix expression.

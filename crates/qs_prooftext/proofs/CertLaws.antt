@@ -6,8 +6,8 @@ use Rattle.qs_entail.specs.Certificates as certificates
 use Rattle.qs_entail.specs.Certificates.{CertTree, FactTree}
 use Rattle.qs_entail.specs.View.{certs_of}
 use Rattle.qs_sexpr.specs.Trees.{Sexps, part_and, symbol, list, count}
-use Rattle.qs_prooftext.specs.declared.fault.TextFault.{TextFault}
-use Rattle.qs_prooftext.specs.declared.fault.TextFault.TheVariants.{UnknownForm, NoMemory}
+use Rattle.qs_prooftext_meaning.specs.declared.fault.TextFault.{TextFault}
+use Rattle.qs_prooftext_meaning.specs.declared.fault.TextFault.TheVariants.{UnknownForm, NoMemory}
 use Rattle.qs_prooftext.specs.declared.rules.FactWord.{FactWord}
 use Rattle.qs_prooftext.specs.declared.rules.FactWord.TheVariants as facts
 use Rattle.qs_prooftext.specs.declared.rules.Rule.{Rule}
@@ -15,13 +15,13 @@ use Rattle.qs_prooftext.specs.declared.rules.Rule.TheVariants as rules
 use Rattle.qs_prooftext.specs.CertHeads.{HeadTree, arity, cert_shape, head_means, fact_means, planted}
 use Rattle.qs_prooftext.specs.CertHeads as heads
 use Rattle.qs_prooftext.specs.CertRows.{rule_row, fact_row}
-use Rattle.qs_prooftext.specs.Heads.{rule_rows, fact_rows}
+use Rattle.qs_prooftext_meaning.specs.Heads.{rule_rows, fact_rows}
 use Rattle.qs_prooftext.specs.HeadWalks.{HasHead, listed}
-use Rattle.qs_prooftext.specs.Kinds.{Kind, Of, Row, two, three, four, a_term, a_condition, an_assertion, a_certificate, a_range, a_combination, an_index, a_natural, a_name}
-use Rattle.qs_prooftext.specs.Firsts.{first_means, tail}
-use Rattle.qs_prooftext.specs.Meanings.{Answer, means, takes}
+use Rattle.qs_prooftext_meaning.specs.Kinds.{Kind, Of, Row, two, three, four, a_term, a_condition, an_assertion, a_certificate, a_range, a_combination, an_index, a_natural, a_name}
+use Rattle.qs_prooftext_assertions.specs.Firsts.{first_means, tail}
+use Rattle.qs_prooftext_meaning.specs.Meanings.{Answer, means, takes}
 use Rattle.qs_prooftext.specs.RuleWords.{rule_words, fact_words, rule_takes, rule_leaves, fact_leaves}
-use Rattle.qs_prooftext.specs.Settings.{Setting, look_up}
+use Rattle.qs_prooftext_meaning.specs.Settings.{Setting, look_up}
 use Rattle.qs_prooftext.proofs.HeadLaws.{firsts_same, own_all, own_one, own_two}
 use Rattle.qs_prooftext.proofs.ShapeLaws.{is_not_so_many, taken_by, made_arity, head_arity, leaves_and, no_leaves, by_row, by_head, none_row, one_row, two_row, any_row, leaf_row, leaf_one_row, leaf_two_row, leaves_one_row, three_one_row, then_one, then_two, then_three}
 

@@ -8,18 +8,18 @@ use Rattle.qs_sexpr.specs.Trees.{Sexps, part_and, symbol, list, count}
 use Rattle.qs_triples.specs.Derivations as derivations
 use Rattle.qs_triples.specs.Derivations.{DerivationTree}
 use Rattle.qs_triples.specs.TreeOf.{derivations_of}
-use Rattle.qs_prooftext.specs.declared.fault.TextFault.{TextFault}
-use Rattle.qs_prooftext.specs.declared.fault.TextFault.TheVariants.{UnknownForm, NoMemory}
+use Rattle.qs_prooftext_meaning.specs.declared.fault.TextFault.{TextFault}
+use Rattle.qs_prooftext_meaning.specs.declared.fault.TextFault.TheVariants.{UnknownForm, NoMemory}
 use Rattle.qs_prooftext.specs.declared.statements.Statement.{Statement}
 use Rattle.qs_prooftext.specs.declared.statements.Statement.TheVariants as statements
 use Rattle.qs_prooftext.specs.DerivationHeads as heads
 use Rattle.qs_prooftext.specs.DerivationHeads.{HeadTree, arity, derivation_shape, planted, reason_means, statement_means, statement_row}
-use Rattle.qs_prooftext.specs.Firsts.{first_means, tail}
-use Rattle.qs_prooftext.specs.Heads.{derivation_rows}
+use Rattle.qs_prooftext_assertions.specs.Firsts.{first_means, tail}
+use Rattle.qs_prooftext_meaning.specs.Heads.{derivation_rows}
 use Rattle.qs_prooftext.specs.HeadWalks.{HasHead, listed}
-use Rattle.qs_prooftext.specs.Kinds.{Row, a_certificate, a_derivation, an_assertion}
-use Rattle.qs_prooftext.specs.Meanings.{Answer, means, takes}
-use Rattle.qs_prooftext.specs.Settings.{Setting, look_up}
+use Rattle.qs_prooftext_meaning.specs.Kinds.{Row, a_certificate, a_derivation, an_assertion}
+use Rattle.qs_prooftext_meaning.specs.Meanings.{Answer, means, takes}
+use Rattle.qs_prooftext_meaning.specs.Settings.{Setting, look_up}
 use Rattle.qs_prooftext.specs.StatementWords.{statement_words, statement_takes, statement_leaves}
 use Rattle.qs_prooftext.proofs.HeadLaws.{firsts_same, own_all, own_one, own_two}
 use Rattle.qs_prooftext.proofs.ShapeLaws.{taken_by, made_arity, head_arity, leaves_and, no_leaves, by_row, by_head, none_row, two_row, any_row, leaves_row, leaves_one_row, leaves_two_row, pair_means, then_two}

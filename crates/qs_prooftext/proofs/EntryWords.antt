@@ -20,12 +20,12 @@ use Rattle.qs_core.specs.FunctionNames.{function_name}
 use Rattle.qs_sexpr.specs.Writing.{symbol_form}
 use Rattle.qs_triples.specs.Mentions.{has_placed_parameter, plain_variable}
 use Rattle.qs_triples.specs.Valuations.{if_number, number_if}
-use Rattle.qs_prooftext.specs.Settings.{look_up, typed, with_word, variable_words, temporary_words, words_of, old_of, old_variable, in_entry}
-use Rattle.qs_prooftext.specs.Writable.{as_list, is_meant, old_variables}
-use Rattle.qs_prooftext.specs.Writing.{Words, headed, variable_form, word_for}
+use Rattle.qs_prooftext_meaning.specs.Settings.{look_up, typed, with_word, variable_words, temporary_words, words_of, old_of, old_variable, in_entry}
+use Rattle.qs_prooftext_meaning.specs.Writable.{as_list, is_meant, old_variables}
+use Rattle.qs_prooftext_meaning.specs.Writing.{Words, headed, variable_form, word_for}
 use Rattle.qs_prooftext.proofs.RowForms.{Fits, is_old}
 use Rattle.qs_prooftext.proofs.ReadSound.{definition_fits}
-use Rattle.qs_prooftext.proofs.WordLaws.{Rows, variables, some_is}
+use Rattle.qs_prooftext_meaning.proofs.WordLaws.{Rows, variables, some_is}
 
 abbrev of_kind : VarKind → NumberType → Var
 of_kind k t = record { kind = k; number = t }

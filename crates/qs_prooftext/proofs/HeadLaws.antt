@@ -9,20 +9,20 @@ use Rattle.qs_assert.specs.Stacks.{first_or}
 use Rattle.qs_sexpr.specs.Trees.{Sexp, symbol, list, Sexps, no_parts, part_and, count, sexp_nodes, sexps_nodes}
 use Rattle.qs_sexpr.specs.Parts.{Splits}
 use Rattle.qs_sexpr.specs.declared.node.Node.{Node}
-use Rattle.qs_prooftext.specs.declared.fault.TextFault.{TextFault}
-use Rattle.qs_prooftext.specs.declared.fault.TextFault.TheVariants.{NoMemory}
+use Rattle.qs_prooftext_meaning.specs.declared.fault.TextFault.{TextFault}
+use Rattle.qs_prooftext_meaning.specs.declared.fault.TextFault.TheVariants.{NoMemory}
 use Rattle.qs_prooftext.specs.declared.lists.Headed.{Headed}
-use Rattle.qs_prooftext.specs.Answers.{Stands, StandAll, IsList, IsHeaded}
-use Rattle.qs_prooftext.specs.Firsts.{first_means, tail, tails}
+use Rattle.qs_prooftext_assertions.specs.Answers.{Stands, StandAll, IsList, IsHeaded}
+use Rattle.qs_prooftext_assertions.specs.Firsts.{first_means, tail, tails}
 use Rattle.qs_prooftext.specs.HeadWalks.{FirstIs, GivesHead, HasHead, HeadsGo, HeadsLeft, headed_list}
-use Rattle.qs_prooftext.specs.Kinds.{Kind, Of}
-use Rattle.qs_prooftext.specs.Meanings.{Answer, means, all_mean}
+use Rattle.qs_prooftext_meaning.specs.Kinds.{Kind, Of}
+use Rattle.qs_prooftext_meaning.specs.Meanings.{Answer, means, all_mean}
 use Rattle.qs_prooftext.specs.Planting.{Shape, behind, firsts, grown, plants}
-use Rattle.qs_prooftext.specs.Settings.{Setting}
-use Rattle.qs_prooftext.specs.Walking.{nodes_in}
-use Rattle.qs_prooftext.proofs.AssertionLaws.{behind_is, lists_lie, onto_nodes}
-use Rattle.qs_prooftext.proofs.FlatLaws.{all_count, onto}
-use Rattle.qs_prooftext.proofs.PartLaws.{first_stands, no_split, some_nodes}
+use Rattle.qs_prooftext_meaning.specs.Settings.{Setting}
+use Rattle.qs_prooftext_assertions.specs.Walking.{nodes_in}
+use Rattle.qs_prooftext_assertions.proofs.AssertionLaws.{behind_is, lists_lie, onto_nodes}
+use Rattle.qs_prooftext_assertions.proofs.FlatLaws.{all_count, onto}
+use Rattle.qs_prooftext_assertions.proofs.PartLaws.{first_stands, no_split, some_nodes}
 use Rattle.qs_prooftext.proofs.PlantLaws.{plants-append}
 
 -- ---- the first list

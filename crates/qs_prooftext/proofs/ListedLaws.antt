@@ -21,12 +21,12 @@ use Rattle.qs_sexpr.specs.Parts.{Splits}
 use Rattle.qs_sexpr.specs.Trees.{Sexp, Sexps, no_parts, part_and}
 use Rattle.qs_sexpr.specs.declared.node.Node.{Node}
 use Rattle.qs_triples.proofs.FunctionNames.{name_at, all_at, count_names}
-use Rattle.qs_prooftext.specs.Answers.{StandAll, Stands}
-use Rattle.qs_prooftext.specs.Contexts.{function_rows}
+use Rattle.qs_prooftext_assertions.specs.Answers.{StandAll, Stands}
+use Rattle.qs_prooftext_meaning.specs.Contexts.{function_rows}
 use Rattle.qs_prooftext.specs.Listed.{ListsLeft, Marks}
-use Rattle.qs_prooftext.specs.Proofs.{entry_names, entry_names_of, has_list, is_among}
-use Rattle.qs_prooftext.specs.Settings.{functions_of, look_up, numbered}
-use Rattle.qs_prooftext.proofs.PartLaws.{first_stands, others_stand, no_first, no_split}
+use Rattle.qs_prooftext_meaning.specs.Proofs.{entry_names, entry_names_of, has_list, is_among}
+use Rattle.qs_prooftext_meaning.specs.Settings.{functions_of, look_up, numbered}
+use Rattle.qs_prooftext_assertions.proofs.PartLaws.{first_stands, others_stand, no_first, no_split}
 
 -- ---- the function with a name
 

@@ -11,14 +11,14 @@ use Rattle.qs_entail.specs.Certificates as certificates
 use Rattle.qs_entail.specs.Certificates.{FactTree, Item}
 use Rattle.qs_sexpr.specs.Trees.{Sexp, number, symbol, list, Sexps, no_parts, part_and, count}
 use Rattle.qs_sexpr.specs.Writing.{Form, symbol_form, number_form, list_form}
-use Rattle.qs_prooftext.specs.declared.fault.TextFault.TheVariants.{UnknownForm, NoSuchFunction}
-use Rattle.qs_prooftext.specs.Heads.{rows, item_row}
-use Rattle.qs_prooftext.specs.Kinds.{Kind, Of, Values, Row, none, one, two, three, four, many, any, a_term, a_condition, an_assertion, a_definition_body, a_certificate, a_derivation, a_range, a_combination, an_item, an_index, a_natural, a_divisor, a_name, a_function, a_known_name, an_old_variable, a_precondition, a_postcondition, an_entry_certificate, a_body}
-use Rattle.qs_prooftext.specs.Meanings.{Answer, all_mean, each_means, headed_means, if_divisor, list_means, means, natural_means, number_means, or_fault, row_means, symbol_means, takes}
-use Rattle.qs_prooftext.specs.Settings.{Setting, look_up, old_variable}
-use Rattle.qs_prooftext.specs.Writable.{is_meant}
-use Rattle.qs_prooftext.specs.Writing.{Words, combination_form, forms_of, headed, item_form}
-use Rattle.qs_prooftext.proofs.FlatLaws.{all_count}
+use Rattle.qs_prooftext_meaning.specs.declared.fault.TextFault.TheVariants.{UnknownForm, NoSuchFunction}
+use Rattle.qs_prooftext_meaning.specs.Heads.{rows, item_row}
+use Rattle.qs_prooftext_meaning.specs.Kinds.{Kind, Of, Values, Row, none, one, two, three, four, many, any, a_term, a_condition, an_assertion, a_definition_body, a_certificate, a_derivation, a_range, a_combination, an_item, an_index, a_natural, a_divisor, a_name, a_function, a_known_name, an_old_variable, a_precondition, a_postcondition, an_entry_certificate, a_body}
+use Rattle.qs_prooftext_meaning.specs.Meanings.{Answer, all_mean, each_means, headed_means, if_divisor, list_means, means, natural_means, number_means, or_fault, row_means, symbol_means, takes}
+use Rattle.qs_prooftext_meaning.specs.Settings.{Setting, look_up, old_variable}
+use Rattle.qs_prooftext_meaning.specs.Writable.{is_meant}
+use Rattle.qs_prooftext_meaning.specs.Writing.{Words, combination_form, forms_of, headed, item_form}
+use Rattle.qs_prooftext_assertions.proofs.FlatLaws.{all_count}
 use Rattle.qs_prooftext.proofs.RowForms.{erased, all_erased, form_of, stands_of, Fits, Good, forms_all, GoodEach, GoodAll, RowGood, found_good, in_list, rows_good}
 
 -- ---- atoms

@@ -12,11 +12,11 @@ use Rattle.qs_sexpr.specs.declared.fault.SexprFault.{SexprFault}
 use Rattle.qs_sexpr.specs.declared.fault.SexprFault.TheVariants as list_faults
 use Rattle.qs_triples.specs.TreeOf.{proofs_tree}
 use Rattle.qs_triples.specs.declared.derivation.Proofs.{Proofs}
-use Rattle.qs_prooftext.specs.declared.fault.TextFault.{TextFault}
-use Rattle.qs_prooftext.specs.declared.fault.TextFault.TheVariants as faults
-use Rattle.qs_prooftext.specs.Answers.{Gives, StandAll}
-use Rattle.qs_prooftext.specs.Proofs.{file_means, has_list}
-use Rattle.qs_prooftext.specs.Reading.{Fault, Reading, no_lists, no_meaning, told}
+use Rattle.qs_prooftext_meaning.specs.declared.fault.TextFault.{TextFault}
+use Rattle.qs_prooftext_meaning.specs.declared.fault.TextFault.TheVariants as faults
+use Rattle.qs_prooftext_assertions.specs.Answers.{Gives, StandAll}
+use Rattle.qs_prooftext_meaning.specs.Proofs.{file_means, has_list}
+use Rattle.qs_prooftext_meaning.specs.Reading.{Fault, Reading, no_lists, no_meaning, told}
 
 -- the lists and atoms of a text stand in it
 pub all_stand : (text : List ℕ) (nodes : List Node) → (r : IsRead text nodes) → StandAll text nodes r.parts

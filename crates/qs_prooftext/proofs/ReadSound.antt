@@ -14,14 +14,14 @@ use Rattle.qs_core.specs.FunctionNames.{function_name}
 use Rattle.qs_sexpr.specs.Trees.{Sexp, number, symbol, list, Sexps, no_parts, part_and, count}
 use Rattle.qs_triples.specs.Derivations.{EntryTree, ProofsTree, is_entry_of}
 use Rattle.qs_triples.specs.Entries.{has_entry}
-use Rattle.qs_prooftext.specs.declared.fault.TextFault.TheVariants.{UnknownForm, Duplicate}
-use Rattle.qs_prooftext.specs.Kinds.{Values, a_body, a_definition_body, a_postcondition, a_precondition, an_entry_certificate}
-use Rattle.qs_prooftext.specs.Meanings.{each_means, means}
-use Rattle.qs_prooftext.specs.Proofs.{Sofar, define_means, entry_means, function_means, is_defined, named_entry_means, no_proofs, top_means, tops_mean, with_define, with_entry}
-use Rattle.qs_prooftext.specs.Reading.{Reading}
-use Rattle.qs_prooftext.specs.Settings.{functions_of, in_definition, in_entry, look_up, numbered}
-use Rattle.qs_prooftext.specs.Writable.{IsOfUnit, definition_stands}
-use Rattle.qs_prooftext.specs.Writing.{Words}
+use Rattle.qs_prooftext_meaning.specs.declared.fault.TextFault.TheVariants.{UnknownForm, Duplicate}
+use Rattle.qs_prooftext_meaning.specs.Kinds.{Values, a_body, a_definition_body, a_postcondition, a_precondition, an_entry_certificate}
+use Rattle.qs_prooftext_meaning.specs.Meanings.{each_means, means}
+use Rattle.qs_prooftext_meaning.specs.Proofs.{Sofar, define_means, entry_means, function_means, is_defined, named_entry_means, no_proofs, top_means, tops_mean, with_define, with_entry}
+use Rattle.qs_prooftext_meaning.specs.Reading.{Reading}
+use Rattle.qs_prooftext_meaning.specs.Settings.{functions_of, in_definition, in_entry, look_up, numbered}
+use Rattle.qs_prooftext_meaning.specs.Writable.{IsOfUnit, definition_stands}
+use Rattle.qs_prooftext_meaning.specs.Writing.{Words}
 use Rattle.qs_prooftext.proofs.ListedLaws.{function_named}
 use Rattle.qs_prooftext.proofs.ReadForms.{bound, reads_good}
 use Rattle.qs_prooftext.proofs.RowForms.{Fits}

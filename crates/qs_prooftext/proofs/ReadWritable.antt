@@ -20,11 +20,11 @@ use Rattle.qs_sexpr.specs.Writing.{Form, Forms, list_form, form_and, AreWritable
 use Rattle.qs_sexpr.proofs.ReadWritable as read_lists
 use Rattle.qs_triples.specs.Derivations.{EntryTree, ProofsTree}
 use Rattle.qs_triples.specs.Entries.{has_entry}
-use Rattle.qs_prooftext.specs.Proofs.{Sofar, defined_names, entry_names, entry_names_of, has_list, is_among, is_defined, is_open_name, no_proofs, top_means, tops_mean, with_define}
-use Rattle.qs_prooftext.specs.Reading.{Reading}
-use Rattle.qs_prooftext.specs.Writable.{entry_stands, entry_stands_in, IsOfUnit, IsWritable}
-use Rattle.qs_prooftext.specs.Writing.{define_form, entry_form, forms_of}
-use Rattle.qs_prooftext.proofs.FileLaws.{entered_alike}
+use Rattle.qs_prooftext_meaning.specs.Proofs.{Sofar, defined_names, entry_names, entry_names_of, has_list, is_among, is_defined, is_open_name, no_proofs, top_means, tops_mean, with_define}
+use Rattle.qs_prooftext_meaning.specs.Reading.{Reading}
+use Rattle.qs_prooftext_meaning.specs.Writable.{entry_stands, entry_stands_in, IsOfUnit, IsWritable}
+use Rattle.qs_prooftext_meaning.specs.Writing.{define_form, entry_form, forms_of}
+use Rattle.qs_prooftext_meaning.proofs.FileLaws.{entered_alike}
 use Rattle.qs_prooftext.proofs.ReadForms.{bound}
 use Rattle.qs_prooftext.proofs.RowForms.{all_erased, erased}
 use Rattle.qs_prooftext.proofs.ReadSound.{read_of_unit}

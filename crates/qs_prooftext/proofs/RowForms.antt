@@ -18,11 +18,11 @@ use Rattle.qs_sexpr.specs.Writing.{Form, symbol_form, number_form, list_form}
 use Rattle.qs_triples.specs.Derivations.{DerivationTree}
 use Rattle.qs_triples.specs.Mentions.{plain_variable}
 use Rattle.qs_triples.specs.TreeOf.{derivations_of}
-use Rattle.qs_prooftext.specs.Heads.{rows, term_rows, condition_rows, assertion_rows, definition_rows, rule_rows, fact_rows, range_rows, derivation_rows, result_rows}
-use Rattle.qs_prooftext.specs.Kinds.{Kind, Of, Values, Row, Rows, none, one, two, three, four, many, any, a_term, a_condition, an_assertion, a_definition_body, a_certificate, a_derivation, a_range, a_combination, an_item, an_index, a_natural, a_divisor, a_name, a_function, a_known_name, an_old_variable, a_precondition, a_postcondition, an_entry_certificate, a_body}
-use Rattle.qs_prooftext.specs.Settings.{Setting, look_up, old_variable}
-use Rattle.qs_prooftext.specs.Writable.{are_many, is_function, is_meant, term_stands, terms_stand, condition_stands, conditions_stand, assertion_stands, assertions_stand, definition_stands, definitions_stand, fact_stands, certificate_stands, certificates_stand, derivation_stands, derivations_stand}
-use Rattle.qs_prooftext.specs.Writing.{Words, assertion_form, assertion_forms, certificate_form, certificate_forms, combination_form, condition_form, condition_forms, derivation_form, derivation_forms, forms_of, headed, item_form, term_form, term_forms, variable_form, word_for}
+use Rattle.qs_prooftext_meaning.specs.Heads.{rows, term_rows, condition_rows, assertion_rows, definition_rows, rule_rows, fact_rows, range_rows, derivation_rows, result_rows}
+use Rattle.qs_prooftext_meaning.specs.Kinds.{Kind, Of, Values, Row, Rows, none, one, two, three, four, many, any, a_term, a_condition, an_assertion, a_definition_body, a_certificate, a_derivation, a_range, a_combination, an_item, an_index, a_natural, a_divisor, a_name, a_function, a_known_name, an_old_variable, a_precondition, a_postcondition, an_entry_certificate, a_body}
+use Rattle.qs_prooftext_meaning.specs.Settings.{Setting, look_up, old_variable}
+use Rattle.qs_prooftext_meaning.specs.Writable.{are_many, is_function, is_meant, term_stands, terms_stand, condition_stands, conditions_stand, assertion_stands, assertions_stand, definition_stands, definitions_stand, fact_stands, certificate_stands, certificates_stand, derivation_stands, derivations_stand}
+use Rattle.qs_prooftext_meaning.specs.Writing.{Words, assertion_form, assertion_forms, certificate_form, certificate_forms, combination_form, condition_form, condition_forms, derivation_form, derivation_forms, forms_of, headed, item_form, term_form, term_forms, variable_form, word_for}
 
 -- ---- forms
 

@@ -2,13 +2,13 @@
 use Rattle.std.proofs.Common.{arith, ◌≡◌, ℕ, ◌+◌, ◌==◌, Bool, false, if◌then◌else◌, List, [], ◌∷◌, length, Some, Ok, Err, refl, sym, ap, ◌∙◌}
 use Rattle.qs_base.specs.Results.{bind}
 use Rattle.qs_sexpr.specs.Trees.{Sexp, Sexps, no_parts, part_and, count}
-use Rattle.qs_prooftext.specs.declared.fault.TextFault.TheVariants.{UnknownForm}
-use Rattle.qs_prooftext.specs.Firsts.{first_means, tail, tails}
+use Rattle.qs_prooftext_meaning.specs.declared.fault.TextFault.TheVariants.{UnknownForm}
+use Rattle.qs_prooftext_assertions.specs.Firsts.{first_means, tail, tails}
 use Rattle.qs_prooftext.specs.HeadWalks.{listed}
-use Rattle.qs_prooftext.specs.Kinds.{Kind, Of, Row, none, one, two, three, four, any}
-use Rattle.qs_prooftext.specs.Meanings.{Answer, means, each_means, all_mean, row_means, takes}
-use Rattle.qs_prooftext.specs.Settings.{Setting}
-use Rattle.qs_prooftext.proofs.FlatLaws.{all_count}
+use Rattle.qs_prooftext_meaning.specs.Kinds.{Kind, Of, Row, none, one, two, three, four, any}
+use Rattle.qs_prooftext_meaning.specs.Meanings.{Answer, means, each_means, all_mean, row_means, takes}
+use Rattle.qs_prooftext_meaning.specs.Settings.{Setting}
+use Rattle.qs_prooftext_assertions.proofs.FlatLaws.{all_count}
 
 -- ---- answers in turn
 

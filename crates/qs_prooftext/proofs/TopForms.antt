@@ -12,13 +12,13 @@ use Rattle.qs_sexpr.specs.Trees.{Sexp, number, symbol, list, Sexps, no_parts, pa
 use Rattle.qs_sexpr.specs.Writing.{Form, symbol_form}
 use Rattle.qs_triples.specs.Derivations.{EntryTree, ProofsTree}
 use Rattle.qs_triples.specs.Entries.{has_entry}
-use Rattle.qs_prooftext.specs.declared.fault.TextFault.TheVariants.{UnknownForm, Duplicate}
-use Rattle.qs_prooftext.specs.Kinds.{Kind, Values, a_body, a_definition_body, a_postcondition, a_precondition, an_entry_certificate}
-use Rattle.qs_prooftext.specs.Meanings.{each_means}
-use Rattle.qs_prooftext.specs.Proofs.{Sofar, define_means, entry_means, entry_names_of, function_means, is_defined, name_of_parts, named_entry_means, top_means, with_define, with_entry}
-use Rattle.qs_prooftext.specs.Settings.{functions_of, in_definition, in_entry, look_up, words_of}
-use Rattle.qs_prooftext.specs.Writable.{parts_stand}
-use Rattle.qs_prooftext.specs.Writing.{Words, define_form, entry_form, entry_form_by, headed, words_in}
+use Rattle.qs_prooftext_meaning.specs.declared.fault.TextFault.TheVariants.{UnknownForm, Duplicate}
+use Rattle.qs_prooftext_meaning.specs.Kinds.{Kind, Values, a_body, a_definition_body, a_postcondition, a_precondition, an_entry_certificate}
+use Rattle.qs_prooftext_meaning.specs.Meanings.{each_means}
+use Rattle.qs_prooftext_meaning.specs.Proofs.{Sofar, define_means, entry_means, entry_names_of, function_means, is_defined, name_of_parts, named_entry_means, top_means, with_define, with_entry}
+use Rattle.qs_prooftext_meaning.specs.Settings.{functions_of, in_definition, in_entry, look_up, words_of}
+use Rattle.qs_prooftext_meaning.specs.Writable.{parts_stand}
+use Rattle.qs_prooftext_meaning.specs.Writing.{Words, define_form, entry_form, entry_form_by, headed, words_in}
 use Rattle.qs_prooftext.proofs.EntryWords.{entry_fits}
 use Rattle.qs_prooftext.proofs.ListedLaws.{function_named}
 use Rattle.qs_prooftext.proofs.ReadForms.{bound, each_good}

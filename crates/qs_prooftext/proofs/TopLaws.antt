@@ -23,26 +23,26 @@ use Rattle.qs_triples.specs.Derivations.{DerivationTree, ProofsTree}
 use Rattle.qs_triples.specs.Entries.{has_entry}
 use Rattle.qs_triples.specs.TreeOf.{entry_tree}
 use Rattle.qs_triples.specs.Valuations.{number_if}
-use Rattle.qs_prooftext.specs.declared.fault.TextFault.{TextFault}
-use Rattle.qs_prooftext.specs.declared.fault.TextFault.TheVariants.{NoMemory, UnknownForm, Duplicate}
-use Rattle.qs_prooftext.specs.declared.context.Word.{Word}
+use Rattle.qs_prooftext_meaning.specs.declared.fault.TextFault.{TextFault}
+use Rattle.qs_prooftext_meaning.specs.declared.fault.TextFault.TheVariants.{NoMemory, UnknownForm, Duplicate}
+use Rattle.qs_prooftext_meaning.specs.declared.context.Word.{Word}
 use Rattle.qs_prooftext.specs.declared.tops.File.{File}
 use Rattle.qs_prooftext.specs.declared.tops.ProofsSoFar.{ProofsSoFar}
-use Rattle.qs_prooftext.specs.Answers.{Gives, HasNoHead, IsHeaded, IsList, StandAll, Stands}
-use Rattle.qs_prooftext.specs.Contexts.{function_rows, is_open_word, word_view}
-use Rattle.qs_prooftext.specs.Definitions.{names_one_of}
-use Rattle.qs_prooftext.specs.Firsts.{first_means, tail}
-use Rattle.qs_prooftext.specs.Kinds.{Kind, Of, Row, Values, one, a_body, a_certificate, a_definition_body, a_derivation, a_postcondition, a_precondition, an_assertion, an_entry_certificate}
-use Rattle.qs_prooftext.specs.Heads.{rows}
-use Rattle.qs_prooftext.specs.Meanings.{Answer, all_mean, each_means, headed_means, list_means, means, number_means, symbol_means}
-use Rattle.qs_prooftext.specs.Proofs.{Sofar, define_means, entry_means, function_means, headed_top_means, is_defined, named_entry_means, top_means, tops_mean, with_define, with_entry}
-use Rattle.qs_prooftext.specs.Settings.{Setting, functions_of, in_definition, in_entry, look_up, typed, words_of}
+use Rattle.qs_prooftext_assertions.specs.Answers.{Gives, HasNoHead, IsHeaded, IsList, StandAll, Stands}
+use Rattle.qs_prooftext_meaning.specs.Contexts.{function_rows, is_open_word, word_view}
+use Rattle.qs_prooftext_meaning.specs.Definitions.{names_one_of}
+use Rattle.qs_prooftext_assertions.specs.Firsts.{first_means, tail}
+use Rattle.qs_prooftext_meaning.specs.Kinds.{Kind, Of, Row, Values, one, a_body, a_certificate, a_definition_body, a_derivation, a_postcondition, a_precondition, an_assertion, an_entry_certificate}
+use Rattle.qs_prooftext_meaning.specs.Heads.{rows}
+use Rattle.qs_prooftext_meaning.specs.Meanings.{Answer, all_mean, each_means, headed_means, list_means, means, number_means, symbol_means}
+use Rattle.qs_prooftext_meaning.specs.Proofs.{Sofar, define_means, entry_means, function_means, headed_top_means, is_defined, named_entry_means, top_means, tops_mean, with_define, with_entry}
+use Rattle.qs_prooftext_meaning.specs.Settings.{Setting, functions_of, in_definition, in_entry, look_up, typed, words_of}
 use Rattle.qs_prooftext.specs.Tops.{EntryParts, GivesPart, TopsLeft, definition, entry_at, entry_of_parts, entry_parts_mean, first_only, found_entry, function, known_entry, named_define, named_entry, only_part, part_means, proofs_so_far, single, sofar_of}
-use Rattle.qs_prooftext.specs.Walking.{HasParts}
-use Rattle.qs_prooftext.proofs.AssertionLaws.{has_parts}
-use Rattle.qs_prooftext.proofs.FirstLaws.{first_tree}
-use Rattle.qs_prooftext.proofs.PartLaws.{first_stands, others_stand, no_first, no_split}
-use Rattle.qs_prooftext.proofs.RangeLaws.{one_bound}
+use Rattle.qs_prooftext_assertions.specs.Walking.{HasParts}
+use Rattle.qs_prooftext_assertions.proofs.AssertionLaws.{has_parts}
+use Rattle.qs_prooftext_assertions.proofs.FirstLaws.{first_tree}
+use Rattle.qs_prooftext_assertions.proofs.PartLaws.{first_stands, others_stand, no_first, no_split}
+use Rattle.qs_prooftext_assertions.proofs.RangeLaws.{one_bound}
 
 -- ---- answers
 

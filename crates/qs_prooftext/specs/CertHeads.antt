@@ -14,12 +14,12 @@ use Rattle.qs_prooftext.specs.declared.rules.FactWord.{FactWord}
 use Rattle.qs_prooftext.specs.declared.rules.FactWord.TheVariants as facts
 use Rattle.qs_prooftext.specs.declared.rules.Rule.{Rule}
 use Rattle.qs_prooftext.specs.declared.rules.Rule.TheVariants as rules
-use Rattle.qs_prooftext.specs.Facts.{apart_means, num_means, half_means, quotient_means, wrapu_means, wraps_means, rise_means}
-use Rattle.qs_prooftext.specs.Firsts.{first_means}
-use Rattle.qs_prooftext.specs.Kinds.{a_combination, a_condition, a_name, a_range, a_term, an_assertion, an_index}
-use Rattle.qs_prooftext.specs.Meanings.{Answer}
+use Rattle.qs_prooftext_assertions.specs.Facts.{apart_means, num_means, half_means, quotient_means, wrapu_means, wraps_means, rise_means}
+use Rattle.qs_prooftext_assertions.specs.Firsts.{first_means}
+use Rattle.qs_prooftext_meaning.specs.Kinds.{a_combination, a_condition, a_name, a_range, a_term, an_assertion, an_index}
+use Rattle.qs_prooftext_meaning.specs.Meanings.{Answer}
 use Rattle.qs_prooftext.specs.Planting.{Shape, firsts}
-use Rattle.qs_prooftext.specs.Settings.{Setting}
+use Rattle.qs_prooftext_meaning.specs.Settings.{Setting}
 
 pub data HeadTree : Type 0 where
   same : HeadTree

@@ -5,7 +5,7 @@ use Rattle.qs_prooftext.specs.declared.rules.FactWord.{FactWord}
 use Rattle.qs_prooftext.specs.declared.rules.FactWord.TheVariants as facts
 use Rattle.qs_prooftext.specs.declared.rules.Rule.{Rule}
 use Rattle.qs_prooftext.specs.declared.rules.Rule.TheVariants as rules
-use Rattle.qs_prooftext.specs.Kinds.{Row, none, one, two, three, four, any, a_term, a_condition, an_assertion, a_certificate, a_range, a_combination, an_index, a_natural, a_name}
+use Rattle.qs_prooftext_meaning.specs.Kinds.{Row, none, one, two, three, four, any, a_term, a_condition, an_assertion, a_certificate, a_range, a_combination, an_index, a_natural, a_name}
 
 abbrev pub rule_row : Rule → Row a_certificate
 rule_row rules.Same = none certificates.same

@@ -15,11 +15,11 @@ use Rattle.qs_prooftext.specs.declared.statements.DerivationHead.TheVariants as 
 use Rattle.qs_prooftext.specs.declared.statements.Reason.{Reason}
 use Rattle.qs_prooftext.specs.declared.statements.Statement.{Statement}
 use Rattle.qs_prooftext.specs.declared.statements.Statement.TheVariants as statements
-use Rattle.qs_prooftext.specs.Firsts.{first_means, tail}
-use Rattle.qs_prooftext.specs.Kinds.{Row, none, two, three, four, any, a_certificate, a_derivation, an_assertion}
-use Rattle.qs_prooftext.specs.Meanings.{Answer}
+use Rattle.qs_prooftext_assertions.specs.Firsts.{first_means, tail}
+use Rattle.qs_prooftext_meaning.specs.Kinds.{Row, none, two, three, four, any, a_certificate, a_derivation, an_assertion}
+use Rattle.qs_prooftext_meaning.specs.Meanings.{Answer}
 use Rattle.qs_prooftext.specs.Planting.{Shape, firsts}
-use Rattle.qs_prooftext.specs.Settings.{Setting}
+use Rattle.qs_prooftext_meaning.specs.Settings.{Setting}
 
 pub data HeadTree : Type 0 where
   leaf : HeadTree

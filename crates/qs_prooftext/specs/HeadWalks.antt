@@ -5,20 +5,20 @@ use Rattle.std.specs.declared.alloc.Global.{Global}
 use Rattle.qs_base.specs.Results.{bind}
 use Rattle.qs_sexpr.specs.Trees.{Sexp, symbol, list, Sexps, part_and, count}
 use Rattle.qs_sexpr.specs.declared.node.Node.{Node}
-use Rattle.qs_prooftext.specs.declared.context.Context.{Context}
-use Rattle.qs_prooftext.specs.declared.fault.TextFault.{TextFault}
-use Rattle.qs_prooftext.specs.declared.fault.TextFault.TheVariants as faults
+use Rattle.qs_prooftext_meaning.specs.declared.context.Context.{Context}
+use Rattle.qs_prooftext_meaning.specs.declared.fault.TextFault.{TextFault}
+use Rattle.qs_prooftext_meaning.specs.declared.fault.TextFault.TheVariants as faults
 use Rattle.qs_prooftext.specs.declared.lists.Headed.{Headed}
-use Rattle.qs_prooftext.specs.Answers.{StandAll}
+use Rattle.qs_prooftext_assertions.specs.Answers.{StandAll}
 use Rattle.qs_prooftext.specs.CertHeads as certificates
-use Rattle.qs_prooftext.specs.Contexts.{setting_of}
+use Rattle.qs_prooftext_meaning.specs.Contexts.{setting_of}
 use Rattle.qs_prooftext.specs.DerivationHeads as derivations
-use Rattle.qs_prooftext.specs.Firsts.{first_means, tails}
-use Rattle.qs_prooftext.specs.Kinds.{Kind, Of, Row, a_certificate, a_derivation}
-use Rattle.qs_prooftext.specs.Meanings.{Answer, means, list_means, each_means, all_mean}
+use Rattle.qs_prooftext_assertions.specs.Firsts.{first_means, tails}
+use Rattle.qs_prooftext_meaning.specs.Kinds.{Kind, Of, Row, a_certificate, a_derivation}
+use Rattle.qs_prooftext_meaning.specs.Meanings.{Answer, means, list_means, each_means, all_mean}
 use Rattle.qs_prooftext.specs.Planting.{Shape, grown}
-use Rattle.qs_prooftext.specs.Settings.{Setting}
-use Rattle.qs_prooftext.specs.Walking.{nodes_in}
+use Rattle.qs_prooftext_meaning.specs.Settings.{Setting}
+use Rattle.qs_prooftext_assertions.specs.Walking.{nodes_in}
 use Rattle.qs_prooftext.specs.declared.heads.CertHead.{CertHead}
 use Rattle.qs_prooftext.specs.declared.statements.DerivationHead.{DerivationHead}
 

@@ -9,8 +9,8 @@ use Rattle.qs_core.specs.FunctionNames.{function_name}
 use Rattle.qs_core.specs.declared.unit.CoreUnit.{CoreUnit}
 use Rattle.qs_sexpr.specs.Trees.{Sexp, Sexps}
 use Rattle.qs_sexpr.specs.declared.node.Node.{Node}
-use Rattle.qs_prooftext.specs.Answers.{Stands, StandAll}
-use Rattle.qs_prooftext.specs.Proofs.{entry_names_of, has_list, is_among, name_of_parts}
+use Rattle.qs_prooftext_assertions.specs.Answers.{Stands, StandAll}
+use Rattle.qs_prooftext_meaning.specs.Proofs.{entry_names_of, has_list, is_among, name_of_parts}
 
 -- the functions with these names are marked, besides those that were
 pub record Marks (u : CoreUnitTree) (names : List (List ℕ)) (old new : List Bool) : Type 0 where

@@ -18,20 +18,20 @@ use Rattle.qs_triples.specs.Derivations.{DerivationTree, ProofsTree}
 use Rattle.qs_triples.specs.Entries.{has_entry}
 use Rattle.qs_triples.specs.TreeOf.{derivation_tree, entry_tree}
 use Rattle.qs_triples.specs.declared.derivation.FunctionProof.{FunctionProof}
-use Rattle.qs_prooftext.specs.declared.context.Context.{Context}
-use Rattle.qs_prooftext.specs.declared.fault.TextFault.{TextFault}
-use Rattle.qs_prooftext.specs.declared.fault.TextFault.TheVariants.{UnknownForm, Duplicate, NoSuchFunction}
+use Rattle.qs_prooftext_meaning.specs.declared.context.Context.{Context}
+use Rattle.qs_prooftext_meaning.specs.declared.fault.TextFault.{TextFault}
+use Rattle.qs_prooftext_meaning.specs.declared.fault.TextFault.TheVariants.{UnknownForm, Duplicate, NoSuchFunction}
 use Rattle.qs_prooftext.specs.declared.tops.File.{File}
 use Rattle.qs_prooftext.specs.declared.tops.ProofsSoFar.{ProofsSoFar}
-use Rattle.qs_prooftext.specs.Answers.{Gives, StandAll, Stands}
-use Rattle.qs_prooftext.specs.Contexts.{setting_of}
-use Rattle.qs_prooftext.specs.Firsts.{first_means, tail}
-use Rattle.qs_prooftext.specs.Kinds.{Kind, Of, Values, a_body, a_certificate, a_definition_body, a_derivation, a_postcondition, a_precondition, an_assertion, an_entry_certificate}
-use Rattle.qs_prooftext.specs.Meanings.{Answer, means}
-use Rattle.qs_prooftext.specs.Proofs.{Sofar, file_means, headed_top_means, is_defined, top_means, tops_mean, with_define, with_entry}
-use Rattle.qs_prooftext.specs.Readers.{GivesParts}
-use Rattle.qs_prooftext.specs.Settings.{Setting, functions_of, in_definition, in_entry, look_up}
-use Rattle.qs_prooftext.specs.Walking.{HasParts}
+use Rattle.qs_prooftext_assertions.specs.Answers.{Gives, StandAll, Stands}
+use Rattle.qs_prooftext_meaning.specs.Contexts.{setting_of}
+use Rattle.qs_prooftext_assertions.specs.Firsts.{first_means, tail}
+use Rattle.qs_prooftext_meaning.specs.Kinds.{Kind, Of, Values, a_body, a_certificate, a_definition_body, a_derivation, a_postcondition, a_precondition, an_assertion, an_entry_certificate}
+use Rattle.qs_prooftext_meaning.specs.Meanings.{Answer, means}
+use Rattle.qs_prooftext_meaning.specs.Proofs.{Sofar, file_means, headed_top_means, is_defined, top_means, tops_mean, with_define, with_entry}
+use Rattle.qs_prooftext_assertions.specs.Readers.{GivesParts}
+use Rattle.qs_prooftext_meaning.specs.Settings.{Setting, functions_of, in_definition, in_entry, look_up}
+use Rattle.qs_prooftext_assertions.specs.Walking.{HasParts}
 
 abbrev pub open_in : File → ℕ → Bool
 open_in file = flag file.is_open.now

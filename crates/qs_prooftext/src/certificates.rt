@@ -1,20 +1,19 @@
 // Certificates: the heads of all nodes in the order of the text, and then the nodes from the last.
 ghost use Rattle.qs_entail.specs.View.{cert_tree};
-ghost use Rattle.qs_prooftext.specs.Answers.{Stands, StandAll};
+ghost use Rattle.qs_prooftext_assertions.specs.Answers.{Stands, StandAll};
 ghost use Rattle.qs_prooftext.specs.CertRows.{fact_row, rule_row};
 ghost use Rattle.qs_prooftext.specs.HeadWalks.{certificate_walk, RowHead, ListHead, HeadStep};
-ghost use Rattle.qs_prooftext.specs.Kinds.{a_certificate};
-ghost use Rattle.qs_prooftext.specs.Walking.{Shortens};
+ghost use Rattle.qs_prooftext_meaning.specs.Kinds.{a_certificate};
+ghost use Rattle.qs_prooftext_assertions.specs.Walking.{Shortens};
 ghost use Rattle.qs_sexpr.specs.Trees.{Sexp, Sexps};
-ghost use Rattle.qs_prooftext.specs.Readers.{Reads};
+ghost use Rattle.qs_prooftext_assertions.specs.Readers.{Reads};
 
-use crate::context::Context;
-use crate::fault::TextFault;
 use crate::heads::{CertHead, fact_of, rule_head};
 use crate::lists::{Headed, behind_head, first_list};
 use crate::planting::build;
 use crate::rules::{FactWord, Rule, fact_leaves, fact_word, rule_leaves, rule_takes, rule_word};
 use qs_entail::Certificate;
+use qs_prooftext_meaning::{Context, TextFault};
 use qs_sexpr::Node;
 use std::alloc::Global;
 

@@ -1,20 +1,19 @@
 // Derivations: the heads of all nodes in the order of the text, and then the nodes from the last.
-ghost use Rattle.qs_prooftext.specs.Answers.{Stands, StandAll};
+ghost use Rattle.qs_prooftext_assertions.specs.Answers.{Stands, StandAll};
 ghost use Rattle.qs_prooftext.specs.DerivationHeads.{statement_row};
 ghost use Rattle.qs_prooftext.specs.HeadWalks.{derivation_walk, RowHead, ListHead, HeadStep};
-ghost use Rattle.qs_prooftext.specs.Kinds.{a_derivation};
-ghost use Rattle.qs_prooftext.specs.Walking.{Shortens};
+ghost use Rattle.qs_prooftext_meaning.specs.Kinds.{a_derivation};
+ghost use Rattle.qs_prooftext_assertions.specs.Walking.{Shortens};
 ghost use Rattle.qs_sexpr.specs.Trees.{Sexp, Sexps};
 ghost use Rattle.qs_triples.specs.TreeOf.{derivation_tree};
-ghost use Rattle.qs_prooftext.specs.Readers.{Reads};
+ghost use Rattle.qs_prooftext_assertions.specs.Readers.{Reads};
 
 use crate::building::build;
-use crate::context::Context;
-use crate::fault::TextFault;
 use crate::lists::{Headed, behind_head, first_list};
 use crate::statements::{
     DerivationHead, Statement, statement_head, statement_leaves, statement_takes, statement_word,
 };
+use qs_prooftext_meaning::{Context, TextFault};
 use qs_sexpr::Node;
 use qs_triples::Derivation;
 use std::alloc::Global;

@@ -1,22 +1,20 @@
 // The nodes of certificates without the certificates in them.
-ghost use Rattle.qs_prooftext.specs.Answers.{StandAll};
+ghost use Rattle.qs_prooftext_assertions.specs.Answers.{StandAll};
 ghost use Rattle.qs_prooftext.specs.CertHeads.{fact_means, head_means, head_view};
 ghost use Rattle.qs_prooftext.specs.CertHeads as spec;
 ghost use Rattle.qs_entail.specs.View.{fact_tree};
 ghost use Rattle.qs_sexpr.specs.Trees.{Sexps};
-ghost use Rattle.qs_prooftext.specs.Readers.{ReadsParts};
+ghost use Rattle.qs_prooftext_assertions.specs.Readers.{ReadsParts};
 
-use crate::combinations::first_index;
-use crate::context::Context;
-use crate::facts::{
-    apart, bits_half, bits_rise, first_assertion, first_combination, first_condition, first_name,
-    first_range, first_term, num_is, quotient, wrap_signed, wrap_unsigned,
-};
-use crate::fault::TextFault;
 use crate::rules::{FactWord, Rule};
 use qs_assert::{Assertion, Cond};
 use qs_base::Name;
 use qs_entail::{Fact, Item};
+use qs_prooftext_assertions::{
+    apart, bits_half, bits_rise, first_assertion, first_combination, first_condition, first_index,
+    first_name, first_range, first_term, num_is, quotient, wrap_signed, wrap_unsigned,
+};
+use qs_prooftext_meaning::{Context, TextFault};
 use qs_sexpr::Node;
 use std::alloc::Global;
 

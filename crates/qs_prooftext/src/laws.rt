@@ -1,9 +1,9 @@
 // Laws of proof files: functions that do nothing, for what their clauses say.
 ghost use Rattle.std.specs.Prelude.{ℕ, List};
 ghost use Rattle.qs_core.specs.Trees.{CoreUnitTree};
-ghost use Rattle.qs_prooftext.specs.Laws.{HasMeaning, AtMostOne, NotBoth, LaidReads, SpelledReads};
-ghost use Rattle.qs_prooftext.specs.Laws.{ReadIsWritable};
-ghost use Rattle.qs_prooftext.specs.Reading.{Fault, Reading};
+ghost use Rattle.qs_prooftext_meaning.specs.Laws.{HasMeaning, AtMostOne, NotBoth, LaidReads, SpelledReads};
+ghost use Rattle.qs_prooftext_meaning.specs.Laws.{ReadIsWritable};
+ghost use Rattle.qs_prooftext_meaning.specs.Reading.{Fault, Reading};
 ghost use Rattle.qs_triples.specs.Derivations.{ProofsTree};
 
 /// In a unit a text has one reading or one first fault, and never both.
@@ -15,7 +15,7 @@ pub fn one_meaning()
 {}
 
 /// A text of what is written of proofs reads back to the same proofs.
-#[tactic(auto, using(crate::proofs::Readings::reads_back))]
+#[tactic(auto, using(qs_prooftext_meaning::proofs::Readings::reads_back))]
 pub fn written_reads()
     ensures written { (u : CoreUnitTree) (proofs : ProofsTree) → LaidReads u proofs }
     ensures spelled { (u : CoreUnitTree) (text : List ℕ) → SpelledReads u text }

@@ -3,10 +3,10 @@ ghost use Rattle.std.specs.Prelude.{◌≡◌, ◌∷◌, [], length, OnOk};
 ghost use Rattle.qs_core.specs.UnitTrees.{unit_tree};
 ghost use Rattle.qs_prooftext.specs.Listed.{Marks, MarksNamed, MarksTop, TellsListed};
 
-use crate::context::find_function;
-use crate::parts::{Part, head_of, part_of};
 use qs_base::NoMemory;
 use qs_core::CoreUnit;
+use qs_prooftext_assertions::{Part, head_of, part_of};
+use qs_prooftext_meaning::find_function;
 use qs_sexpr::{Node, first_part};
 use std::alloc::Global;
 

@@ -1,12 +1,12 @@
 // Lists with a head, and what stands behind their first parts.
 ghost use Rattle.std.specs.Prelude.{◌≤◌, ◌<◌, drop, length};
-ghost use Rattle.qs_prooftext.specs.Answers.{StandAll};
-ghost use Rattle.qs_prooftext.specs.Firsts.{tails, StandBehind};
+ghost use Rattle.qs_prooftext_assertions.specs.Answers.{StandAll};
+ghost use Rattle.qs_prooftext_assertions.specs.Firsts.{tails, StandBehind};
 ghost use Rattle.qs_prooftext.specs.HeadWalks.{IsFirst};
 ghost use Rattle.qs_sexpr.specs.Trees.{Sexps};
 
-use crate::fault::TextFault;
-use crate::parts::{Part, after_first, behind, head_of, part_of};
+use qs_prooftext_assertions::{Part, after_first, behind, head_of, part_of};
+use qs_prooftext_meaning::TextFault;
 use qs_sexpr::{Node, first_part};
 
 /// A list with a head.

@@ -2,17 +2,17 @@
 ghost use Rattle.std.specs.Prelude.{◌≡◌, ◌<◌, ◌^◌, IfOk, length};
 ghost use Rattle.qs_core.specs.Trees.{CoreUnitTree};
 ghost use Rattle.qs_core.specs.UnitTrees.{unit_tree};
-ghost use Rattle.qs_prooftext.specs.Reading as spec;
-ghost use Rattle.qs_prooftext.specs.Reading.{Reading, Refuses};
-ghost use Rattle.qs_prooftext.specs.Writable.{IsOfUnit, IsWritable};
+ghost use Rattle.qs_prooftext_meaning.specs.Reading as spec;
+ghost use Rattle.qs_prooftext_meaning.specs.Reading.{Reading, Refuses};
+ghost use Rattle.qs_prooftext_meaning.specs.Writable.{IsOfUnit, IsWritable};
 ghost use Rattle.qs_sexpr.specs.Results.{IsRead};
 ghost use Rattle.qs_triples.specs.TreeOf.{proofs_tree};
 
-use crate::fault::TextFault;
 use crate::listed::listed_functions;
 use crate::tops::{File, read_tops};
 use qs_callgraph::open;
 use qs_core::CoreUnit;
+use qs_prooftext_meaning::TextFault;
 use qs_sexpr::{Node, SexprFault};
 use qs_triples::Proofs;
 use std::alloc::Global;

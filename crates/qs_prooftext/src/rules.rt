@@ -1,7 +1,7 @@
 // The heads of certificates.
 ghost use Rattle.std.specs.Prelude.{◌≡◌};
 ghost use Rattle.qs_prooftext.specs.RuleWords as spec;
-ghost use Rattle.qs_prooftext.specs.Settings.{look_up};
+ghost use Rattle.qs_prooftext_meaning.specs.Settings.{look_up};
 
 /// The head of a certificate that is no fact.
 #[derive(Clone, Copy)]

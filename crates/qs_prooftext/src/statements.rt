@@ -1,22 +1,20 @@
 // The nodes of derivations without the derivations in them.
 ghost use Rattle.std.specs.Prelude.{◌≡◌};
 ghost use Rattle.qs_entail.specs.View.{cert_tree};
-ghost use Rattle.qs_prooftext.specs.Answers.{StandAll};
+ghost use Rattle.qs_prooftext_assertions.specs.Answers.{StandAll};
 ghost use Rattle.qs_prooftext.specs.DerivationHeads.{derivation_head, reason_means, reason_view};
 ghost use Rattle.qs_prooftext.specs.DerivationHeads.{head_of};
-ghost use Rattle.qs_prooftext.specs.Kinds.{a_certificate};
-ghost use Rattle.qs_prooftext.specs.Settings.{look_up};
+ghost use Rattle.qs_prooftext_meaning.specs.Kinds.{a_certificate};
+ghost use Rattle.qs_prooftext_meaning.specs.Settings.{look_up};
 ghost use Rattle.qs_prooftext.specs.StatementWords as spec;
 ghost use Rattle.qs_sexpr.specs.Trees.{Sexps};
-ghost use Rattle.qs_prooftext.specs.Readers.{ReadsParts, ReadsFirst};
+ghost use Rattle.qs_prooftext_assertions.specs.Readers.{ReadsParts, ReadsFirst};
 
 use crate::certificates::read_certificate;
-use crate::context::Context;
-use crate::facts::first_assertion;
-use crate::fault::TextFault;
-use crate::parts::after_first;
 use qs_assert::Assertion;
 use qs_entail::Certificate;
+use qs_prooftext_assertions::{after_first, first_assertion};
+use qs_prooftext_meaning::{Context, TextFault};
 use qs_sexpr::{Node, first_part};
 use std::alloc::Global;
 

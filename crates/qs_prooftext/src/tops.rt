@@ -4,31 +4,31 @@ ghost use Rattle.qs_core.specs.UnitTrees.{unit_tree};
 ghost use Rattle.qs_entail.specs.View.{cert_tree};
 ghost use Rattle.qs_triples.specs.TreeOf.{derivation_tree, proofs_tree};
 ghost use Rattle.qs_triples.specs.Entries as entries;
-ghost use Rattle.qs_prooftext.specs.Answers.{StandAll, Stands};
-ghost use Rattle.qs_prooftext.specs.Contexts.{setting_of};
-ghost use Rattle.qs_prooftext.specs.Kinds.{a_certificate, a_definition_body, a_derivation};
-ghost use Rattle.qs_prooftext.specs.Kinds.{an_assertion};
-ghost use Rattle.qs_prooftext.specs.Settings as settings;
+ghost use Rattle.qs_prooftext_assertions.specs.Answers.{StandAll, Stands};
+ghost use Rattle.qs_prooftext_meaning.specs.Contexts.{setting_of};
+ghost use Rattle.qs_prooftext_meaning.specs.Kinds.{a_certificate, a_definition_body, a_derivation};
+ghost use Rattle.qs_prooftext_meaning.specs.Kinds.{an_assertion};
+ghost use Rattle.qs_prooftext_meaning.specs.Settings as settings;
 ghost use Rattle.qs_prooftext.specs.Tops as spec;
 ghost use Rattle.qs_prooftext.specs.Tops.{entry_parts_mean, first_word, parts_view, proofs_so_far};
 ghost use Rattle.qs_prooftext.specs.Tops.{FindsOnly, FindsFirstOnly, ReadsOnly, define_of};
 ghost use Rattle.qs_prooftext.specs.Tops.{entry_of, entry_in, Adds, AddsHeaded, AddsTop};
 ghost use Rattle.qs_prooftext.specs.Tops.{ReadsEntry, meaning_of};
 ghost use Rattle.qs_sexpr.specs.Trees.{Sexp, Sexps};
-ghost use Rattle.qs_prooftext.specs.Readers.{GivesParts, ReadsParts, ReadsFirst};
+ghost use Rattle.qs_prooftext_assertions.specs.Readers.{GivesParts, ReadsParts, ReadsFirst};
 
-use crate::assertions::{read_assertion, read_definition};
 use crate::certificates::read_certificate;
-use crate::context::{Context, Names, find_function, is_defined};
-use crate::definitions::Definitions;
 use crate::derivations::read_derivation;
-use crate::fault::TextFault;
-use crate::parts::{Part, after_first, head_of, part_of};
-use crate::variables::{returned, words_of};
 use qs_assert::{Assertion, Define};
 use qs_base::{FnId, Name};
 use qs_core::{CoreFunction, CoreUnit};
 use qs_entail::Certificate;
+use qs_prooftext_assertions::{
+    Part, after_first, head_of, part_of, read_assertion, read_definition,
+};
+use qs_prooftext_meaning::{
+    Context, Definitions, Names, TextFault, find_function, is_defined, returned, words_of,
+};
 use qs_sexpr::{Node, first_part};
 use qs_triples::{Derivation, FunctionProof, Proofs, Spec};
 use std::alloc::Global;
@@ -69,7 +69,7 @@ fn in_definition<'a>(file: File<'a>) -> Context<'a>
 }
 
 /// The assertion for which a definition stands, in the first of these parts.
-#[tactic(auto, using(crate::proofs::FirstLaws::first_laws))]
+#[tactic(auto, using(qs_prooftext_assertions::proofs::FirstLaws::first_laws))]
 fn first_definition(
     alloc: Global,
     context: Context<'_>,

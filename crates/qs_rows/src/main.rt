@@ -4,16 +4,11 @@
 //! of a table how many rows it has. docs/ROWS.md has the form of a table.
 #![tactic(auto)]
 
-mod content;
-mod fault;
-mod line;
-mod linear;
 mod printing;
-mod row;
 mod running;
 mod table;
 
-use fault::TableFault;
+use qs_row_tables::TableFault;
 use std::env::{self, Env};
 use std::process::ExitCode;
 use std::rt::Files;

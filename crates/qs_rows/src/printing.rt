@@ -1,6 +1,4 @@
 // What crates below the tool answer, as text.
-use crate::fault::TableFault;
-use crate::linear::linear_text;
 use qs_base::NoMemory;
 use qs_cli::{CliFault, read_words};
 use qs_driver::SOURCE_LIMIT;
@@ -10,8 +8,10 @@ use qs_lexer::tokens;
 use qs_lower::lower;
 use qs_parser::unit;
 use qs_print::print;
-use qs_syntax::{Token, Unit};
+use qs_row_tables::{TableFault, linear_text};
+use qs_syntax::Unit;
 use qs_typing::check;
+use qs_vocabulary::Token;
 use std::alloc::{AllocError, Global};
 
 // The unit of a source, where it has one.

@@ -1,12 +1,11 @@
 // What comes of a row.
-use crate::fault::TableFault;
 use crate::printing::{
     printed_code, printed_command, printed_instructions, printed_tokens, printed_unit,
 };
-use crate::row::{Act, NamedFile, Row};
 use qs_base::NoMemory;
 use qs_driver::{Devices, run_tool};
 use qs_ports::{MemSink, MemStore};
+use qs_row_tables::{Act, NamedFile, Row, TableFault};
 use std::alloc::{AllocError, Global};
 
 // The room of a store or a sink for what is written, in bytes.

@@ -1,9 +1,7 @@
 // Tables of rows.
-use crate::fault::TableFault;
-use crate::line::{Line, line_of};
-use crate::row::{NamedFile, Row};
 use crate::running::{Ran, run, store_of};
 use qs_ports::MemStore;
+use qs_row_tables::{Line, NamedFile, Row, TableFault, line_of};
 use std::alloc::Global;
 
 // Prints that something of a row differs.

@@ -2,7 +2,5 @@ pub mod RelabelLaws
 pub mod NodeLaws
 pub mod NumberingLoops
 pub mod UnitLaws
-pub mod PunctuatorLaws
-pub mod OperatorLaws
 pub mod SamenessLaws
 pub mod SamenessOfUnits

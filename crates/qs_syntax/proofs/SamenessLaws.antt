@@ -10,9 +10,9 @@ use Rattle.qs_syntax.specs.declared.types.Base.TheVariants as bases
 use Rattle.qs_syntax.specs.declared.types.TypeName.{TypeName}
 use Rattle.qs_syntax.specs.declared.nodes.Node.{Node}
 use Rattle.qs_syntax.specs.Trees.{ExprTree, expr, ShapeTree, constant, text, name, unary, step, cast, sizeof_type, sizeof_expr, binary, assign, conditional, comma, subscript, member, call, Exprs, no_exprs, expr_and, exprs_of, LengthsTree, DeclaratorTree, InitialiserTree, value, list, Initialisers, no_initialisers, initialiser_and, VariableTree, DeclarationTree, ParameterTree, MembersTree}
-use Rattle.qs_syntax.specs.Operators.{same_unary, same_step, same_binary, same_assign, same_access}
+use Rattle.qs_vocabulary.specs.Operators.{same_unary, same_step, same_binary, same_assign, same_access}
 use Rattle.qs_syntax.specs.Sameness.{same_bytes, same_base, same_type, same_node, same_expr, same_shape, same_exprs, same_lengths, same_declarator, same_initialiser, same_initialisers, same_variable, same_declaration, same_parameter, same_members}
-use Rattle.qs_syntax.proofs.OperatorLaws.{unary_operator_exact, step_operator_exact, binary_operator_exact, assign_operator_exact, access_operator_exact}
+use Rattle.qs_vocabulary.proofs.OperatorLaws.{unary_operator_exact, step_operator_exact, binary_operator_exact, assign_operator_exact, access_operator_exact}
 
 -- what two tests tell together
 pub both : {P Q : Type 0} (s t : Bool) → (s ≡ true → P) → (t ≡ true → Q) → s && t ≡ true → P × Q

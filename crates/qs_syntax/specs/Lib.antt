@@ -1,7 +1,5 @@
 pub mod Trees
 pub mod TreeOf
-pub mod Punctuators
-pub mod Operators
 pub mod ReadsTypes
 pub mod Reads
 pub mod ReadsDeclarations

@@ -2,17 +2,18 @@
 // nodes.
 ghost use Rattle.std.specs.Prelude.{◌≡◌, ◌↔◌, IfOk, IsTrue, OnOk, map};
 ghost use Rattle.qs_syntax.specs.TreeOf.{expr_tree, exprs_tree, shape_tree};
-ghost use Rattle.qs_syntax.specs.Operators.{same_unary, same_step, same_binary, same_assign};
-ghost use Rattle.qs_syntax.specs.Operators.{same_access};
+ghost use Rattle.qs_vocabulary.specs.Operators.{same_unary, same_step, same_binary, same_assign};
+ghost use Rattle.qs_vocabulary.specs.Operators.{same_access};
 ghost use Rattle.qs_syntax.specs.Sameness.{same_expr, same_shape, same_exprs};
 ghost use Rattle.qs_syntax.specs.Sorts.{HasRoom, Numbers, Counts, Appends, arguments};
 ghost use Rattle.qs_syntax.specs.Sorts.{expression_list, expressions, shapes};
 
 use crate::nodes::{Node, number_node, same_node};
-use crate::operators::{Access, AssignmentOperator, BinaryOperator, StepOperator, UnaryOperator};
-use crate::text::Text;
 use crate::types::{TypeName, same_type};
 use qs_base::{Name, NoMemory};
+use qs_vocabulary::{
+    Access, AssignmentOperator, BinaryOperator, StepOperator, Text, UnaryOperator,
+};
 use std::alloc::Global;
 use std::mem;
 

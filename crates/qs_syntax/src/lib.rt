@@ -1,15 +1,10 @@
-//! The words of the language: its tokens, and its trees.
+//! The trees of the language, and what tokens are read as which (C11 6.5 to 6.9).
 #![tactic(auto)]
 
 mod declarations;
 mod expressions;
 mod nodes;
-mod operators;
-mod punctuator;
 mod statements;
-mod terminal;
-mod text;
-mod tokens;
 mod types;
 mod unit;
 mod units;
@@ -19,16 +14,7 @@ pub use declarations::{
 };
 pub use expressions::{Expr, Shape};
 pub use nodes::Node;
-pub use operators::{
-    ASSIGNMENT_PRECEDENCE, Access, AssignmentOperator, BinaryOperator, COMMA_PRECEDENCE,
-    CONDITIONAL_PRECEDENCE, StepOperator, UnaryOperator, WEAKEST,
-};
-pub use punctuator::Punctuator;
-pub use qs_base::Keyword;
 pub use statements::{Start, Stmt};
-pub use terminal::Terminal;
-pub use text::Text;
-pub use tokens::{Token, TokenKind};
 pub use types::{Base, TypeName};
 pub use unit::{Unit, numbered};
 pub use units::{Decl, Forward, Function, Struct};

@@ -3,7 +3,7 @@ use Rattle.std.proofs.Common.{◌≡◌, List, [], ◌∷◌, ◌++◌, Option, 
 use Rattle.qs_memory.specs.Partial.{◌>>=◌}
 use Rattle.qs_syntax.specs.Trees.{VariableTree, variables, DeclarationTree, UnitTree}
 use Rattle.qs_meaning.specs.Typed.{StaticBlock}
-use Rattle.qs_typed.specs.Behind.{followed}
+use Rattle.qs_typed_bodies.specs.Behind.{followed}
 use Rattle.qs_typed.specs.KnownPrograms.{Tables}
 use Rattle.qs_typed.specs.KnownBlocks.{variable_block_known, file_variables_known, blocks_known}
 

@@ -10,9 +10,9 @@ use Rattle.qs_memory.specs.Memory.{bytes_of, parts_of, times}
 use Rattle.qs_memory.specs.BlankOf.{blank_step, blank_tree}
 use Rattle.qs_memory.specs.declared.blank.Blank.{Blank-F, fold-roll-Blank}
 use Rattle.qs_memory.specs.declared.blank.Blank.TheVariants as blanks
-use Rattle.qs_typed.specs.declared.data.Datum.{Datum}
+use Rattle.qs_typed_trees.specs.declared.data.Datum.{Datum}
 use Rattle.qs_typed.specs.declared.cells.Cell.{Cell}
-use Rattle.qs_typed.specs.TreeOf.{contents_cells, pointer_width}
+use Rattle.qs_typed_trees.specs.TreeOf.{contents_cells, pointer_width}
 use Rattle.qs_syntax.specs.Trees.{ExprTree}
 use Rattle.qs_types.specs.Types.{TypeTree}
 use Rattle.qs_types.specs.Declarations.{text_of}

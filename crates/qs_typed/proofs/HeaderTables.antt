@@ -12,10 +12,10 @@ use Rattle.qs_memory.specs.declared.scalar.Scalar.{Scalar}
 use Rattle.qs_syntax.specs.Trees.{FunctionTree, UnitTree, function}
 use Rattle.qs_types.specs.Types.{TypeTree}
 use Rattle.qs_meaning.specs.Units.{scalars_of}
-use Rattle.qs_typed.specs.Known.{Header, parameters_of}
-use Rattle.qs_typed.specs.KnownFunctions.{parameters_nodes, locals_at}
-use Rattle.qs_typed.specs.KnownOf.{header_tree, headers_tree}
-use Rattle.qs_typed.proofs.KeptAgreement.{nothing}
+use Rattle.qs_typed_bodies.specs.Known.{Header, parameters_of}
+use Rattle.qs_typed_bodies.specs.KnownFunctions.{parameters_nodes, locals_at}
+use Rattle.qs_typed_bodies.specs.KnownOf.{header_tree, headers_tree}
+use Rattle.qs_typed_bodies.proofs.KeptAgreement.{nothing}
 use Rattle.qs_typed.specs.KnownUnits.{header_behind, with_header, headers_behind}
 
 header_missing : (node : ℕ) (hs : List (ℕ × Vec Scalar Global)) → lookup (nat_eq node) hs ≡ None → parameters_of node (headers_tree hs) ≡ None

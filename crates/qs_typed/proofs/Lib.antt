@@ -1,11 +1,3 @@
-pub mod Sizes
-pub mod Entries
-pub mod OperationTypes
-pub mod PlaceTables
-pub mod MemberPlaces
-pub mod Loops
-pub mod BlankTurns
-pub mod KeptAgreement
 pub mod UnitStructs
 pub mod TiedExpressions
 pub mod TiedStatements

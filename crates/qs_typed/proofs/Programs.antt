@@ -4,7 +4,7 @@ use Rattle.qs_memory.specs.Partial.{◌>>=◌}
 use Rattle.qs_syntax.specs.Trees.{FunctionTree, Stmts, function, UnitTree}
 use Rattle.qs_meaning.specs.Typed.{Function}
 use Rattle.qs_typed.specs.UnitVariables.{variables_of}
-use Rattle.qs_typed.specs.Behind.{followed}
+use Rattle.qs_typed_bodies.specs.Behind.{followed}
 use Rattle.qs_typed.specs.KnownPrograms.{Tables, body_places, body_known, option_body_known, functions_known}
 
 pub none_more : (t : Tables) (f : FunctionTree) (ds : UnitTree) (all : List Function) → f.body ≡ None → followed all (functions_known t (function f ∷ ds)) ≡ followed all (functions_known t ds)

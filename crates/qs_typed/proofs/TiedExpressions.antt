@@ -14,20 +14,20 @@ use Rattle.qs_calls.specs.declared.callee.Callee.TheVariants as callees
 use Rattle.qs_types.specs.Types.{TypeTree, struct}
 use Rattle.qs_types.specs.Conversions.{decayed}
 use Rattle.qs_types.specs.GivenFunctions.{Signature, putchar_name, putchar_type, getchar_type}
-use Rattle.qs_typing.specs.declared.entity.Referent.TheVariants as referents
+use Rattle.qs_findings.specs.declared.entity.Referent.TheVariants as referents
 use Rattle.qs_types.specs.Layout.{and_then}
 use Rattle.qs_types.specs.Rules.{breaks_one, type_unless}
 use Rattle.qs_types.specs.Contexts.{Context, Entity, local_variable, file_variable, function, given, entity_of, tag_place, base_type, pointers, named_type}
 use Rattle.qs_types.specs.Expressions.{type_of, type_or_void, cast_judged}
-use Rattle.qs_typing.specs.ExprFindings.{referent, referent_of}
+use Rattle.qs_findings.specs.ExprFindings.{referent, referent_of}
 use Rattle.qs_meaning.specs.Typed.{pointer_to, object}
 use Rattle.qs_meaning.specs.Conversions.{scalar_of}
 use Rattle.qs_meaning.specs.Forms.{Form, lvalue, call, TypedExpr}
 use Rattle.qs_meaning.specs.Names.{Scope, Designator as Designated, local_lvalue, file_variable_object, text_object, entity_lvalue, name_lvalue, entity_designated, designated, function_number}
 use Rattle.qs_meaning.specs.Expressions.{text_form, name_form, arguments_of, subscript_form, member_form, step_form, unary_form, size_form, cast_form, binary_form, conditional_form, assign_form, comma_form, typed, form_of, all_typed}
-use Rattle.qs_typed.specs.Known.{Known, at_number, referent_lvalue, name_known, text_known, with_tags, named_known, named_size_known, Designator, designated_by, with_conversion, with_argument, known, form_known, type_known, arguments_known}
-use Rattle.qs_typed.specs.Agrees.{Keeps, NodesKnown, PartsKnown, AllKnown, Agrees, GivenAreGiven}
-use Rattle.qs_typed.proofs.KeptAgreement.{nothing, same, kept, kept_by, then_kept, is_kept, equal_kept}
+use Rattle.qs_typed_bodies.specs.Known.{Known, at_number, referent_lvalue, name_known, text_known, with_tags, named_known, named_size_known, Designator, designated_by, with_conversion, with_argument, known, form_known, type_known, arguments_known}
+use Rattle.qs_typed_bodies.specs.Agrees.{Keeps, NodesKnown, PartsKnown, AllKnown, Agrees, GivenAreGiven}
+use Rattle.qs_typed_bodies.proofs.KeptAgreement.{nothing, same, kept, kept_by, then_kept, is_kept, equal_kept}
 use Rattle.qs_typed.proofs.UnitStructs.{size_form_kept, subscript_kept, binary_kept, member_kept, assign_kept, step_kept}
 
 -- ---- names

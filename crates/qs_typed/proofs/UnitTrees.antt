@@ -3,12 +3,12 @@ use Rattle.std.proofs.Common.{◌≡◌, List, ◌++◌, Some, map, refl, ◌∙
 use Rattle.qs_types.specs.References.{literal_blocks}
 use Rattle.qs_types.specs.Expressions.{type_of}
 use Rattle.qs_syntax.specs.Trees.{UnitTree}
-use Rattle.qs_typing.specs.declared.typed_unit.TypedUnit.{TypedUnit}
-use Rattle.qs_typing.specs.ExprFindings.{referent_of}
-use Rattle.qs_typing.specs.NodeReferents.{no_referent, unit_referents}
-use Rattle.qs_typing.specs.NodeTypes.{declared_type, unit_types}
-use Rattle.qs_typing.specs.TypedOf.{typed_tree}
-use Rattle.qs_typing.proofs.TypedLaws.{by_number}
+use Rattle.qs_findings.specs.declared.typed_unit.TypedUnit.{TypedUnit}
+use Rattle.qs_findings.specs.ExprFindings.{referent_of}
+use Rattle.qs_findings.specs.NodeReferents.{no_referent, unit_referents}
+use Rattle.qs_findings.specs.NodeTypes.{declared_type, unit_types}
+use Rattle.qs_findings.specs.TypedOf.{typed_tree}
+use Rattle.qs_findings.proofs.TypedLaws.{by_number}
 use Rattle.qs_meaning.specs.InitialValues.{text_block}
 use Rattle.qs_meaning.specs.Typed.{Function, StaticBlock, TypedProgram}
 use Rattle.qs_meaning.specs.Units.{typed_of}

@@ -4,7 +4,7 @@ use Rattle.qs_syntax.specs.TreeOf.{expr_tree, initialiser_tree, initialisers_tre
 use Rattle.qs_syntax.specs.declared.declarations.Initialiser.{Initialiser}
 use Rattle.qs_syntax.specs.declared.declarations.Variable.{Variable}
 use Rattle.qs_syntax.specs.declared.expressions.Expr.{Expr}
-use Rattle.qs_syntax.specs.declared.operators.UnaryOperator.{UnaryOperator}
+use Rattle.qs_vocabulary.specs.declared.operators.UnaryOperator.{UnaryOperator}
 use Rattle.qs_types.specs.Placed.{operand_of}
 use Rattle.qs_typed.specs.Addressed.{Names, initial_addressed, initialiser_addressed, initialisers_addressed, name_known, variables_addressed}
 

@@ -4,26 +4,26 @@ use Rattle.std.specs.declared.alloc.Global.{Global}
 use Rattle.qs_memory.specs.Memory as cells
 use Rattle.qs_memory.specs.Values.{Pointer}
 use Rattle.qs_syntax.specs.Trees.{DeclTree, ExprTree}
-use Rattle.qs_syntax.specs.declared.operators.UnaryOperator.{UnaryOperator}
+use Rattle.qs_vocabulary.specs.declared.operators.UnaryOperator.{UnaryOperator}
 use Rattle.qs_types.specs.TypeOf.{type_tree}
 use Rattle.qs_types.specs.Types.{TypeTree}
 use Rattle.qs_types.specs.declared.types.CType.{CType}
-use Rattle.qs_typing.specs.NotedOf.{text_tree}
-use Rattle.qs_typing.specs.declared.noted.TextBlock.{TextBlock}
+use Rattle.qs_findings.specs.NotedOf.{text_tree}
+use Rattle.qs_findings.specs.declared.noted.TextBlock.{TextBlock}
 use Rattle.qs_meaning.specs.InitialValues.{pointer_by, text_block}
 use Rattle.qs_meaning.specs.Typed as trees
-use Rattle.qs_typed.specs.Behind.{Continues}
+use Rattle.qs_typed_bodies.specs.Behind.{Continues}
 use Rattle.qs_typed.specs.CellsOf.{cell_tree, cells_tree}
 use Rattle.qs_typed.specs.KnownBlocks.{blocks_known, named_pointer_known, pieces_over_known}
 use Rattle.qs_typed.specs.KnownPrograms.{Tables}
-use Rattle.qs_typed.specs.PieceOf.{piece_tree}
-use Rattle.qs_typed.specs.Results.{Gives}
+use Rattle.qs_typed_bodies.specs.PieceOf.{piece_tree}
+use Rattle.qs_typed_bodies.specs.Results.{Gives}
 use Rattle.qs_typed.specs.TablesOf.{tables_tree}
-use Rattle.qs_typed.specs.TreeOf.{blocks_tree, data_cells}
+use Rattle.qs_typed_trees.specs.TreeOf.{blocks_tree, data_cells}
 use Rattle.qs_typed.specs.declared.cells.Cell.{Cell}
-use Rattle.qs_typed.specs.declared.data.Datum.{Datum}
-use Rattle.qs_typed.specs.declared.data.StaticBlock.{StaticBlock}
-use Rattle.qs_typed.specs.declared.pieces.Piece.{Piece}
+use Rattle.qs_typed_trees.specs.declared.data.Datum.{Datum}
+use Rattle.qs_typed_trees.specs.declared.data.StaticBlock.{StaticBlock}
+use Rattle.qs_typed_bodies.specs.declared.piece.Piece.{Piece}
 use Rattle.qs_typed.specs.declared.tables.Tables.{Tables as CodeTables}
 
 -- where an operator's operand leads

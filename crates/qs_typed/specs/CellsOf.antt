@@ -7,14 +7,14 @@ use Rattle.qs_memory.specs.BlankOf.{blank_tree, joined_of}
 use Rattle.qs_memory.specs.Memory.{blank_cells, parts_of, times}
 use Rattle.qs_memory.specs.declared.blank.Blank.{Blank}
 use Rattle.qs_meaning.specs.InitialValues.{written_over}
-use Rattle.qs_typed.specs.TreeOf.{contents_cells, data_cells, pointer_width}
+use Rattle.qs_typed_trees.specs.TreeOf.{contents_cells, data_cells, pointer_width}
 use Rattle.qs_typed.specs.declared.contents.Contents.{Contents}
 use Rattle.qs_typed.specs.declared.contents.Target.{Target}
 use Rattle.qs_typed.specs.declared.contents.Target.TheVariants as targets
 use Rattle.qs_typed.specs.declared.cells.Begun.{Begun}
 use Rattle.qs_typed.specs.declared.cells.Cell.{Cell}
 use Rattle.qs_typed.specs.declared.cells.Cell.TheVariants as variants
-use Rattle.qs_typed.specs.declared.data.Datum.{Datum}
+use Rattle.qs_typed_trees.specs.declared.data.Datum.{Datum}
 
 abbrev pub target_tree : Target → Pointer
 target_tree targets.Null = null

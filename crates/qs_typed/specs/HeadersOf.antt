@@ -8,10 +8,10 @@ use Rattle.qs_syntax.specs.Trees.{UnitTree}
 use Rattle.qs_syntax.specs.declared.units.Decl.{Decl}
 use Rattle.qs_syntax.specs.declared.units.Function.{Function}
 use Rattle.qs_types.specs.declared.types.CType.{CType}
-use Rattle.qs_typed.specs.Known.{Header}
-use Rattle.qs_typed.specs.KnownOf.{table_headers}
+use Rattle.qs_typed_bodies.specs.Known.{Header}
+use Rattle.qs_typed_bodies.specs.KnownOf.{table_headers}
 use Rattle.qs_typed.specs.KnownUnits.{headers_behind, with_header}
-use Rattle.qs_typed.specs.TypesOf.{types_tree}
+use Rattle.qs_typed_bodies.specs.TypesOf.{types_tree}
 
 -- the header of a function, at whose node none stands yet, is the last
 abbrev pub AddsHeader : {S T E : Type 0} → List (Option CType) → Function → (old new : IndexMap ℕ (Vec Scalar Global) S) → Result T E → Type 0

@@ -9,15 +9,15 @@ use Rattle.qs_types.specs.Types.{TypeTree, is_pointer, is_array}
 use Rattle.qs_types.specs.Contexts.{context_with}
 use Rattle.qs_types.specs.Expressions.{is_null_constant}
 use Rattle.qs_types.specs.Constants.{value_of}
-use Rattle.qs_typing.specs.declared.entity.Referent.{Referent}
-use Rattle.qs_typing.specs.declared.entity.Referent.TheVariants as referents
+use Rattle.qs_findings.specs.declared.entity.Referent.{Referent}
+use Rattle.qs_findings.specs.declared.entity.Referent.TheVariants as referents
 use Rattle.qs_meaning.specs.Typed.{StaticBlock}
 use Rattle.qs_meaning.specs.Conversions.{scalar_of}
 use Rattle.qs_meaning.specs.Names.{Statics, file_variable_object, text_object}
 use Rattle.qs_meaning.specs.Blanks.{blank_of}
 use Rattle.qs_meaning.specs.Initialisers.{Piece, pieces}
 use Rattle.qs_meaning.specs.InitialValues.{pointer_width, static_pointer, pointer_by, array_cells, written_over}
-use Rattle.qs_typed.specs.Known.{at_number}
+use Rattle.qs_typed_bodies.specs.Known.{at_number}
 use Rattle.qs_typed.specs.KnownPrograms.{Tables}
 
 -- ---- constants (6.6)

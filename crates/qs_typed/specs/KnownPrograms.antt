@@ -4,12 +4,12 @@ use Rattle.std.specs.List.{list_any}
 use Rattle.qs_syntax.specs.Trees.{structure, forward, function, variables, FunctionTree, Stmts, UnitTree}
 use Rattle.qs_memory.specs.Partial.{◌>>=◌}
 use Rattle.qs_types.specs.Types.{TypeTree, Structs}
-use Rattle.qs_typing.specs.declared.entity.Referent.{Referent}
+use Rattle.qs_findings.specs.declared.entity.Referent.{Referent}
 use Rattle.qs_meaning.specs.Typed.{Function}
 use Rattle.qs_meaning.specs.Names.{Locals, Statics}
 use Rattle.qs_typed.specs.Addressed.{statements_addressed}
-use Rattle.qs_typed.specs.Known.{Known, Header}
-use Rattle.qs_typed.specs.KnownFunctions.{places_at, parameters_nodes, statements_nodes, named_scalar, function_known}
+use Rattle.qs_typed_bodies.specs.Known.{Known, Header}
+use Rattle.qs_typed_bodies.specs.KnownFunctions.{places_at, parameters_nodes, statements_nodes, named_scalar, function_known}
 
 -- what is known of all functions of a unit
 pub record Tables : Type 0 where

@@ -5,8 +5,8 @@ use Rattle.qs_memory.specs.Partial.{◌>>=◌}
 use Rattle.qs_memory.specs.declared.scalar.Scalar.{Scalar}
 use Rattle.qs_types.specs.Types.{TypeTree}
 use Rattle.qs_meaning.specs.Units.{scalars_of}
-use Rattle.qs_typed.specs.Known.{Header, parameters_of}
-use Rattle.qs_typed.specs.KnownFunctions.{parameters_nodes, locals_at}
+use Rattle.qs_typed_bodies.specs.Known.{Header, parameters_of}
+use Rattle.qs_typed_bodies.specs.KnownFunctions.{parameters_nodes, locals_at}
 
 abbrev pub header_known : (types : List (Option TypeTree)) → FunctionTree → Option Header
 header_known types f = scalars_of (locals_at types (parameters_nodes f.parameters)) >>= λ ps. Some (record { node = f.node.id; parameters = ps })

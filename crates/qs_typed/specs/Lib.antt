@@ -1,17 +1,3 @@
-pub mod Results
-pub mod TypesOf
-pub mod TreeOf
-pub mod Parts
-pub mod FormOf
-pub mod PlacesOf
-pub mod Known
-pub mod KnownOf
-pub mod KnownStatements
-pub mod PieceOf
-pub mod SetsOf
-pub mod Behind
-pub mod Agrees
-pub mod KnownFunctions
 pub mod LocalsOf
 pub mod AgreesFunctions
 pub mod Laws

@@ -7,11 +7,11 @@ use Rattle.qs_types.specs.Placed.{Local}
 use Rattle.qs_types.specs.Types.{TypeTree}
 use Rattle.qs_types.specs.declared.types.CType.{CType}
 use Rattle.qs_meaning.specs.Names as names
-use Rattle.qs_typed.specs.KnownFunctions.{locals_at, parameters_nodes, places_at}
-use Rattle.qs_typed.specs.PlacesOf.{locals_tree}
-use Rattle.qs_typed.specs.Results.{Makes}
-use Rattle.qs_typed.specs.TypesOf.{types_tree}
-use Rattle.qs_typed.specs.declared.places.Locals.{Locals}
+use Rattle.qs_typed_bodies.specs.KnownFunctions.{locals_at, parameters_nodes, places_at}
+use Rattle.qs_typed_bodies.specs.PlacesOf.{locals_tree}
+use Rattle.qs_typed_bodies.specs.Results.{Makes}
+use Rattle.qs_typed_bodies.specs.TypesOf.{types_tree}
+use Rattle.qs_typed_bodies.specs.declared.places.Locals.{Locals}
 
 -- with the types that stand at their numbers
 abbrev pub locals_in : {S : Type 0} → List (Option CType) → (nodes : IndexSet ℕ S) → List Local

@@ -7,15 +7,15 @@ use Rattle.qs_types.specs.EnvOf.{env_tree}
 use Rattle.qs_types.specs.Recorded.{tags_of}
 use Rattle.qs_types.specs.References.{TextBlock, literal_blocks}
 use Rattle.qs_types.specs.UnitRules.{structs_of}
-use Rattle.qs_typing.specs.NodeReferents.{unit_referents}
-use Rattle.qs_typing.specs.NodeTypes.{unit_types}
+use Rattle.qs_findings.specs.NodeReferents.{unit_referents}
+use Rattle.qs_findings.specs.NodeTypes.{unit_types}
 use Rattle.qs_meaning.specs.Units.{file_variables_in, functions_in, name_with_body}
-use Rattle.qs_typed.specs.KnownOf.{headers_tree}
+use Rattle.qs_typed_bodies.specs.KnownOf.{headers_tree}
 use Rattle.qs_typed.specs.KnownPrograms.{Tables}
 use Rattle.qs_typed.specs.KnownUnits.{headers_behind}
-use Rattle.qs_typed.specs.PlacesOf.{statics_tree}
-use Rattle.qs_typed.specs.Results.{Gives}
-use Rattle.qs_typed.specs.TypesOf.{types_tree}
+use Rattle.qs_typed_bodies.specs.PlacesOf.{statics_tree}
+use Rattle.qs_typed_bodies.specs.Results.{Gives}
+use Rattle.qs_typed_bodies.specs.TypesOf.{types_tree}
 use Rattle.qs_typed.specs.declared.tables.Tables.{Tables as CodeTables}
 
 abbrev pub tables_tree : CodeTables → Tables

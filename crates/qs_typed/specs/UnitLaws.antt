@@ -3,10 +3,10 @@ use Rattle.std.specs.Prelude.{◌≡◌, List, Some}
 use Rattle.qs_syntax.specs.Trees.{UnitTree}
 use Rattle.qs_types.specs.Expressions.{type_of}
 use Rattle.qs_types.specs.WellTyped.{WellTyped}
-use Rattle.qs_typing.specs.ByNumber.{IsByNumber}
-use Rattle.qs_typing.specs.ExprFindings.{referent_of}
-use Rattle.qs_typing.specs.NodeReferents.{no_referent, unit_referents}
-use Rattle.qs_typing.specs.NodeTypes.{declared_type, unit_types}
+use Rattle.qs_findings.specs.ByNumber.{IsByNumber}
+use Rattle.qs_findings.specs.ExprFindings.{referent_of}
+use Rattle.qs_findings.specs.NodeReferents.{no_referent, unit_referents}
+use Rattle.qs_findings.specs.NodeTypes.{declared_type, unit_types}
 use Rattle.qs_meaning.specs.Typed.{Function, TypedProgram}
 use Rattle.qs_meaning.specs.Units.{typed_of}
 use Rattle.qs_typed.specs.KnownPrograms.{Tables, functions_known}

@@ -9,12 +9,13 @@ ghost use Rattle.qs_typed.specs.Addressed.{statement_addressed, statements_addre
 ghost use Rattle.qs_typed.specs.Addressed.{variable_addressed};
 ghost use Rattle.qs_typed.specs.AddressedOf.{initial_operands, initialiser_operands};
 ghost use Rattle.qs_typed.specs.AddressedOf.{initialisers_operands, operand_in, variables_operands};
-ghost use Rattle.qs_typed.specs.Results.{Adds};
+ghost use Rattle.qs_typed_bodies.specs.Results.{Adds};
 
-use crate::known::referent_in;
 use qs_base::NoMemory;
-use qs_syntax::{Expr, Initialiser, Shape, Start, Stmt, UnaryOperator, Variable};
-use qs_typing::Referent;
+use qs_findings::Referent;
+use qs_syntax::{Expr, Initialiser, Shape, Start, Stmt, Variable};
+use qs_typed_bodies::referent_in;
+use qs_vocabulary::UnaryOperator;
 
 // ---- expressions
 

@@ -3,12 +3,12 @@ ghost use Rattle.std.specs.Prelude.{◌≡◌, IsTrue, map};
 ghost use Rattle.qs_memory.specs.Memory.{byte, parts_of};
 ghost use Rattle.qs_typed.specs.CellsOf.{AddsCells, Overwrites, PutsCell, begun_cells, cell_tree};
 ghost use Rattle.qs_typed.specs.CellsOf.{cells_tree, pointer_cells, target_tree};
-ghost use Rattle.qs_typed.specs.Results.{Makes};
-ghost use Rattle.qs_typed.specs.TreeOf.{contents_cells, data_cells, datum_cells};
+ghost use Rattle.qs_typed_bodies.specs.Results.{Makes};
+ghost use Rattle.qs_typed_trees.specs.TreeOf.{contents_cells, data_cells, datum_cells};
 
 use crate::contents::{Contents, Target};
-use crate::data::Datum;
 use qs_base::NoMemory;
+use qs_typed_trees::Datum;
 use std::alloc::Global;
 
 /// What a byte of memory holds.

@@ -12,24 +12,22 @@ ghost use Rattle.qs_typed.specs.KnownBlocks.{address_constant_known, constant_ce
 ghost use Rattle.qs_typed.specs.KnownBlocks.{integer_cells_known, name_pointer};
 ghost use Rattle.qs_typed.specs.KnownBlocks.{named_pointer_known, pointer_cells_known};
 ghost use Rattle.qs_typed.specs.KnownBlocks.{pointer_constant_known, referent_pointer};
-ghost use Rattle.qs_typed.specs.PlacesOf.{statics_tree};
-ghost use Rattle.qs_typed.specs.Results.{Gives, Makes, itself};
+ghost use Rattle.qs_typed_bodies.specs.PlacesOf.{statics_tree};
+ghost use Rattle.qs_typed_bodies.specs.Results.{Gives, Makes, itself};
 ghost use Rattle.qs_typed.specs.TablesOf.{Finds, structs_known};
-ghost use Rattle.qs_typed.specs.TreeOf.{object_tree};
+ghost use Rattle.qs_typed_trees.specs.TreeOf.{object_tree};
 
 use crate::cells::{Cell, push_bytes, push_pointer};
 use crate::contents::Target;
-use crate::expressions::Object;
-use crate::initialisers::text_of;
-use crate::known::referent_in;
-use crate::places::{Statics, file_variable_object, text_object};
 use crate::tables::Tables;
-use crate::types::scalar_of;
 use qs_base::NoMemory;
+use qs_findings::Referent;
 use qs_memory::Scalar;
-use qs_syntax::{Expr, Shape, UnaryOperator};
+use qs_syntax::{Expr, Shape};
+use qs_typed_bodies::{Statics, file_variable_object, referent_in, text_object, text_of};
+use qs_typed_trees::{Object, scalar_of};
 use qs_types::{CType, is_null_constant, is_pointer};
-use qs_typing::Referent;
+use qs_vocabulary::UnaryOperator;
 use std::alloc::Global;
 
 // ---- addresses (6.6p9)

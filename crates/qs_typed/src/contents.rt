@@ -4,12 +4,12 @@ ghost use Rattle.qs_memory.specs.BlankOf.{blank_tree};
 ghost use Rattle.qs_memory.specs.Memory.{blank_cells, byte, times};
 ghost use Rattle.qs_typed.specs.CellsOf.{AddsData, Gathers, GathersRun, blanks_cells};
 ghost use Rattle.qs_typed.specs.CellsOf.{contents_tree, null_cells, pointer_cells};
-ghost use Rattle.qs_typed.specs.Results.{Makes};
-ghost use Rattle.qs_typed.specs.TreeOf.{contents_cells, data_cells};
+ghost use Rattle.qs_typed_bodies.specs.Results.{Makes};
+ghost use Rattle.qs_typed_trees.specs.TreeOf.{contents_cells, data_cells};
 
-use crate::data::Datum;
 use qs_base::{NoMemory, product, sum};
 use qs_memory::Blank;
+use qs_typed_trees::Datum;
 use std::alloc::Global;
 use std::mem::replace;
 

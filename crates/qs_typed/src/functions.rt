@@ -7,30 +7,27 @@ ghost use Rattle.qs_types.specs.GivenFunctions.{main_name};
 ghost use Rattle.qs_types.specs.Placed.{is_no_scalar, is_placed};
 ghost use Rattle.qs_types.specs.TypeOf.{type_tree};
 ghost use Rattle.qs_syntax.specs.Sameness.{same_bytes};
-ghost use Rattle.qs_typed.specs.KnownFunctions.{base_scalar, named_scalar, returns_nothing};
-ghost use Rattle.qs_typed.specs.KnownFunctions.{local_at, with_locals, with_parameters};
+ghost use Rattle.qs_typed_bodies.specs.KnownFunctions.{base_scalar, named_scalar, returns_nothing};
+ghost use Rattle.qs_typed_bodies.specs.KnownFunctions.{local_at, with_locals, with_parameters};
 ghost use Rattle.qs_typed.specs.LocalsOf.{Places, Puts, locals_in};
-ghost use Rattle.qs_typed.specs.Results.{Gives, Inserts, elements};
-ghost use Rattle.qs_typed.specs.TypesOf.{types_tree};
+ghost use Rattle.qs_typed_bodies.specs.Results.{Gives, Inserts, elements};
+ghost use Rattle.qs_typed_bodies.specs.TypesOf.{types_tree};
 ghost use Rattle.qs_typed.specs.UnitsOf.{KnowsFunction};
 
-use crate::bodies::statements;
-use crate::known::{Known, type_in};
 use crate::locals::parameters;
-use crate::places::Locals;
-use crate::program::TypedFunction;
-use crate::types::{scalar_of, size_in};
 use indexmap::IndexSet;
 use qs_base::{Name, NoMemory};
 use qs_memory::Scalar;
 use qs_syntax::{Base, Function, Stmt, TypeName};
+use qs_typed_bodies::{Known, Locals, size_in, statements, type_in};
+use qs_typed_trees::{TypedFunction, scalar_of};
 use qs_types::{CType, Env, is_scalar};
 use std::alloc::Global;
 
 // ---- places
 
 /// Adds a node behind others that it isn't among.
-#[tactic(auto, using(crate::proofs::PlaceTables::added_last))]
+#[tactic(auto, using(qs_typed_bodies::proofs::PlaceTables::added_last))]
 pub fn insert(nodes: &mut IndexSet<u32>, node: u32) -> Result<(), NoMemory>
     ensures { Inserts (node ∷ []) nodes.old nodes.new result }
 {
@@ -51,7 +48,7 @@ fn is_no_scalar(t: Option<&CType>) -> bool
 }
 
 /// Whether a local is a block of memory.
-#[tactic(auto, using(crate::proofs::PlaceTables::one_of))]
+#[tactic(auto, using(qs_typed_bodies::proofs::PlaceTables::one_of))]
 fn is_placed(types: &[Option<CType>], addressed: &IndexSet<u32>, node: u32) -> bool
     ensures { result ≡ is_placed (addressed.now).keys (local_at (types_tree types.now) node) }
 {
@@ -59,7 +56,7 @@ fn is_placed(types: &[Option<CType>], addressed: &IndexSet<u32>, node: u32) -> b
 }
 
 /// Gives parameters their variables, and those that are placed their blocks.
-#[tactic(auto, using(crate::proofs::PlaceTables::parameter_placed))]
+#[tactic(auto, using(qs_typed_bodies::proofs::PlaceTables::parameter_placed))]
 fn place_parameters(
     types: &[Option<CType>],
     addressed: &IndexSet<u32>,
@@ -78,7 +75,7 @@ fn place_parameters(
 }
 
 /// Gives locals their blocks or their variables.
-#[tactic(auto, using(crate::proofs::PlaceTables::local_placed))]
+#[tactic(auto, using(qs_typed_bodies::proofs::PlaceTables::local_placed))]
 fn place_locals(
     types: &[Option<CType>],
     addressed: &IndexSet<u32>,
@@ -98,7 +95,7 @@ fn place_locals(
 }
 
 /// The places of the parameters and locals at these nodes.
-#[tactic(auto, using(crate::proofs::PlaceTables::placed_in_order))]
+#[tactic(auto, using(qs_typed_bodies::proofs::PlaceTables::placed_in_order))]
 pub fn places_of(
     alloc: Global,
     types: &[Option<CType>],

@@ -3,16 +3,16 @@ ghost use Rattle.std.specs.Map.{lookup};
 ghost use Rattle.std.specs.Prelude.{◌≡◌, nat_eq, IsTrue, None};
 ghost use Rattle.qs_meaning.specs.Units.{scalars_of};
 ghost use Rattle.qs_typed.specs.HeadersOf.{AddsHeader, AddsHeaders, headers_in};
-ghost use Rattle.qs_typed.specs.KnownOf.{table_headers};
+ghost use Rattle.qs_typed_bodies.specs.KnownOf.{table_headers};
 ghost use Rattle.qs_typed.specs.LocalsOf.{parameters_in};
-ghost use Rattle.qs_typed.specs.Results.{Gives, elements};
+ghost use Rattle.qs_typed_bodies.specs.Results.{Gives, elements};
 
-use crate::known::type_in;
-use crate::types::scalar_of;
 use indexmap::IndexMap;
 use qs_base::NoMemory;
 use qs_memory::Scalar;
 use qs_syntax::{Decl, Function, Parameter};
+use qs_typed_bodies::type_in;
+use qs_typed_trees::scalar_of;
 use qs_types::CType;
 use std::alloc::Global;
 

@@ -4,21 +4,19 @@ ghost use Rattle.qs_meaning.specs.Units.{parameter_by};
 ghost use Rattle.qs_syntax.specs.TreeOf.{else_tree, parameter_tree, start_tree, stmt_tree};
 ghost use Rattle.qs_syntax.specs.TreeOf.{stmts_tree, variable_tree};
 ghost use Rattle.qs_meaning.specs.Typed.{object};
-ghost use Rattle.qs_typed.specs.KnownFunctions.{else_nodes, parameter_known, parameters_known};
-ghost use Rattle.qs_typed.specs.KnownFunctions.{parameters_nodes, start_nodes, statement_nodes};
-ghost use Rattle.qs_typed.specs.KnownFunctions.{statements_nodes, variables_nodes};
-ghost use Rattle.qs_typed.specs.KnownOf.{Knows};
-ghost use Rattle.qs_typed.specs.Results.{Adds, Gives, elements, itself};
-ghost use Rattle.qs_typed.specs.TreeOf.{expression_tree, lvalue_tree};
+ghost use Rattle.qs_typed_bodies.specs.KnownFunctions.{else_nodes, parameter_known, parameters_known};
+ghost use Rattle.qs_typed_bodies.specs.KnownFunctions.{parameters_nodes, start_nodes, statement_nodes};
+ghost use Rattle.qs_typed_bodies.specs.KnownFunctions.{statements_nodes, variables_nodes};
+ghost use Rattle.qs_typed_bodies.specs.KnownOf.{Knows};
+ghost use Rattle.qs_typed_bodies.specs.Results.{Adds, Gives, elements, itself};
+ghost use Rattle.qs_typed_trees.specs.TreeOf.{expression_tree, lvalue_tree};
 
-use crate::expressions::{Expression, Lvalue, Object};
-use crate::known::Known;
-use crate::places::local_lvalue;
-use crate::types::scalar_of;
 use qs_base::NoMemory;
 use qs_calls::Parameter;
 use qs_memory::Scalar;
 use qs_syntax::{Parameter as ParameterNode, Start, Stmt, Variable};
+use qs_typed_bodies::{Known, local_lvalue};
+use qs_typed_trees::{Expression, Lvalue, Object, scalar_of};
 use std::alloc::Global;
 
 // ---- the nodes of the locals that a body declares, in the order of the text

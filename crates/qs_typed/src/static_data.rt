@@ -7,20 +7,18 @@ ghost use Rattle.qs_typed.specs.CellsOf.{cells_tree};
 ghost use Rattle.qs_typed.specs.KnownBlocks.{blank_cells_known, blocks_known, file_variables_known};
 ghost use Rattle.qs_typed.specs.KnownBlocks.{initial_cells_known, initialised_cells_known};
 ghost use Rattle.qs_typed.specs.KnownBlocks.{piece_cells_known, variable_block_known};
-ghost use Rattle.qs_typed.specs.PieceOf.{piece_tree};
+ghost use Rattle.qs_typed_bodies.specs.PieceOf.{piece_tree};
 ghost use Rattle.qs_typed.specs.TablesOf.{Finds};
-ghost use Rattle.qs_typed.specs.TreeOf.{blocks_tree, data_cells, static_block_tree};
+ghost use Rattle.qs_typed_trees.specs.TreeOf.{blocks_tree, data_cells, static_block_tree};
 
-use crate::blanks::blank_of;
 use crate::cells::{Cell, cells_of, data_of, write_over};
 use crate::constants::{array_cells, constant_cells};
 use crate::contents::{Contents, put_blank};
-use crate::data::{Datum, StaticBlock};
-use crate::known::type_in;
-use crate::pieces::{Piece, pieces};
 use crate::tables::Tables;
 use qs_base::NoMemory;
 use qs_syntax::{Decl, Initialiser, Variable};
+use qs_typed_bodies::{Piece, blank_of, pieces, type_in};
+use qs_typed_trees::{Datum, StaticBlock};
 use qs_types::{CType, is_array};
 use std::alloc::Global;
 

@@ -2,19 +2,19 @@
 ghost use Rattle.std.specs.Prelude.{◌≡◌, ◌∷◌, [], IfOk, map};
 ghost use Rattle.qs_meaning.specs.Units.{file_variables_in, functions_in};
 ghost use Rattle.qs_syntax.specs.TreeOf.{decl_tree, function_tree, variable_tree};
-ghost use Rattle.qs_typed.specs.KnownFunctions.{variables_nodes};
+ghost use Rattle.qs_typed_bodies.specs.KnownFunctions.{variables_nodes};
 ghost use Rattle.qs_typed.specs.KnownPrograms.{each_once};
-ghost use Rattle.qs_typed.specs.Results.{Inserts};
+ghost use Rattle.qs_typed_bodies.specs.Results.{Inserts};
 ghost use Rattle.qs_typed.specs.TablesOf.{defined_name};
 
 use crate::functions::insert;
-use crate::places::Statics;
 use indexmap::{IndexMap, IndexSet};
 use qs_base::{Name, NoMemory};
+use qs_findings::Referent;
 use qs_memory::Scalar;
 use qs_syntax::{Decl, Function, Variable};
+use qs_typed_bodies::Statics;
 use qs_types::{CType, Env};
-use qs_typing::Referent;
 use std::alloc::Global;
 
 /// What is known of all functions of a unit.
@@ -40,7 +40,7 @@ pub struct Tables<'a> {
 // ---- functions
 
 /// Adds the name of a function with a body, which isn't among the others.
-#[tactic(auto, using(crate::proofs::PlaceTables::name_last))]
+#[tactic(auto, using(qs_typed_bodies::proofs::PlaceTables::name_last))]
 fn note_body(alloc: Global, f: &Function, names: &mut IndexSet<Name>) -> Result<(), NoMemory>
     ensures { Inserts (defined_name (function_tree f.now)) names.old names.new result }
 {

@@ -2,25 +2,24 @@
 ghost use Rattle.std.specs.Prelude.{◌≡◌, IfOk, map};
 ghost use Rattle.qs_meaning.specs.InitialValues.{text_block};
 ghost use Rattle.qs_meaning.specs.Units.{typed_of};
-ghost use Rattle.qs_typing.specs.NotedOf.{text_tree};
-ghost use Rattle.qs_typing.specs.TypedOf.{typed_tree};
+ghost use Rattle.qs_findings.specs.NotedOf.{text_tree};
+ghost use Rattle.qs_findings.specs.TypedOf.{typed_tree};
 ghost use Rattle.qs_typed.specs.BlocksOf.{AddsTexts};
-ghost use Rattle.qs_typed.specs.Results.{Gives, Makes};
+ghost use Rattle.qs_typed_bodies.specs.Results.{Gives, Makes};
 ghost use Rattle.qs_typed.specs.TablesOf.{AreOf, number_lists, tables_tree, text_nodes};
-ghost use Rattle.qs_typed.specs.TreeOf.{program_tree, static_block_tree};
+ghost use Rattle.qs_typed_trees.specs.TreeOf.{program_tree, static_block_tree};
 ghost use Rattle.qs_typed.specs.UnitVariables.{unit_variables};
 
-use crate::data::{Datum, StaticBlock};
 use crate::functions::insert;
 use crate::headers::headers;
-use crate::places::Statics;
-use crate::program::TypedProgram;
 use crate::static_data::blocks;
 use crate::tables::{Tables, file_variables_in, functions_in};
 use crate::units::{functions, variables};
 use indexmap::IndexSet;
 use qs_base::NoMemory;
-use qs_typing::{TextBlock, TypedUnit};
+use qs_findings::{TextBlock, TypedUnit};
+use qs_typed_bodies::Statics;
+use qs_typed_trees::{Datum, StaticBlock, TypedProgram};
 use std::alloc::Global;
 
 // ---- texts

@@ -3,22 +3,21 @@ ghost use Rattle.std.specs.Prelude.{◌∷◌, [], map};
 ghost use Rattle.qs_syntax.specs.TreeOf.{decl_tree, function_tree};
 ghost use Rattle.qs_syntax.specs.Trees.{function};
 ghost use Rattle.qs_typed.specs.KnownPrograms.{functions_known};
-ghost use Rattle.qs_typed.specs.Results.{Makes};
+ghost use Rattle.qs_typed_bodies.specs.Results.{Makes};
 ghost use Rattle.qs_typed.specs.TablesOf.{Finds, number_lists};
-ghost use Rattle.qs_typed.specs.TreeOf.{functions_tree};
+ghost use Rattle.qs_typed_trees.specs.TreeOf.{functions_tree};
 ghost use Rattle.qs_typed.specs.UnitVariables.{variables_known};
 ghost use Rattle.qs_typed.specs.UnitsOf.{AddsFunctions, AddsVariables, FindsFunction, FindsPlaces};
 ghost use Rattle.qs_typed.specs.UnitsOf.{body_variables, variables_in};
 
 use crate::addressed::statements_addressed;
 use crate::functions::{function, named_scalar, places_of};
-use crate::known::Known;
 use crate::locals::{parameters_nodes, statements_nodes};
-use crate::places::Locals;
-use crate::program::TypedFunction;
 use crate::tables::{Tables, each_once, nodes_of};
 use qs_base::NoMemory;
 use qs_syntax::{Decl, Function, Stmt};
+use qs_typed_bodies::{Known, Locals};
+use qs_typed_trees::TypedFunction;
 use std::alloc::Global;
 
 /// The places of the parameters and locals of a function with this body.

@@ -1,26 +1,7 @@
-pub mod Sets
-pub mod LatestPlaces
-pub mod Tags
-pub mod LeastFaults
-pub mod FirstFaults
-pub mod Walks
-pub mod FindingOrder
-pub mod MemberLookups
 pub mod WatchedExpressions
-pub mod ScopeEnds
 pub mod Heads
 pub mod Headers
-pub mod AddedFindings
 pub mod DeclarationTypes
 pub mod MemberDefinitions
 pub mod Declarators
-pub mod Blocks
-pub mod Causes
 pub mod CheckingLaws
-pub mod NameFindings
-pub mod Numbers
-pub mod LatestHeaders
-pub mod TypedLaws
-mod ExampleTrees
-pub mod RefusalExamples
-pub mod NodeExamples

@@ -5,68 +5,34 @@ ghost use Rattle.qs_types.specs.declared.limits.LimitKind.TheVariants as kinds;
 ghost use Rattle.qs_syntax.specs.UnitTrees.{unit_tree};
 ghost use Rattle.qs_types.specs.Limits as limits;
 ghost use Rattle.qs_types.specs.WellTyped as well_typed;
-ghost use Rattle.qs_typing.specs.ContextOf.{context_tree};
+ghost use Rattle.qs_findings.specs.ContextOf.{context_tree};
 ghost use Rattle.qs_typing.specs.Checking.{IsEnd, IsFirstPast, IsLate, IsUndefined, WalksUnit};
-ghost use Rattle.qs_typing.specs.EntityOf.{entity_at};
-ghost use Rattle.qs_typing.specs.Noting.{AreTextBlocks, IsTextBlock};
-ghost use Rattle.qs_typing.specs.Refusals.{IsAccepted, IsTold, early_refusal, first_past};
-ghost use Rattle.qs_typing.specs.Refusals.{has_main_in, limit_fault};
-ghost use Rattle.qs_typing.specs.Sets.{names_once};
-ghost use Rattle.qs_typing.specs.TypedOf.{typed_tree};
-ghost use Rattle.qs_typing.specs.declared.checking.TypeFault.TheVariants as faults;
+ghost use Rattle.qs_findings.specs.EntityOf.{entity_at};
+ghost use Rattle.qs_findings.specs.Noting.{AreTextBlocks, IsTextBlock};
+ghost use Rattle.qs_findings.specs.Refusals.{IsAccepted, IsTold, early_refusal, first_past};
+ghost use Rattle.qs_findings.specs.Refusals.{has_main_in, limit_fault};
+ghost use Rattle.qs_findings.specs.Sets.{names_once};
+ghost use Rattle.qs_findings.specs.TypedOf.{typed_tree};
+ghost use Rattle.qs_findings.specs.declared.type_fault.TypeFault.TheVariants as faults;
 
-use crate::context::Context;
-use crate::entity::Entity;
-use crate::noted::{Block, GLOBAL_LIMIT, Noted, TextBlock, block_past};
-use crate::typed_unit::TypedUnit;
 use crate::units::walk_declarations;
-use crate::walk::Walk;
 use indexmap::IndexSet;
 use qs_base::{Name, NoMemory};
+use qs_findings::{
+    Block, Context, Entity, Noted, TextBlock, TypeFault, TypedUnit, Walk, block_past,
+};
 use qs_syntax::{Decl, Function, Unit};
-use qs_types::{LimitKind, Rule};
+use qs_types::LimitKind;
 use std::alloc::Global;
-use thiserror::Error;
-
-/// Why a unit is refused, in this order: a limit of nodes, functions or parameters, a rule, no
-/// main, a function without a body, a limit of globals or locals.
-#[derive(Clone, Copy, PartialEq, Eq, Debug, Error)]
-pub enum TypeFault {
-    /// The node with this number breaks this rule: no node before it breaks one, nor it one before
-    /// this.
-    #[error("node {0} breaks a rule")]
-    Rule(u32, Rule),
-    /// What is counted first passes its limit at the node with this number.
-    #[error("a limit is passed at node {1}")]
-    Limit(LimitKind, u32),
-    /// No function `main` has a body (C11 5.1.2.2.1).
-    #[error("no main")]
-    NoMain,
-    /// The function whose first declaration is the node with this number is called and has no body
-    /// (C11 6.9p5).
-    #[error("the function at node {0} is called and has no body")]
-    Undefined(u32),
-    /// No memory was found.
-    #[error("out of memory")]
-    NoMemory,
-}
-
-impl From<NoMemory> for TypeFault {
-    ghost use Rattle.qs_typing.specs.declared.checking.TypeFault.TheVariants as faults;
-    ghost use Rattle.std.specs.Prelude.{◌≡◌};
-
-    ghost from_gives = { λ e r. r ≡ faults.NoMemory };
-
-    fn from(_fault: NoMemory) -> TypeFault {
-        TypeFault::NoMemory
-    }
-}
 
 /// The most nodes of a unit.
 const NODE_LIMIT: u32 = 10_000;
 
 /// The most names of functions.
 const FUNCTION_LIMIT: usize = 512;
+
+/// The most bytes of data.
+const GLOBAL_LIMIT: u32 = 16_777_216;
 
 /// The most parameters of a function.
 const PARAMETER_LIMIT: usize = 8;
@@ -197,7 +163,7 @@ fn undefined_from(c: &Context, calls: &IndexSet<Name>, ds: &[Decl]) -> Option<u3
     None
 }
 
-#[tactic(auto, using(crate::proofs::Sets::undefined_once))]
+#[tactic(auto, using(qs_findings::proofs::Sets::undefined_once))]
 fn first_undefined(
     alloc: Global,
     c: &Context,

@@ -7,7 +7,7 @@ ghost use Rattle.qs_types.specs.EnvOf.{env_tree};
 ghost use Rattle.qs_types.specs.Layout.{is_sized};
 ghost use Rattle.qs_types.specs.Types.{pointer};
 ghost use Rattle.qs_types.specs.TypeOf.{type_tree};
-ghost use Rattle.qs_typing.specs.ContextOf.{context_tree};
+ghost use Rattle.qs_findings.specs.ContextOf.{context_tree};
 ghost use Rattle.qs_typing.specs.DeclaredOf.{declared_tree, is_incomplete, option_type};
 ghost use Rattle.qs_typing.specs.DeclaredOf.{tests_and_type};
 ghost use Rattle.qs_typing.specs.Declares.{AreWholeLengths, IsArrayParameter, IsDeclared, IsObject};
@@ -16,11 +16,9 @@ ghost use Rattle.qs_typing.specs.Declares.{IsSizedByTests, IsVariable};
 ghost use Rattle.qs_typing.specs.LengthsOf.{AreTyped, AreValued, ElementsAreTyped};
 ghost use Rattle.qs_typing.specs.LengthsOf.{ElementsAreValued, is_length, is_length_typed};
 
-use crate::context::{Context, is_void_base};
-use crate::judged::{Test, keeps, violates};
 use crate::lengths::{ArrayLengths, ParameterLengths, arrays};
-use crate::types::type_or_void;
 use qs_base::NoMemory;
+use qs_findings::{Context, Test, is_void_base, keeps, type_or_void, violates};
 use qs_syntax::{
     Base, Declarator, Expr, Initialiser, InitialiserList, Lengths, Parameter, Shape, TypeName,
     Variable,

@@ -5,16 +5,14 @@ ghost use Rattle.qs_types.specs.Constants.{constant_of, length_of, length_within
 ghost use Rattle.qs_types.specs.Declarations.{arrays};
 ghost use Rattle.qs_types.specs.Expressions.{type_of};
 ghost use Rattle.qs_types.specs.TypeOf.{type_tree};
-ghost use Rattle.qs_typing.specs.ContextOf.{context_tree};
+ghost use Rattle.qs_findings.specs.ContextOf.{context_tree};
 ghost use Rattle.qs_typing.specs.DeclaredOf.{all_lengths, numbers, one_length};
 ghost use Rattle.qs_typing.specs.LengthsOf.{AreTyped, AreValued, ElementsAreTyped};
 ghost use Rattle.qs_typing.specs.LengthsOf.{ElementsAreValued, WalksGiven, WalksLengths};
 ghost use Rattle.qs_typing.specs.LengthsOf.{WholeTyped, is_length, is_length_typed};
 
-use crate::context::Context;
-use crate::positions::Position;
-use crate::walk::Walk;
 use qs_base::NoMemory;
+use qs_findings::{Context, Position, Walk};
 use qs_syntax::{Expr, Lengths};
 use qs_types::{CType, is_built, is_integer, is_unsigned, value};
 use std::alloc::Global;

@@ -3,12 +3,11 @@ ghost use Rattle.std.specs.Prelude.{OnOk};
 ghost use Rattle.qs_typing.specs.DeclarationWalks.{KnowsDeclaration, KnowsDeclarations};
 ghost use Rattle.qs_typing.specs.DeclarationWalks.{WalksDeclaration, WalksDeclarations};
 
-use crate::context::Context;
 use crate::functions::walk_function;
 use crate::structs::walk_struct;
 use crate::variables::walk_variables;
-use crate::walk::Walk;
 use qs_base::NoMemory;
+use qs_findings::{Context, Walk};
 use qs_syntax::Decl;
 use std::alloc::Global;
 

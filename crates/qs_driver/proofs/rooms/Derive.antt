@@ -3,7 +3,7 @@ use Rattle.std.proofs.Common.{◌≡◌, ◌≢◌, ℕ, ◌<◌, ◌≤◌, ◌
 use Rattle.qs_syntax.specs.Units.{IsRead}
 use Rattle.qs_types.specs.Limits.{IsWithinLimits, function_limit}
 use Rattle.qs_types.specs.WellTyped.{WellTyped}
-use Rattle.qs_typing.specs.TypedOf.{typed_tree}
+use Rattle.qs_findings.specs.TypedOf.{typed_tree}
 use Rattle.qs_core.specs.Fits.{unit_fits}
 use Rattle.qs_core.specs.Trees.{CoreUnitTree}
 use Rattle.qs_core.specs.UnitTrees.{unit_tree}
@@ -13,8 +13,8 @@ use Rattle.qs_limits.proofs.CoreUnits.{functions_are_few, statements_nest_little
 use Rattle.qs_triples.specs.Derivations.{ProofsTree}
 use Rattle.qs_triples.specs.Filled.{Filled}
 use Rattle.qs_triples.specs.TreeOf.{proofs_tree}
-use Rattle.qs_prooftext.specs.Reading.{Reading}
-use Rattle.qs_prooftext.specs.Writable.{IsWritable}
+use Rattle.qs_prooftext_meaning.specs.Reading.{Reading}
+use Rattle.qs_prooftext_meaning.specs.Writable.{IsWritable}
 use Rattle.qs_certify.specs.Certification.{IsCertified}
 use Rattle.qs_certify.specs.Laws.{nesting_limit}
 use Rattle.qs_certify.proofs.OneLaws.{all_are_derived}

@@ -4,7 +4,7 @@ use Rattle.std.specs.Prelude.{Vec}
 use Rattle.std.specs.declared.alloc.Global.{Global}
 use Rattle.qs_core.specs.Trees.{CoreUnitTree}
 use Rattle.qs_triples.specs.Derivations.{ProofsTree}
-use Rattle.qs_prooftext.specs.Proofs.{no_proofs}
+use Rattle.qs_prooftext_meaning.specs.Proofs.{no_proofs}
 use Rattle.qs_analyse.specs.Fillable.{entry_functions}
 use Rattle.qs_certify.specs.Certification.{AreAll, CannotCertify}
 use Rattle.qs_certify.specs.Entries.{IsFirstFault}

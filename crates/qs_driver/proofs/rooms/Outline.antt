@@ -9,9 +9,9 @@ use Rattle.qs_ports.specs.StoreView.{StoreView}
 use Rattle.qs_ports.specs.SinkView.{SinkView}
 use Rattle.qs_core.specs.Trees.{CoreUnitTree}
 use Rattle.qs_core.specs.Outline as core
-use Rattle.qs_elaborate.specs.Units.{core_of}
-use Rattle.qs_elaborate.specs.FitLaws.{HasCore}
-use Rattle.qs_elaborate.proofs.FitCore.{units_have_cores}
+use Rattle.qs_elaborate_bodies.specs.Units.{core_of}
+use Rattle.qs_elaborate_laws.specs.FitLaws.{HasCore}
+use Rattle.qs_elaborate_laws.proofs.FitCore.{units_have_cores}
 use Rattle.qs_driver.specs.Faults.{status_line}
 use Rattle.qs_driver.specs.Devices.{streams, views_of}
 use Rattle.qs_driver.specs.Due.{EndsWith, IsWritten}

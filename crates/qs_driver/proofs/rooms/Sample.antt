@@ -2,7 +2,7 @@
 use Rattle.std.proofs.Common.{◌≡◌, ◌⊎◌, ◌∙◌, ℕ, ◌++◌, List, [], length, Option, Some, None, Result, Ok, Err, refl, sym, ap, subst, inl, inr, arith}
 use Rattle.qs_syntax.specs.Trees.{DeclTree, UnitTree}
 use Rattle.qs_syntax.specs.Units.{IsRead}
-use Rattle.qs_typing.specs.TypedOf.{typed_tree}
+use Rattle.qs_findings.specs.TypedOf.{typed_tree}
 use Rattle.qs_core.specs.Trees.{CoreUnitTree}
 use Rattle.qs_triples.specs.Derivations.{ProofsTree}
 use Rattle.qs_triples.specs.TreeOf.{proofs_tree}

@@ -5,8 +5,8 @@ use Rattle.qs_ports.specs.StoreView.{StoreView, HasSameCounts, HasFailed}
 use Rattle.qs_ports.specs.Whole.{Stores, IsCutShort}
 use Rattle.qs_triples.specs.Entries.{HasDerivedEntry}
 use Rattle.qs_triples.specs.Filled.{Filled}
-use Rattle.qs_prooftext.specs.Proofs.{no_proofs}
-use Rattle.qs_prooftext.specs.Reading.{Reading}
+use Rattle.qs_prooftext_meaning.specs.Proofs.{no_proofs}
+use Rattle.qs_prooftext_meaning.specs.Reading.{Reading}
 use Rattle.qs_report.specs.declared.fault_texts.Count.{Count}
 use Rattle.qs_report.specs.declared.fault_texts.Count.TheVariants.{Derived}
 use Rattle.qs_driver.specs.Names.{Names, no_names}

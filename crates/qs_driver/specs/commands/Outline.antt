@@ -4,7 +4,7 @@ use Rattle.std.specs.declared.alloc.Global.{Global}
 use Rattle.qs_ports.specs.StoreView.{StoreView}
 use Rattle.qs_core.specs.Trees.{CoreUnitTree}
 use Rattle.qs_core.specs.Outline as core
-use Rattle.qs_elaborate.specs.FitLaws.{HasCore}
+use Rattle.qs_elaborate_laws.specs.FitLaws.{HasCore}
 use Rattle.qs_driver.specs.Names.{Names, no_names}
 use Rattle.qs_driver.specs.Steps.{on_out}
 use Rattle.qs_driver.specs.Due.{Due, refusal, IsRefusal}

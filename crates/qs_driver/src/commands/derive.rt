@@ -11,7 +11,7 @@ use crate::devices::Devices;
 use crate::names::{FileNames, nameless};
 use crate::{Status, WordsFault};
 use qs_ports::{Sink, Store, write_whole};
-use qs_prooftext::write;
+use qs_prooftext_writing::write;
 use qs_report::Count;
 use std::alloc::Global;
 

@@ -1,7 +1,7 @@
 use Rattle.std.proofs.Common.{◌≡◌, ◌++◌, map, drop}
 use Rattle.qs_syntax.specs.TreeOf.{stmts_tree}
 use Rattle.qs_elaborate.specs.DeclaredOf.{declared_of}
-use Rattle.qs_elaborate.specs.Names.{statements_declare}
+use Rattle.qs_elaborate_bodies.specs.Names.{statements_declare}
 use Rattle.qs_elaborate.proofs.declaring.+put_statement.Given as goal
 
 -- those so far are there, and the rest gives the whole

@@ -1,7 +1,7 @@
 use Rattle.std.proofs.Common.{◌≡◌, ◌++◌, map, drop}
 use Rattle.qs_syntax.specs.TreeOf.{variable_tree}
 use Rattle.qs_elaborate.specs.DeclaredOf.{declared_of}
-use Rattle.qs_elaborate.specs.Names.{declared_variable}
+use Rattle.qs_elaborate_bodies.specs.Names.{declared_variable}
 use Rattle.qs_elaborate.proofs.declaring.put_variables.Given as goal
 
 -- those so far are there, and the rest gives the whole

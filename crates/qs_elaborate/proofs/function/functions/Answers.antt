@@ -1,9 +1,9 @@
 use Rattle.std.proofs.Common.{◌+◌, ◌<◌, [], ◌∷◌, ◌++◌, length, map, drop, get_or, ap, sym, ◌∙◌, append_assoc, arith}
 use Rattle.std.proofs.lemmas.List.{length-map, get_or-map, map_push}
 use Rattle.qs_core.specs.TreeOf.{function_tree}
-use Rattle.qs_typed.specs.TreeOf as typed
+use Rattle.qs_typed_trees.specs.TreeOf as typed
 use Rattle.qs_elaborate.specs.NamesOf.{names_of}
-use Rattle.qs_elaborate.specs.Units.{no_names, function_core, functions_core}
+use Rattle.qs_elaborate_bodies.specs.Units.{no_names, function_core, functions_core}
 use Rattle.qs_elaborate.proofs.Steps.{functions_step}
 use Rattle.qs_elaborate.proofs.function.functions.Goals as goal
 

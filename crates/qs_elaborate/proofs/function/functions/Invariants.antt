@@ -1,8 +1,8 @@
 use Rattle.std.proofs.Common.{◌≡◌, ◌++◌, map, drop}
 use Rattle.qs_core.specs.TreeOf.{function_tree}
-use Rattle.qs_typed.specs.TreeOf as typed
+use Rattle.qs_typed_trees.specs.TreeOf as typed
 use Rattle.qs_elaborate.specs.NamesOf.{names_of}
-use Rattle.qs_elaborate.specs.Units.{functions_core}
+use Rattle.qs_elaborate_bodies.specs.Units.{functions_core}
 use Rattle.qs_elaborate.proofs.function.functions.Given as goal
 
 -- those so far are done, and the rest gives the whole

@@ -1,6 +1,6 @@
 use Rattle.std.proofs.Common.{◌≡◌, ◌++◌, map, drop}
 use Rattle.qs_core.specs.TreeOf.{parameter_tree}
-use Rattle.qs_elaborate.specs.Units.{named_parameters}
+use Rattle.qs_elaborate_bodies.specs.Units.{named_parameters}
 use Rattle.qs_elaborate.proofs.function.named_parameters.Given as goal
 
 -- those so far are named, and the rest gives the whole

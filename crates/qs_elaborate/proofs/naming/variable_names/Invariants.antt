@@ -1,5 +1,5 @@
 use Rattle.std.proofs.Common.{◌≡◌, [], map, take}
-use Rattle.qs_elaborate.specs.Names.{name_at}
+use Rattle.qs_elaborate_bodies.specs.Names.{name_at}
 use Rattle.qs_elaborate.specs.NamesOf.{variable_name_of}
 use Rattle.qs_elaborate.specs.DeclaredOf.{declared_of}
 use Rattle.qs_elaborate.proofs.naming.variable_names.Given as goal

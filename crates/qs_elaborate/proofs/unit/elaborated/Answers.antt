@@ -1,13 +1,13 @@
 use Rattle.std.proofs.Common.{◌≡◌, Some, map, ap, sym, ◌∙◌}
 use Rattle.qs_syntax.specs.UnitTrees as source
-use Rattle.qs_typed.specs.TreeOf.{program_tree}
+use Rattle.qs_typed_trees.specs.TreeOf.{program_tree}
 use Rattle.qs_meaning.specs.Runs.{main_from}
-use Rattle.qs_elaborate.specs.Names.{names_in}
+use Rattle.qs_elaborate_bodies.specs.Names.{names_in}
 use Rattle.qs_elaborate.specs.NamesOf.{names_of}
-use Rattle.qs_elaborate.specs.Units.{unit_core}
+use Rattle.qs_elaborate_bodies.specs.Units.{unit_core}
 use Rattle.qs_elaborate.specs.UnitNames.{declarations_named}
 use Rattle.qs_elaborate.proofs.UnitNames.{unit_is_named}
-use Rattle.qs_elaborate.proofs.UnitCores.{core_at, fits_at}
+use Rattle.qs_elaborate_laws.proofs.UnitCores.{core_at, fits_at}
 use Rattle.qs_elaborate.proofs.unit.elaborated.Goals as goal
 
 pub core_unit-requires : goal.core_unit-requires

@@ -1,5 +1,5 @@
 use Rattle.std.proofs.Common.{◌≡◌, map, drop}
-use Rattle.qs_typed.specs.TreeOf.{function_tree}
+use Rattle.qs_typed_trees.specs.TreeOf.{function_tree}
 use Rattle.qs_meaning.specs.Runs.{main_from}
 use Rattle.qs_elaborate.proofs.unit.main_among.Given as goal
 

@@ -1,7 +1,7 @@
 use Rattle.std.proofs.Common.{◌≡◌, ◌++◌, map, drop}
 use Rattle.qs_syntax.specs.Trees.{ParameterTree}
 use Rattle.qs_syntax.specs.TreeOf.{parameter_tree}
-use Rattle.qs_elaborate.specs.Names.{parameter_name}
+use Rattle.qs_elaborate_bodies.specs.Names.{parameter_name}
 use Rattle.qs_elaborate.proofs.unit_names.parameter_names.Given as goal
 
 -- those so far are there, and the rest gives the whole

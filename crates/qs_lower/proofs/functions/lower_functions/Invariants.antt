@@ -1,7 +1,7 @@
 use Rattle.std.proofs.Common.{◌≡◌, ◌++◌, map, drop}
 use Rattle.qs_core.specs.TreeOf as core
 use Rattle.qs_tac.specs.TreeOf.{function_tree}
-use Rattle.qs_lower.specs.Threads.{threaded_function}
+use Rattle.qs_lower_expressions.specs.Threads.{threaded_function}
 use Rattle.qs_lower.specs.Units.{straight_function}
 use Rattle.qs_lower.proofs.functions.lower_functions.Given as goal
 

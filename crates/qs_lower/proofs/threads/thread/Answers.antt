@@ -2,7 +2,7 @@ use Rattle.std.proofs.Common.{◌≡◌, map, length, ap, ◌∙◌, arith}
 use Rattle.std.proofs.lemmas.List.{with_items_is}
 use Rattle.qs_tac.specs.TreeOf.{instruction_tree}
 use Rattle.qs_lower.specs.Leads.{leads_of, follow_leads}
-use Rattle.qs_lower.specs.Threads.{retargeted}
+use Rattle.qs_lower_expressions.specs.Threads.{retargeted}
 use Rattle.qs_lower.proofs.LeadLaws.{threaded_by_leads}
 use Rattle.qs_lower.proofs.threads.thread.Goals as goal
 

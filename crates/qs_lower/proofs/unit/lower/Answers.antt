@@ -3,7 +3,7 @@ use Rattle.qs_core.specs.TreeOf.{data_block_tree}
 use Rattle.qs_core.specs.TreeOf as core
 use Rattle.qs_core.specs.UnitTrees.{unit_tree}
 use Rattle.qs_tac.specs.TreeOf.{function_tree}
-use Rattle.qs_lower.specs.Threads.{threaded_function}
+use Rattle.qs_lower_expressions.specs.Threads.{threaded_function}
 use Rattle.qs_lower.specs.Units.{straight_function, lower_data}
 use Rattle.qs_lower.proofs.LowerLaws.{lowered_is_unit}
 use Rattle.qs_lower.proofs.unit.lower.Goals as goal

@@ -1,7 +1,7 @@
 use Rattle.std.proofs.Common.{inl, map}
 use Rattle.qs_prooftext.specs.CertHeads.{cert_shape, head_view}
-use Rattle.qs_prooftext.specs.Contexts.{setting_of}
-use Rattle.qs_prooftext.specs.Kinds.{a_certificate}
+use Rattle.qs_prooftext_meaning.specs.Contexts.{setting_of}
+use Rattle.qs_prooftext_meaning.specs.Kinds.{a_certificate}
 use Rattle.qs_prooftext.proofs.CertLaws.{takes_its_own}
 use Rattle.qs_prooftext.proofs.HeadLaws.{first_stops, head_goes, head_stops, passed_on}
 use Rattle.qs_prooftext.proofs.PlantLaws.{one_put}

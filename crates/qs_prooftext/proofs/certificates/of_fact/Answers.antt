@@ -1,8 +1,8 @@
 use Rattle.std.proofs.Common.{arith, inl}
 use Rattle.qs_entail.specs.View.{fact_tree}
 use Rattle.qs_prooftext.specs.CertHeads.{cert_shape, head_view}
-use Rattle.qs_prooftext.specs.Contexts.{setting_of}
-use Rattle.qs_prooftext.specs.Kinds.{a_certificate}
+use Rattle.qs_prooftext_meaning.specs.Contexts.{setting_of}
+use Rattle.qs_prooftext_meaning.specs.Kinds.{a_certificate}
 use Rattle.qs_prooftext.proofs.CertLaws.{fact_fails, fact_has, fact_stops, few_leaves}
 use Rattle.qs_prooftext.proofs.HeadLaws.{head_passed}
 use Rattle.qs_prooftext.proofs.certificates.of_fact.Goals as goal

@@ -1,7 +1,7 @@
 use Rattle.std.proofs.Common.{inl, sym, ◌∙◌}
 use Rattle.qs_prooftext.specs.CertHeads.{cert_shape, head_view}
-use Rattle.qs_prooftext.specs.Contexts.{setting_of}
-use Rattle.qs_prooftext.specs.Kinds.{a_certificate}
+use Rattle.qs_prooftext_meaning.specs.Contexts.{setting_of}
+use Rattle.qs_prooftext_meaning.specs.Kinds.{a_certificate}
 use Rattle.qs_prooftext.proofs.CertLaws.{rule_fails, rule_has, rule_stops}
 use Rattle.qs_prooftext.proofs.HeadLaws.{head_passed}
 use Rattle.qs_prooftext.proofs.certificates.of_rule.Goals as goal

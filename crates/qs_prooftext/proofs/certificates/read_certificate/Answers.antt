@@ -1,10 +1,10 @@
 use Rattle.std.proofs.Common.{◌≡◌, ◌∙◌, List, Ok, ap, length, map, sym}
 use Rattle.qs_entail.specs.Certificates.{CertTree}
 use Rattle.qs_prooftext.specs.CertHeads.{cert_shape, head_view}
-use Rattle.qs_prooftext.specs.Contexts.{setting_of}
-use Rattle.qs_prooftext.specs.Kinds.{a_certificate}
+use Rattle.qs_prooftext_meaning.specs.Contexts.{setting_of}
+use Rattle.qs_prooftext_meaning.specs.Kinds.{a_certificate}
 use Rattle.qs_prooftext.specs.declared.heads.CertHead.{CertHead}
-use Rattle.qs_prooftext.proofs.AssertionLaws.{none_left_of, passed_out, some_left}
+use Rattle.qs_prooftext_assertions.proofs.AssertionLaws.{none_left_of, passed_out, some_left}
 use Rattle.qs_prooftext.proofs.HeadLaws.{ends, starts}
 use Rattle.qs_prooftext.proofs.certificates.read_certificate.Goals as goal
 

@@ -1,7 +1,7 @@
 use Rattle.std.proofs.Common.{inl, sym, ◌∙◌}
 use Rattle.qs_prooftext.specs.CertHeads.{cert_shape, head_view}
-use Rattle.qs_prooftext.specs.Contexts.{setting_of}
-use Rattle.qs_prooftext.specs.Kinds.{a_certificate}
+use Rattle.qs_prooftext_meaning.specs.Contexts.{setting_of}
+use Rattle.qs_prooftext_meaning.specs.Kinds.{a_certificate}
 use Rattle.qs_prooftext.proofs.CertLaws.{with_fact, with_none, with_rule}
 use Rattle.qs_prooftext.proofs.HeadLaws.{gives_as}
 use Rattle.qs_prooftext.proofs.certificates.read_head.Goals as goal

@@ -1,7 +1,7 @@
 use Rattle.std.proofs.Common.{inl, map}
 use Rattle.qs_prooftext.specs.DerivationHeads.{derivation_head, derivation_shape}
-use Rattle.qs_prooftext.specs.Contexts.{setting_of}
-use Rattle.qs_prooftext.specs.Kinds.{a_derivation}
+use Rattle.qs_prooftext_meaning.specs.Contexts.{setting_of}
+use Rattle.qs_prooftext_meaning.specs.Kinds.{a_derivation}
 use Rattle.qs_prooftext.proofs.DerivationLaws.{takes_its_own}
 use Rattle.qs_prooftext.proofs.HeadLaws.{first_stops, head_goes, head_stops, passed_on}
 use Rattle.qs_prooftext.proofs.PlantLaws.{one_put}

@@ -1,7 +1,7 @@
 use Rattle.std.proofs.Common.{inl, sym, ◌∙◌}
 use Rattle.qs_prooftext.specs.DerivationHeads.{derivation_head, derivation_shape}
-use Rattle.qs_prooftext.specs.Contexts.{setting_of}
-use Rattle.qs_prooftext.specs.Kinds.{a_derivation}
+use Rattle.qs_prooftext_meaning.specs.Contexts.{setting_of}
+use Rattle.qs_prooftext_meaning.specs.Kinds.{a_derivation}
 use Rattle.qs_prooftext.proofs.DerivationLaws.{statement_fails, statement_has, statement_stops}
 use Rattle.qs_prooftext.proofs.HeadLaws.{head_passed}
 use Rattle.qs_prooftext.proofs.derivations.of_statement.Goals as goal

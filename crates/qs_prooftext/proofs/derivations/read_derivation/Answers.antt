@@ -1,10 +1,10 @@
 use Rattle.std.proofs.Common.{◌≡◌, ◌∙◌, List, Ok, ap, length, map, sym}
 use Rattle.qs_triples.specs.Derivations.{DerivationTree}
 use Rattle.qs_prooftext.specs.DerivationHeads.{derivation_head, derivation_shape}
-use Rattle.qs_prooftext.specs.Contexts.{setting_of}
-use Rattle.qs_prooftext.specs.Kinds.{a_derivation}
+use Rattle.qs_prooftext_meaning.specs.Contexts.{setting_of}
+use Rattle.qs_prooftext_meaning.specs.Kinds.{a_derivation}
 use Rattle.qs_prooftext.specs.declared.statements.DerivationHead.{DerivationHead}
-use Rattle.qs_prooftext.proofs.AssertionLaws.{none_left_of, passed_out, some_left}
+use Rattle.qs_prooftext_assertions.proofs.AssertionLaws.{none_left_of, passed_out, some_left}
 use Rattle.qs_prooftext.proofs.HeadLaws.{ends, starts}
 use Rattle.qs_prooftext.proofs.derivations.read_derivation.Goals as goal
 

@@ -1,11 +1,11 @@
 use Rattle.std.proofs.Common.{length, map}
 use Rattle.qs_sexpr.specs.Trees.{Sexp}
-use Rattle.qs_prooftext.specs.Answers.{Stands}
+use Rattle.qs_prooftext_assertions.specs.Answers.{Stands}
 use Rattle.qs_prooftext.specs.DerivationHeads.{derivation_head, derivation_shape}
-use Rattle.qs_prooftext.specs.Contexts.{setting_of}
+use Rattle.qs_prooftext_meaning.specs.Contexts.{setting_of}
 use Rattle.qs_prooftext.specs.HeadWalks.{HeadsLeft}
-use Rattle.qs_prooftext.specs.Kinds.{a_derivation}
-use Rattle.qs_prooftext.specs.Meanings.{means}
+use Rattle.qs_prooftext_meaning.specs.Kinds.{a_derivation}
+use Rattle.qs_prooftext_meaning.specs.Meanings.{means}
 use Rattle.qs_prooftext.proofs.derivations.read_derivation.Given as goal
 
 abbrev pub invariant-trees : goal.invariant-trees

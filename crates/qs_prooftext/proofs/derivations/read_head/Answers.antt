@@ -1,7 +1,7 @@
 use Rattle.std.proofs.Common.{inl, sym, ◌∙◌}
-use Rattle.qs_prooftext.specs.Contexts.{setting_of}
+use Rattle.qs_prooftext_meaning.specs.Contexts.{setting_of}
 use Rattle.qs_prooftext.specs.DerivationHeads.{derivation_head, derivation_shape}
-use Rattle.qs_prooftext.specs.Kinds.{a_derivation}
+use Rattle.qs_prooftext_meaning.specs.Kinds.{a_derivation}
 use Rattle.qs_prooftext.proofs.DerivationLaws.{with_none, with_statement}
 use Rattle.qs_prooftext.proofs.HeadLaws.{gives_as}
 use Rattle.qs_prooftext.proofs.derivations.read_head.Goals as goal

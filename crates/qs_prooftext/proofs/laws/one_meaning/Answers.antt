@@ -1,4 +1,4 @@
-use Rattle.qs_prooftext.proofs.OneMeaning.{one, one_proofs, one_fault, not_both}
+use Rattle.qs_prooftext_meaning.proofs.OneMeaning.{one, one_proofs, one_fault, not_both}
 use Rattle.qs_prooftext.proofs.laws.one_meaning.Goals as goal
 
 pub returns-clause-one : goal.returns-clause-one

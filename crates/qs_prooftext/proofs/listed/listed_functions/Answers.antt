@@ -2,7 +2,7 @@ use Rattle.std.proofs.Common.{arith, Bool, List, length, sym, ap, subst}
 use Rattle.qs_callgraph.proofs.MemberLaws.{written_back}
 use Rattle.qs_core.specs.UnitTrees.{unit_tree}
 use Rattle.qs_prooftext.specs.Listed.{ListsLeft, Marks}
-use Rattle.qs_prooftext.specs.Proofs.{entry_names_of}
+use Rattle.qs_prooftext_meaning.specs.Proofs.{entry_names_of}
 use Rattle.qs_prooftext.proofs.ListedLaws.{lists_end, lists_go}
 use Rattle.qs_prooftext.proofs.listed.listed_functions.Goals as goal
 

@@ -1,7 +1,7 @@
 use Rattle.std.proofs.Common.{◌≡◌, length}
 use Rattle.qs_core.specs.UnitTrees.{unit_tree}
 use Rattle.qs_sexpr.specs.Trees.{Sexps}
-use Rattle.qs_prooftext.specs.Answers.{StandAll}
+use Rattle.qs_prooftext_assertions.specs.Answers.{StandAll}
 use Rattle.qs_prooftext.specs.Listed.{ListsLeft}
 use Rattle.qs_prooftext.proofs.listed.listed_functions.Given as goal
 

@@ -1,7 +1,7 @@
 use Rattle.std.proofs.Common.{◌≤◌, ℕ, List, length}
 use Rattle.qs_sexpr.specs.Trees.{Sexps}
-use Rattle.qs_prooftext.specs.Answers.{StandAll}
-use Rattle.qs_prooftext.specs.Firsts.{tails}
+use Rattle.qs_prooftext_assertions.specs.Answers.{StandAll}
+use Rattle.qs_prooftext_assertions.specs.Firsts.{tails}
 use Rattle.qs_prooftext.proofs.lists.skipped.Given as goal
 
 abbrev pub invariant-loop-i : goal.invariant-loop-i

@@ -4,7 +4,7 @@ use Rattle.qs_callgraph.specs.CallLists.{flag}
 use Rattle.qs_callgraph.specs.Opens.{AreOf, TellsOpen}
 use Rattle.qs_core.specs.TreeOf.{function_tree}
 use Rattle.qs_core.specs.UnitTrees.{unit_tree}
-use Rattle.qs_prooftext.specs.Proofs.{has_list}
+use Rattle.qs_prooftext_meaning.specs.Proofs.{has_list}
 use Rattle.qs_prooftext.proofs.ReadLaws.{all_stand, reads, stops}
 use Rattle.qs_prooftext.proofs.reading.read_lists.Goals as goal
 

@@ -1,7 +1,7 @@
 use Rattle.qs_entail.specs.View.{cert_tree}
-use Rattle.qs_prooftext.specs.Contexts.{setting_of}
-use Rattle.qs_prooftext.specs.Kinds.{a_certificate}
-use Rattle.qs_prooftext.proofs.FirstLaws.{first_gives, first_tree}
+use Rattle.qs_prooftext_meaning.specs.Contexts.{setting_of}
+use Rattle.qs_prooftext_meaning.specs.Kinds.{a_certificate}
+use Rattle.qs_prooftext_assertions.proofs.FirstLaws.{first_gives, first_tree}
 use Rattle.qs_prooftext.proofs.statements.first_certificate.Goals as goal
 
 pub read_certificate-requires : goal.read_certificate-requires

@@ -1,8 +1,8 @@
 use Rattle.std.proofs.Common.{true, false, List, ℕ, inl, refl, sym, subst}
-use Rattle.qs_prooftext.specs.Answers.{StandAll}
-use Rattle.qs_prooftext.specs.Contexts.{setting_of}
+use Rattle.qs_prooftext_assertions.specs.Answers.{StandAll}
+use Rattle.qs_prooftext_meaning.specs.Contexts.{setting_of}
 use Rattle.qs_prooftext.specs.Tops.{sofar_of}
-use Rattle.qs_prooftext.proofs.AssertionLaws.{passed_out}
+use Rattle.qs_prooftext_assertions.proofs.AssertionLaws.{passed_out}
 use Rattle.qs_prooftext.proofs.TopLaws.{define_done, define_stops, define_twice, names_known}
 use Rattle.qs_prooftext.proofs.tops.define.Goals as goal
 

@@ -1,4 +1,4 @@
-use Rattle.qs_prooftext.proofs.FirstLaws.{first_tree}
+use Rattle.qs_prooftext_assertions.proofs.FirstLaws.{first_tree}
 use Rattle.qs_prooftext.proofs.tops.first_definition.Goals as goal
 
 pub read_definition-requires : goal.read_definition-requires

@@ -1,7 +1,7 @@
 use Rattle.std.proofs.Common.{map, ap, ◌∙◌}
 use Rattle.qs_core.specs.TreeOf.{function_tree}
-use Rattle.qs_prooftext.specs.Contexts.{word_view}
-use Rattle.qs_prooftext.specs.Settings.{Setting}
+use Rattle.qs_prooftext_meaning.specs.Contexts.{word_view}
+use Rattle.qs_prooftext_meaning.specs.Settings.{Setting}
 use Rattle.qs_prooftext.specs.Tops.{entry_parts_mean, parts_view}
 use Rattle.qs_prooftext.proofs.TopLaws.{gives_same, new_setting}
 use Rattle.qs_prooftext.proofs.tops.new_entry.Goals as goal

@@ -1,6 +1,6 @@
-use Rattle.qs_prooftext.specs.Firsts.{tail}
+use Rattle.qs_prooftext_assertions.specs.Firsts.{tail}
 use Rattle.qs_prooftext.specs.Tops.{parts_view}
-use Rattle.qs_prooftext.proofs.AssertionLaws.{passed_out}
+use Rattle.qs_prooftext_assertions.proofs.AssertionLaws.{passed_out}
 use Rattle.qs_prooftext.proofs.TopLaws.{body_stops}
 use Rattle.qs_prooftext.proofs.tops.read_entry.Goals as goal
 

@@ -1,5 +1,5 @@
 use Rattle.qs_prooftext.specs.Tops.{sofar_of}
-use Rattle.qs_prooftext.proofs.AssertionLaws.{has_parts}
+use Rattle.qs_prooftext_assertions.proofs.AssertionLaws.{has_parts}
 use Rattle.qs_prooftext.proofs.TopLaws.{top_headed}
 use Rattle.qs_prooftext.proofs.tops.read_top.Goals as goal
 

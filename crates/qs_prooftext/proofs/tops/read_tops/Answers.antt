@@ -1,7 +1,7 @@
 use Rattle.std.proofs.Common.{◌∙◌, Ok, map, sym}
 use Rattle.qs_triples.specs.TreeOf.{entry_tree}
 use Rattle.qs_prooftext.specs.Tops.{proofs_so_far, sofar_of}
-use Rattle.qs_prooftext.proofs.AssertionLaws.{passed_out}
+use Rattle.qs_prooftext_assertions.proofs.AssertionLaws.{passed_out}
 use Rattle.qs_prooftext.proofs.TopLaws.{tops_end, tops_first, tops_go, tops_stop}
 use Rattle.qs_prooftext.proofs.tops.read_tops.Goals as goal
 

@@ -1,8 +1,8 @@
 use Rattle.std.proofs.Common.{length}
 use Rattle.qs_core.specs.UnitTrees.{unit_tree}
 use Rattle.qs_sexpr.specs.Trees.{Sexps}
-use Rattle.qs_prooftext.specs.Answers.{StandAll}
-use Rattle.qs_prooftext.specs.Proofs.{file_means}
+use Rattle.qs_prooftext_assertions.specs.Answers.{StandAll}
+use Rattle.qs_prooftext_meaning.specs.Proofs.{file_means}
 use Rattle.qs_prooftext.specs.Tops.{TopsLeft, open_in, sofar_of}
 use Rattle.qs_prooftext.proofs.tops.read_tops.Given as goal
 

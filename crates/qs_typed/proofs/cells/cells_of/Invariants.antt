@@ -1,6 +1,6 @@
 use Rattle.std.proofs.Common.{◌≡◌, ◌++◌, map, drop}
 use Rattle.qs_typed.specs.CellsOf.{cell_tree}
-use Rattle.qs_typed.specs.TreeOf.{contents_cells}
+use Rattle.qs_typed_trees.specs.TreeOf.{contents_cells}
 use Rattle.qs_typed.proofs.cells.cells_of.Given as goal
 
 abbrev pub invariant-loop-d : goal.invariant-loop-d

@@ -2,7 +2,7 @@ use Rattle.std.proofs.Common.{◌≡◌, ◌++◌, map}
 use Rattle.qs_memory.specs.Memory.{times, parts_of}
 use Rattle.qs_memory.specs.Values.{null}
 use Rattle.qs_typed.specs.CellsOf.{cell_tree}
-use Rattle.qs_typed.specs.TreeOf.{pointer_width}
+use Rattle.qs_typed_trees.specs.TreeOf.{pointer_width}
 use Rattle.qs_typed.proofs.cells.push_nulls.Given as goal
 
 abbrev pub invariant-loop : goal.invariant-loop

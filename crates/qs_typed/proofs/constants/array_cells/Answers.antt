@@ -5,7 +5,7 @@ use Rattle.qs_syntax.specs.TreeOf.{expr_tree}
 use Rattle.qs_types.specs.TypeOf.{type_tree}
 use Rattle.qs_typed.specs.CellsOf.{cell_tree}
 use Rattle.qs_typed.proofs.DataOrder.{text_taken}
-use Rattle.qs_typed.proofs.Loops.{pushed}
+use Rattle.qs_typed_bodies.proofs.Loops.{pushed}
 use Rattle.qs_typed.proofs.constants.array_cells.Goals as goal
 
 pub returns : goal.returns

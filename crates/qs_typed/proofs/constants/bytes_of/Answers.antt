@@ -2,7 +2,7 @@ use Rattle.std.proofs.Common.{map}
 use Rattle.qs_memory.specs.Memory.{bytes_of}
 use Rattle.qs_typed.specs.CellsOf.{cell_tree}
 use Rattle.qs_typed.proofs.DataOrder.{byte_more}
-use Rattle.qs_typed.proofs.Loops.{pushed}
+use Rattle.qs_typed_bodies.proofs.Loops.{pushed}
 use Rattle.qs_typed.proofs.constants.bytes_of.Goals as goal
 
 pub loop-preserved : goal.loop-preserved

@@ -1,7 +1,7 @@
 use Rattle.std.proofs.Common.{◌≡◌, map, option_map, drop}
 use Rattle.qs_types.specs.TypeOf.{type_tree}
-use Rattle.qs_typed.specs.KnownFunctions.{with_parameters}
-use Rattle.qs_typed.specs.PlacesOf.{locals_tree}
+use Rattle.qs_typed_bodies.specs.KnownFunctions.{with_parameters}
+use Rattle.qs_typed_bodies.specs.PlacesOf.{locals_tree}
 use Rattle.qs_typed.proofs.functions.place_parameters.Given as goal
 
 abbrev pub invariant-loop-node : goal.invariant-loop-node

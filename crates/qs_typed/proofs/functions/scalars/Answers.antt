@@ -3,9 +3,9 @@ use Rattle.qs_memory.specs.Partial.{◌>>=◌}
 use Rattle.qs_types.specs.TypeOf.{type_tree}
 use Rattle.qs_meaning.specs.Conversions.{scalar_of}
 use Rattle.qs_meaning.specs.Units.{scalars_of}
-use Rattle.qs_typed.specs.Known.{at_number}
-use Rattle.qs_typed.specs.KnownFunctions.{local_at, locals_at}
-use Rattle.qs_typed.proofs.Loops.{drop_got, turn, finish, all_elements, scalars_one}
+use Rattle.qs_typed_bodies.specs.Known.{at_number}
+use Rattle.qs_typed_bodies.specs.KnownFunctions.{local_at, locals_at}
+use Rattle.qs_typed_bodies.proofs.Loops.{drop_got, turn, finish, all_elements, scalars_one}
 use Rattle.qs_typed.proofs.functions.scalars.Goals as goal
 
 pub loop-i-preserved : goal.loop-i-preserved

@@ -1,8 +1,8 @@
 use Rattle.std.proofs.Common.{◌≡◌, ◌∷◌, map, option_map, drop}
 use Rattle.qs_types.specs.TypeOf.{type_tree}
 use Rattle.qs_meaning.specs.Units.{scalars_of}
-use Rattle.qs_typed.specs.Behind.{behind}
-use Rattle.qs_typed.specs.KnownFunctions.{locals_at}
+use Rattle.qs_typed_bodies.specs.Behind.{behind}
+use Rattle.qs_typed_bodies.specs.KnownFunctions.{locals_at}
 use Rattle.qs_typed.proofs.functions.scalars.Given as goal
 
 abbrev pub invariant-loop-i : goal.invariant-loop-i

@@ -4,9 +4,9 @@ use Rattle.qs_types.specs.EnvOf.{env_tree}
 use Rattle.qs_types.specs.TypeOf.{type_tree}
 use Rattle.qs_types.specs.Layout.{size_of}
 use Rattle.qs_meaning.specs.Units.{sizes_of}
-use Rattle.qs_typed.specs.Known.{at_number}
-use Rattle.qs_typed.specs.KnownFunctions.{locals_at}
-use Rattle.qs_typed.proofs.Loops.{drop_got, turn, finish, all_elements}
+use Rattle.qs_typed_bodies.specs.Known.{at_number}
+use Rattle.qs_typed_bodies.specs.KnownFunctions.{locals_at}
+use Rattle.qs_typed_bodies.proofs.Loops.{drop_got, turn, finish, all_elements}
 use Rattle.qs_typed.proofs.functions.sizes.Goals as goal
 
 pub loop-i-preserved : goal.loop-i-preserved

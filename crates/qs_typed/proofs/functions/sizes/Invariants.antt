@@ -2,8 +2,8 @@ use Rattle.std.proofs.Common.{◌≡◌, ◌∷◌, map, option_map, drop}
 use Rattle.qs_types.specs.EnvOf.{env_tree}
 use Rattle.qs_types.specs.TypeOf.{type_tree}
 use Rattle.qs_meaning.specs.Units.{sizes_of}
-use Rattle.qs_typed.specs.Behind.{behind}
-use Rattle.qs_typed.specs.KnownFunctions.{locals_at}
+use Rattle.qs_typed_bodies.specs.Behind.{behind}
+use Rattle.qs_typed_bodies.specs.KnownFunctions.{locals_at}
 use Rattle.qs_typed.proofs.functions.sizes.Given as goal
 
 abbrev pub invariant-loop-i : goal.invariant-loop-i

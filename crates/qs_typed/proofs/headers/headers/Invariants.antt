@@ -1,7 +1,7 @@
 use Rattle.std.proofs.Common.{◌≡◌, [], map, option_map, drop}
 use Rattle.qs_syntax.specs.TreeOf.{decl_tree}
 use Rattle.qs_types.specs.TypeOf.{type_tree}
-use Rattle.qs_typed.specs.KnownOf.{headers_tree}
+use Rattle.qs_typed_bodies.specs.KnownOf.{headers_tree}
 use Rattle.qs_typed.specs.KnownUnits.{headers_behind}
 use Rattle.qs_typed.proofs.headers.headers.Given as goal
 

@@ -2,8 +2,8 @@ use Rattle.std.proofs.Common.{Some, map, option_map, sym, ap, ◌∙◌}
 use Rattle.qs_syntax.specs.TreeOf.{function_tree, parameter_tree}
 use Rattle.qs_types.specs.TypeOf.{type_tree}
 use Rattle.qs_meaning.specs.Units.{scalars_of}
-use Rattle.qs_typed.specs.KnownFunctions.{locals_at, parameters_nodes}
-use Rattle.qs_typed.specs.KnownOf.{headers_tree}
+use Rattle.qs_typed_bodies.specs.KnownFunctions.{locals_at, parameters_nodes}
+use Rattle.qs_typed_bodies.specs.KnownOf.{headers_tree}
 use Rattle.qs_typed.proofs.HeaderTables.{noted}
 use Rattle.qs_typed.proofs.headers.note_header.Goals as goal
 

@@ -4,9 +4,9 @@ use Rattle.qs_syntax.specs.TreeOf.{parameter_tree}
 use Rattle.qs_types.specs.TypeOf.{type_tree}
 use Rattle.qs_meaning.specs.Conversions.{scalar_of}
 use Rattle.qs_meaning.specs.Units.{scalars_of}
-use Rattle.qs_typed.specs.Known.{at_number}
-use Rattle.qs_typed.specs.KnownFunctions.{local_at, locals_at, parameters_nodes}
-use Rattle.qs_typed.proofs.Loops.{drop_item, turn, finish, all_elements, scalars_one}
+use Rattle.qs_typed_bodies.specs.Known.{at_number}
+use Rattle.qs_typed_bodies.specs.KnownFunctions.{local_at, locals_at, parameters_nodes}
+use Rattle.qs_typed_bodies.proofs.Loops.{drop_item, turn, finish, all_elements, scalars_one}
 use Rattle.qs_typed.proofs.headers.parameter_scalars.Goals as goal
 
 pub loop-p-preserved : goal.loop-p-preserved

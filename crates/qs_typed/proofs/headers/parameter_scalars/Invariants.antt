@@ -2,8 +2,8 @@ use Rattle.std.proofs.Common.{◌≡◌, ◌∷◌, map, option_map, drop}
 use Rattle.qs_syntax.specs.TreeOf.{parameter_tree}
 use Rattle.qs_types.specs.TypeOf.{type_tree}
 use Rattle.qs_meaning.specs.Units.{scalars_of}
-use Rattle.qs_typed.specs.Behind.{behind}
-use Rattle.qs_typed.specs.KnownFunctions.{locals_at, parameters_nodes}
+use Rattle.qs_typed_bodies.specs.Behind.{behind}
+use Rattle.qs_typed_bodies.specs.KnownFunctions.{locals_at, parameters_nodes}
 use Rattle.qs_typed.proofs.headers.parameter_scalars.Given as goal
 
 abbrev pub invariant-loop-p : goal.invariant-loop-p

@@ -1,8 +1,8 @@
 use Rattle.std.proofs.Common.{[], ◌∷◌, Some, map, refl, ap, ◌∙◌}
 use Rattle.qs_syntax.specs.TreeOf.{parameter_tree}
-use Rattle.qs_typed.specs.KnownFunctions.{parameter_known, parameters_known}
-use Rattle.qs_typed.specs.KnownOf.{known_tree}
-use Rattle.qs_typed.proofs.Loops.{drop_item, turn, finish, all_elements}
+use Rattle.qs_typed_bodies.specs.KnownFunctions.{parameter_known, parameters_known}
+use Rattle.qs_typed_bodies.specs.KnownOf.{known_tree}
+use Rattle.qs_typed_bodies.proofs.Loops.{drop_item, turn, finish, all_elements}
 use Rattle.qs_typed.proofs.locals.parameters.Goals as goal
 
 pub loop-p-preserved : goal.loop-p-preserved

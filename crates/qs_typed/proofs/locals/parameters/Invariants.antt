@@ -1,8 +1,8 @@
 use Rattle.std.proofs.Common.{◌≡◌, ◌∷◌, map, drop}
 use Rattle.qs_syntax.specs.TreeOf.{parameter_tree}
-use Rattle.qs_typed.specs.Behind.{behind}
-use Rattle.qs_typed.specs.KnownFunctions.{parameters_known}
-use Rattle.qs_typed.specs.KnownOf.{known_tree}
+use Rattle.qs_typed_bodies.specs.Behind.{behind}
+use Rattle.qs_typed_bodies.specs.KnownFunctions.{parameters_known}
+use Rattle.qs_typed_bodies.specs.KnownOf.{known_tree}
 use Rattle.qs_typed.proofs.locals.parameters.Given as goal
 
 abbrev pub invariant-loop-p : goal.invariant-loop-p

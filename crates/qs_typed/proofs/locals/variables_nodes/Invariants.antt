@@ -1,6 +1,6 @@
 use Rattle.std.proofs.Common.{◌≡◌, ◌++◌, map, drop}
 use Rattle.qs_syntax.specs.TreeOf.{variable_tree}
-use Rattle.qs_typed.specs.KnownFunctions.{variables_nodes}
+use Rattle.qs_typed_bodies.specs.KnownFunctions.{variables_nodes}
 use Rattle.qs_typed.proofs.locals.variables_nodes.Given as goal
 
 abbrev pub invariant-loop-v : goal.invariant-loop-v

@@ -1,9 +1,9 @@
 use Rattle.std.proofs.Common.{◌≡◌, map, drop}
 use Rattle.qs_syntax.specs.TreeOf.{variable_tree}
-use Rattle.qs_typed.specs.Behind.{followed}
+use Rattle.qs_typed_bodies.specs.Behind.{followed}
 use Rattle.qs_typed.specs.KnownBlocks.{file_variables_known}
 use Rattle.qs_typed.specs.TablesOf.{tables_tree}
-use Rattle.qs_typed.specs.TreeOf.{static_block_tree}
+use Rattle.qs_typed_trees.specs.TreeOf.{static_block_tree}
 use Rattle.qs_typed.proofs.static_data.file_variables.Given as goal
 
 abbrev pub invariant-loop-v : goal.invariant-loop-v

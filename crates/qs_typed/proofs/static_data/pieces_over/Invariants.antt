@@ -1,7 +1,7 @@
 use Rattle.std.proofs.Common.{◌≡◌, map, drop}
 use Rattle.qs_typed.specs.CellsOf.{cell_tree}
 use Rattle.qs_typed.specs.KnownBlocks.{pieces_over_known}
-use Rattle.qs_typed.specs.PieceOf.{piece_tree}
+use Rattle.qs_typed_bodies.specs.PieceOf.{piece_tree}
 use Rattle.qs_typed.specs.TablesOf.{tables_tree}
 use Rattle.qs_typed.proofs.static_data.pieces_over.Given as goal
 

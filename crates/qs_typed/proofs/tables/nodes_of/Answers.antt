@@ -1,5 +1,5 @@
 use Rattle.std.proofs.Common.{◌++◌, ◌∷◌, [], drop, ◌+◌, sym, ap, ◌∙◌, append_assoc}
-use Rattle.qs_typed.proofs.Loops.{drop_got}
+use Rattle.qs_typed_bodies.proofs.Loops.{drop_got}
 use Rattle.qs_typed.proofs.tables.nodes_of.Goals as goal
 
 pub loop-i-preserved : goal.loop-i-preserved

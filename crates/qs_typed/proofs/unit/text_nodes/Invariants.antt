@@ -1,5 +1,5 @@
 use Rattle.std.proofs.Common.{◌≡◌, ◌++◌, drop, map}
-use Rattle.qs_typing.specs.NotedOf.{text_tree}
+use Rattle.qs_findings.specs.NotedOf.{text_tree}
 use Rattle.qs_typed.specs.TablesOf.{text_nodes}
 use Rattle.qs_typed.proofs.unit.text_nodes.Given as goal
 

@@ -1,7 +1,7 @@
 use Rattle.std.proofs.Common.{◌≡◌, rules, refl, sym, subst, Some}
 use Rattle.std.specs.declared.alloc.Global.{Global}
 use Rattle.std.specs.declared.vec.Vec.{Vec}
-use Rattle.qs_lower.specs.Plans.{expr_code}
+use Rattle.qs_lower_expressions.specs.Plans.{expr_code}
 use Rattle.qs_lower.specs.StmtPlans.{stmt_part, test_at_end, tested_of}
 use Rattle.qs_lower.specs.declared.stmt_plans.StmtPlan.{StmtPlan, the_lemmas}
 use Rattle.qs_lower.specs.declared.stmt_plans.StmtPlan.TheViews as plans

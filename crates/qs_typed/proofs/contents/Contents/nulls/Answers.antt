@@ -1,7 +1,7 @@
 use Rattle.std.proofs.Common.{map}
 use Rattle.qs_memory.specs.Memory.{byte, parts_of}
 use Rattle.qs_memory.specs.Values.{null}
-use Rattle.qs_typed.specs.TreeOf.{contents_cells, pointer_width}
+use Rattle.qs_typed_trees.specs.TreeOf.{contents_cells, pointer_width}
 use Rattle.qs_typed.proofs.DataOrder.{nulls_more}
 use Rattle.qs_typed.proofs.contents.Contents.nulls.Goals as goal
 

@@ -3,7 +3,7 @@ use Rattle.qs_memory.specs.BlankOf.{blank_tree}
 use Rattle.qs_memory.specs.Memory.{blank_cells, byte, parts_of}
 use Rattle.qs_memory.specs.Values.{null}
 use Rattle.qs_typed.specs.CellsOf.{contents_tree}
-use Rattle.qs_typed.specs.TreeOf.{pointer_width}
+use Rattle.qs_typed_trees.specs.TreeOf.{pointer_width}
 use Rattle.qs_typed.proofs.DataOrder.{at_once, nulls_tree, zeros_tree}
 use Rattle.qs_typed.proofs.contents.Contents.run.Goals as goal
 

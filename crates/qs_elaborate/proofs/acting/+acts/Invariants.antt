@@ -1,8 +1,0 @@
-use Rattle.std.proofs.Common.{◌≡◌, drop}
-use Rattle.qs_typed.specs.TreeOf.{effects_tree}
-use Rattle.qs_elaborate.specs.Acting.{effect_acts}
-use Rattle.qs_elaborate.proofs.acting.+acts.Given as goal
-
--- none so far acts
-abbrev pub invariant-any_acts-loop-a : goal.invariant-any_acts-loop-a
-invariant-any_acts-loop-a l = effect_acts (effects_tree l.all) ≡ effect_acts (effects_tree (drop l.a-index l.all))

@@ -1,8 +1,0 @@
-use Rattle.std.proofs.Common.{◌≡◌, drop}
-use Rattle.qs_typed.specs.TreeOf.{arguments_tree}
-use Rattle.qs_elaborate.specs.Acting.{arguments_act}
-use Rattle.qs_elaborate.proofs.acting.arguments_act.Given as goal
-
--- none so far acts
-abbrev pub invariant-loop-a : goal.invariant-loop-a
-invariant-loop-a l = arguments_act (arguments_tree l.given) ≡ arguments_act (arguments_tree (drop l.a-index l.given))

@@ -1,5 +1,0 @@
-use Rattle.qs_elaborate.proofs.FitReads.{read_units_have_names}
-use Rattle.qs_elaborate.proofs.laws.read_units_have_names.Goals as goal
-
-pub returns : goal.returns
-returns c = read_units_have_names

@@ -1,5 +1,0 @@
-use Rattle.qs_elaborate.proofs.CountedUnits.{source_words_are_few}
-use Rattle.qs_elaborate.proofs.laws.source_words_are_few.Goals as goal
-
-pub returns : goal.returns
-returns c = source_words_are_few

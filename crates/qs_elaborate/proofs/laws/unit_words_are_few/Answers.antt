@@ -1,5 +1,0 @@
-use Rattle.qs_elaborate.proofs.WordFunctions.{unit_words_are_few}
-use Rattle.qs_elaborate.proofs.laws.unit_words_are_few.Goals as goal
-
-pub returns : goal.returns
-returns c = unit_words_are_few

@@ -1,5 +1,0 @@
-use Rattle.qs_elaborate.proofs.WordFunctions.{words_are_few}
-use Rattle.qs_elaborate.proofs.laws.words_are_few.Goals as goal
-
-pub returns : goal.returns
-returns c = words_are_few

@@ -1,0 +1,14 @@
+use Rattle.std.proofs.Common.{◌≡◌, ◌++◌, map, drop}
+use Rattle.qs_core.specs.TreeOf.{core_stmt}
+use Rattle.qs_typed_trees.specs.TreeOf.{statements_tree}
+use Rattle.qs_elaborate_bodies.specs.Statements.{statements_core}
+use Rattle.qs_elaborate_bodies.proofs.statement.+statement.Given as goal
+
+-- those so far are pushed, and the rest gives the whole
+abbrev pub invariant-statements-loop-s : goal.invariant-statements-loop-s
+invariant-statements-loop-s l = record {
+  statements :
+      map core_stmt l.out.items ++ (statements_core (statements_tree (drop l.s-index l.ss)) l.ts.items).statements
+      ≡ map core_stmt l.initial.out.items ++ (statements_core (statements_tree l.ss) l.initial.ts.items).statements;
+  temporaries : (statements_core (statements_tree (drop l.s-index l.ss)) l.ts.items).temporaries ≡ (statements_core (statements_tree l.ss) l.initial.ts.items).temporaries;
+}

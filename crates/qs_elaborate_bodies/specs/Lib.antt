@@ -1,0 +1,16 @@
+pub mod Literals
+pub mod LiteralOf
+pub mod Acting
+pub mod Parts
+pub mod LocationOf
+pub mod Expressions
+pub mod Statements
+pub mod Names
+pub mod Data
+pub mod Units
+pub mod Laws
+pub mod Lists
+pub mod Reserved
+pub mod Turns
+pub mod Results
+pub mod CoreOf

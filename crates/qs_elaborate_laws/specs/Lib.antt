@@ -1,0 +1,4 @@
+pub mod FitLaws
+pub mod Counts
+pub mod ExpressionCounts
+pub mod SizeLaws

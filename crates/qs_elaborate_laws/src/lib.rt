@@ -1,0 +1,10 @@
+//! The laws of the core of whole units: it runs as the source does, fits, and has few values and
+//! words.
+#![tactic(auto)]
+
+mod laws;
+
+pub use laws::{
+    acts_exactly, core_fits, core_follows, main_follows, read_units_have_names, unit_words_are_few,
+    units_have_cores, values_are_few, words_are_few,
+};

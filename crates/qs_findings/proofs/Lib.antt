@@ -1,0 +1,19 @@
+pub mod Sets
+pub mod LatestPlaces
+pub mod Tags
+pub mod LeastFaults
+pub mod FirstFaults
+pub mod Walks
+pub mod FindingOrder
+pub mod MemberLookups
+pub mod ScopeEnds
+pub mod AddedFindings
+pub mod Blocks
+pub mod Causes
+pub mod NameFindings
+pub mod Numbers
+pub mod LatestHeaders
+pub mod TypedLaws
+mod ExampleTrees
+pub mod RefusalExamples
+pub mod NodeExamples

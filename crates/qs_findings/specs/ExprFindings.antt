@@ -1,0 +1,93 @@
+-- What an expression adds to what is found.
+use Rattle.std.specs.Prelude.{ℕ, List, [], ◌∷◌, ◌++◌, Option, Some, None, if◌then◌else◌}
+use Rattle.qs_syntax.specs.declared.nodes.Node.{Node}
+use Rattle.qs_syntax.specs.Trees.{ExprTree, expr, ShapeTree, Exprs, no_exprs, expr_and}
+use Rattle.qs_syntax.specs.Trees as trees
+use Rattle.qs_syntax.specs.Sameness.{same_bytes}
+use Rattle.qs_types.specs.GivenFunctions.{putchar_name}
+use Rattle.qs_types.specs.Contexts.{Entity, local_variable, file_variable, function, given, Context, entity_of}
+use Rattle.qs_types.specs.Expressions.{type_of}
+use Rattle.qs_types.specs.ExpressionFaults.{Position, expr_faults, part_faults, all_faults}
+use Rattle.qs_types.specs.Placed.{addressed, shape_addressed, all_addressed}
+use Rattle.qs_findings.specs.declared.entity.Referent.{Referent}
+use Rattle.qs_findings.specs.declared.entity.Referent.TheVariants as referents
+use Rattle.qs_findings.specs.Findings.{Findings}
+
+-- ---- what names stand for
+
+-- which of the functions that are given has this name
+abbrev pub given_referent : List ℕ → Referent
+given_referent x = if same_bytes x putchar_name then referents.PutChar else referents.GetChar
+
+-- of a name, by what is declared under it
+abbrev pub referent : List ℕ → Option Entity → Option Referent
+referent x None = None
+referent x (Some (local_variable node t)) = Some (referents.Local node)
+referent x (Some (file_variable node t)) = Some (referents.File node)
+referent x (Some (function node signature body)) = Some (referents.Function node)
+referent x (Some (given signature)) = Some (given_referent x)
+
+-- of the name of a variable, and of that of a called function
+abbrev pub shape_referent : Context → ShapeTree → Option Referent
+shape_referent c (trees.name x) = referent x (entity_of c x)
+shape_referent c (trees.call f es) = referent f (entity_of c f)
+shape_referent c _ = None
+
+abbrev pub referent_of : Context → ExprTree → Option Referent
+referent_of c (expr node shape) = shape_referent c shape
+
+-- ---- something of each node of an expression, in the order of the text
+
+abbrev pub node_of : ExprTree → Node
+node_of (expr node shape) = node
+
+abbrev mutual
+  pub of_nodes : {A : Type 0} → (ExprTree → A) → ExprTree → List A
+  of_nodes g (expr node shape) = g (expr node shape) ∷ of_parts g shape
+
+  pub of_parts : {A : Type 0} → (ExprTree → A) → ShapeTree → List A
+  of_parts g (trees.constant n u) = []
+  of_parts g (trees.text bytes) = []
+  of_parts g (trees.name x) = []
+  of_parts g (trees.unary operator a) = of_nodes g a
+  of_parts g (trees.step operator a) = of_nodes g a
+  of_parts g (trees.cast n a) = of_nodes g a
+  of_parts g (trees.sizeof_type n) = []
+  of_parts g (trees.sizeof_expr a) = of_nodes g a
+  of_parts g (trees.binary operator a b) = of_nodes g a ++ of_nodes g b
+  of_parts g (trees.assign operator a b) = of_nodes g a ++ of_nodes g b
+  of_parts g (trees.conditional d a b) = of_nodes g d ++ (of_nodes g a ++ of_nodes g b)
+  of_parts g (trees.comma a b) = of_nodes g a ++ of_nodes g b
+  of_parts g (trees.subscript a b) = of_nodes g a ++ of_nodes g b
+  of_parts g (trees.member access a x) = of_nodes g a
+  of_parts g (trees.call f es) = of_all g es
+
+  pub of_all : {A : Type 0} → (ExprTree → A) → Exprs → List A
+  of_all g no_exprs = []
+  of_all g (expr_and e es) = of_nodes g e ++ of_all g es
+
+-- ---- findings
+
+abbrev pub expr_findings : Context → Position → ExprTree → Findings
+expr_findings c p e = record {
+  types = of_nodes (type_of c) e;
+  referents = of_nodes (referent_of c) e;
+  addressed = addressed c e;
+  faults = expr_faults c p e;
+}
+
+abbrev pub part_findings : Context → Position → ShapeTree → Findings
+part_findings c p shape = record {
+  types = of_parts (type_of c) shape;
+  referents = of_parts (referent_of c) shape;
+  addressed = shape_addressed c shape;
+  faults = part_faults c p shape;
+}
+
+abbrev pub all_findings : Context → Exprs → Findings
+all_findings c es = record {
+  types = of_all (type_of c) es;
+  referents = of_all (referent_of c) es;
+  addressed = all_addressed c es;
+  faults = all_faults c es;
+}

@@ -1,0 +1,15 @@
+pub mod ThreadLaws
+pub mod JumpLaws
+pub mod SizeLaws
+pub mod RealisationLaws
+pub mod OperandLaws
+pub mod AddressLaws
+pub mod ValueReal
+pub mod AddressReal
+pub mod OperandReal
+pub mod ExprReal
+pub mod EmissionLaws
+pub mod PlanLaws
+pub mod ExprFits
+pub mod SimpleOperands
+pub mod ExprWords

@@ -1,0 +1,5 @@
+pub mod Exits
+pub mod Operands
+pub mod Expressions
+pub mod Threads
+pub mod Plans

@@ -1,9 +1,0 @@
-use Rattle.std.proofs.Common.{◌≡◌, length}
-use Rattle.qs_grammar.specs.ParseDeclarations.{skip_prefixes}
-use Rattle.qs_parser.proofs.types.skip_prefixes.Given as goal
-
-abbrev pub invariant-loop-rest : goal.invariant-loop-rest
-invariant-loop-rest l = skip_prefixes l.rest ≡ skip_prefixes l.fn.tokens
-
-abbrev pub decreases-loop-rest : goal.decreases-loop-rest
-decreases-loop-rest l = length l.rest

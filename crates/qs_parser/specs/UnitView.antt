@@ -1,0 +1,38 @@
+-- What the code's values stand for, of declarations, statements and units.
+use Rattle.std.specs.Prelude.{ℕ, List, [], Option, Result, option_map, Box}
+use Rattle.std.specs.Borrow.{Bor}
+use Rattle.std.specs.declared.alloc.Global.{Global}
+use Rattle.std.specs.declared.vec.Vec.{Vec}
+use Rattle.qs_vocabulary.specs.declared.terminal.Terminal.{Terminal}
+use Rattle.qs_syntax.specs.declared.statements.Stmt.{Stmt}
+use Rattle.qs_syntax.specs.declared.units.Decl.{Decl}
+use Rattle.qs_syntax.specs.declared.declarations.Parameter.{Parameter}
+use Rattle.qs_syntax.specs.Trees.{unnumbered, ParameterTree, StmtTree, Stmts, DeclTree, function}
+use Rattle.qs_syntax.specs.TreeOf.{parameter_tree, stmt_tree, decl_tree}
+use Rattle.qs_parser_expressions.specs.declared.halt.Halt.{Halt}
+use Rattle.qs_parser.specs.declared.units.Header.{Header}
+use Rattle.qs_grammar.specs.Parse.{Stop}
+use Rattle.qs_parser_expressions.specs.View.{Reads, listed}
+
+-- what is read as a parameter
+abbrev pub ReadsParameter : Result (Parameter × ℕ × Bor (List Terminal)) Halt → Result ((ParameterTree × ℕ) × List Terminal) Stop → Type 0
+ReadsParameter result given = Reads parameter_tree result given
+
+-- a statement in a box of its own, and one that may be there
+abbrev pub boxed_stmt : Box Stmt Global → StmtTree
+boxed_stmt s = stmt_tree s.value
+
+abbrev pub second_tree : Option (Box Stmt Global) → Option StmtTree
+second_tree o = option_map boxed_stmt o
+
+-- the parameters of a header
+abbrev pub parameters_of : Header → List ParameterTree
+parameters_of h = listed parameter_tree h.parameters
+
+-- a function of this header with this body
+abbrev pub function_with : Header → Option Stmts → DeclTree
+function_with h body = function (record { node = unnumbered h.token; result_type = record { base = h.base; stars = h.stars }; name = h.name; parameters = parameters_of h; body = body })
+
+-- all that is read, and how high it is, with nothing left
+abbrev pub unit_of : Vec Decl Global × ℕ → (List DeclTree × ℕ) × List Terminal
+unit_of x = ((listed decl_tree x.0, x.1), [])

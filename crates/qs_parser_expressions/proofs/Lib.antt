@@ -1,0 +1,3 @@
+pub mod CodeExpressions
+pub mod CodeTypes
+pub mod CodeOperations

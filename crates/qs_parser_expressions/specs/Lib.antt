@@ -1,0 +1,4 @@
+pub mod View
+pub mod Nodes
+pub mod Heads
+pub mod Readers

@@ -1,8 +1,0 @@
-use Rattle.std.proofs.Common.{◌∙◌}
-use Rattle.qs_prooftext.proofs.DefinitionLaws.{key_found}
-use Rattle.qs_prooftext.proofs.definitions.Definitions.has.Goals as goal
-
-pub returns : goal.returns
-returns c =
-    let s = c.args.self.now in
-    c.contains.ensures ∙ (key_found c.args.word.now s.names.keys ∙ s.indexed c.args.word.now)

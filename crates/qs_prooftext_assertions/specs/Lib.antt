@@ -1,0 +1,9 @@
+pub mod Answers
+pub mod AssertionWords
+pub mod Flattening
+pub mod AssertionRows
+pub mod Walking
+pub mod Firsts
+pub mod Readers
+pub mod Ranges
+pub mod Facts

@@ -1,0 +1,11 @@
+pub mod Kinds
+pub mod Settings
+pub mod Heads
+pub mod Meanings
+pub mod Proofs
+pub mod Reading
+pub mod Laws
+pub mod Writing
+pub mod Writable
+pub mod Definitions
+pub mod Contexts

@@ -1,0 +1,4 @@
+pub mod PutLaws
+pub mod TreeLaws
+pub mod TokenLaws
+pub mod LayLaws

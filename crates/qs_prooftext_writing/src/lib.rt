@@ -1,0 +1,14 @@
+//! The writing of proof files: the words, lists and atoms of proofs, and their text.
+#![tactic(auto)]
+
+mod certificate_tokens;
+mod derivation_tokens;
+mod fact_tokens;
+mod file_text;
+mod machine_numbers;
+mod naming;
+mod putting;
+mod writing;
+
+pub use file_text::write;
+pub use writing::variable_text;

@@ -1,0 +1,2 @@
+pub mod PunctuatorLaws
+pub mod OperatorLaws

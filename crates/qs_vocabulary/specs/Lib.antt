@@ -1,0 +1,3 @@
+pub mod Punctuators
+pub mod Operators
+pub mod WellFormed

@@ -5,6 +5,7 @@
 mod laws;
 
 pub use laws::{
-    acts_exactly, core_fits, core_follows, main_follows, read_units_have_names, unit_words_are_few,
-    units_have_cores, values_are_few, words_are_few,
+    acts_exactly, core_fits, core_follows, main_follows, nodes_are_of_source,
+    read_units_have_names, source_words_are_few, unit_words_are_few, units_have_cores,
+    values_are_few, words_are_few,
 };

@@ -1,3 +1,4 @@
+pub mod ByteLaws
 pub mod KeywordLaws
 pub mod PositionLaws
 pub mod Variants

@@ -4,7 +4,7 @@ use Rattle.std.proofs.lemmas.Bool.Decides.{nat_tests}
 use Rattle.std.specs.List.{list_any}
 use Rattle.qs_syntax.specs.declared.nodes.Node.{Node}
 use Rattle.qs_syntax.specs.Nodes.{expr_count, unit_count}
-use Rattle.qs_syntax.specs.Sameness.{same_bytes}
+use Rattle.qs_base.specs.Bytes.{same_bytes}
 use Rattle.qs_syntax.specs.Trees.{ExprTree, function, UnitTree}
 use Rattle.qs_types.specs.Contexts.{Context, start_context}
 use Rattle.qs_types.specs.GivenFunctions.{main_name}

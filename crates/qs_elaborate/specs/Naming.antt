@@ -3,7 +3,7 @@ use Rattle.std.specs.Prelude.{◌≡◌, ℕ, ◌+◌, ◌==◌, List, [], ◌�
 use Rattle.std.specs.Map.{update}
 use Rattle.std.specs.Option.{option_or}
 use Rattle.indexmap.specs.IndexMap.{IndexMap, get}
-use Rattle.qs_syntax.specs.Sameness.{same_bytes}
+use Rattle.qs_base.specs.Bytes.{same_bytes}
 use Rattle.qs_elaborate_bodies.specs.Names.{Declared, VariableName, count_of, name_at}
 use Rattle.qs_elaborate.specs.NamesOf.{variable_name_of, no_name}
 use Rattle.qs_elaborate.specs.DeclaredOf.{declared_of}

@@ -3,7 +3,7 @@ use Rattle.std.proofs.Common.{◌≡◌, ◌&&◌, ℕ, suc, ◌==◌, not, Bool
 use Rattle.std.specs.List.{list_all}
 use Rattle.std.proofs.lemmas.List.{map-append, length-map, length-append}
 use Rattle.qs_base.specs.Names.{is_name}
-use Rattle.qs_syntax.specs.Sameness.{same_bytes}
+use Rattle.qs_base.specs.Bytes.{same_bytes}
 use Rattle.qs_syntax.specs.Trees.{ParameterTree, Stmts, FunctionTree}
 use Rattle.qs_syntax.specs.Nodes.{function_nodes}
 use Rattle.qs_memory.specs.declared.scalar.Scalar.{Scalar}

@@ -1,8 +1,8 @@
 -- A well typed unit has a main, which returns an `int` and takes `int` and `unsigned` alone.
 use Rattle.std.proofs.Common.{◌≡◌, ◌⊎◌, inl, inr, ℕ, suc, ◌+◌, ◌||◌, Bool, true, false, List, [], ◌∷◌, ◌++◌, append-nil, length, Option, Some, None, is_some, refl, sym, ap, ◌∙◌, subst, arith, if◌then◌else◌}
 use Rattle.std.specs.List.{slice_get, list_all, list_any}
-use Rattle.qs_syntax.specs.Sameness.{same_bytes}
-use Rattle.qs_syntax.proofs.SamenessLaws.{bytes_exact}
+use Rattle.qs_base.specs.Bytes.{same_bytes}
+use Rattle.qs_base.proofs.ByteLaws.{bytes_exact}
 use Rattle.qs_syntax.specs.declared.types.Base.{Base}
 use Rattle.qs_syntax.specs.Trees.{VariableTree, ParameterTree, Stmts, DeclTree, structure, forward, function, variables, UnitTree}
 use Rattle.qs_memory.specs.Scalars.{is_type, is_promoted}

@@ -1,7 +1,7 @@
 -- A function's name stands for the latest header of that name; putchar and getchar have the types that they are given with.
 use Rattle.std.proofs.Common.{◌≡◌, ℕ, Bool, true, false, List, [], ◌∷◌, ◌++◌, Option, Some, None, is_some, refl, sym, ap, ◌∙◌, subst, append_assoc, append-nil, slice_get, if◌then◌else◌}
 use Rattle.qs_syntax.specs.declared.types.Base.{Base}
-use Rattle.qs_syntax.specs.Sameness.{same_bytes}
+use Rattle.qs_base.specs.Bytes.{same_bytes}
 use Rattle.qs_syntax.specs.Trees.{VariableTree, ParameterTree, StructTree, FunctionTree, structure, forward, function, variables, UnitTree}
 use Rattle.qs_types.specs.Types.{TypeTree, MemberTree}
 use Rattle.qs_types.specs.GivenFunctions.{Signature, putchar_name, putchar_type, getchar_name, getchar_type}
@@ -10,7 +10,7 @@ use Rattle.qs_types.specs.Contexts as contexts
 use Rattle.qs_types.specs.Declarations.{variable_declared}
 use Rattle.qs_types.specs.StatementRules.{after_variable, after_variables, entity_at}
 use Rattle.qs_types.specs.UnitRules.{with_tag, no_members, after_members, has_no_members, define_at, after_struct, declared_function, after_function, context_after, header_of, signature_by, result_type, parameter_types, with_parameter, with_parameters, body_context}
-use Rattle.qs_syntax.proofs.SamenessLaws.{bytes_exact}
+use Rattle.qs_base.proofs.ByteLaws.{bytes_exact}
 use Rattle.qs_findings.specs.LatestHeaders.{FunctionHeader, header_at, headers_from, unit_headers, latest_or, latest, IsLatest, AreLatest, given_type, AreGiven}
 
 -- ---- one header more

@@ -4,7 +4,7 @@ use Rattle.std.specs.List.{list_any}
 use Rattle.std.specs.Cmp.{IsEquivalence}
 use Rattle.std.proofs.lemmas.Cmp.{nat_list_eq_equiv, nat_eq_equiv}
 use Rattle.indexmap.specs.IndexSet.{insert_all, insert_key}
-use Rattle.qs_syntax.specs.Sameness.{same_bytes}
+use Rattle.qs_base.specs.Bytes.{same_bytes}
 use Rattle.qs_syntax.specs.Trees.{structure, forward, function, variables, UnitTree}
 use Rattle.qs_types.specs.Limits.{block_past, local_limit}
 use Rattle.qs_types.specs.Placed.{is_one_of}

@@ -1,7 +1,7 @@
 -- The headers of a unit's functions, and that a function's name stands for the latest header before it: a header is in scope
 -- from its end (C11 6.2.1p7), and later ones declare the same function (6.2.2p2) with a type that is compatible (6.2.7p4).
 use Rattle.std.specs.Prelude.{◌≡◌, ℕ, Bool, List, [], ◌∷◌, ◌++◌, Option, Some, None, if◌then◌else◌}
-use Rattle.qs_syntax.specs.Sameness.{same_bytes}
+use Rattle.qs_base.specs.Bytes.{same_bytes}
 use Rattle.qs_syntax.specs.Trees.{FunctionTree, structure, forward, function, variables, UnitTree}
 use Rattle.qs_types.specs.GivenFunctions.{Signature, putchar_name, putchar_type, getchar_type}
 use Rattle.qs_types.specs.Contexts.{Context, entity_of, start_context}

@@ -1,5 +1,5 @@
 // The immediates, each with the range of its layout (sections 2.2 and 2.3).
-ghost use Rattle.std.specs.Prelude.{◌≡◌, ℕ, ◌<◌, ◌↔◌, IsSome, IfSome};
+ghost use Rattle.std.specs.Prelude.{◌≡◌, ℕ, ◌<◌};
 ghost use Rattle.qs_isa.specs.Ranges.{IsSigned, IsUpper, IsOffset};
 
 use std::marker::Model;
@@ -27,18 +27,6 @@ impl Immediate {
         ensures { result ≡ word }
     {
         Immediate { word }
-    }
-
-    /// The immediate of a word; None where it is out of range.
-    pub fn try_new(word: u32) -> Option<Immediate>
-        ensures valid { IsSome result ↔ IsSigned 12 word }
-        ensures value { IfSome result (λ i. i ≡ word) }
-    {
-        if word.wrapping_add(1 << 11) < 1 << 12 {
-            Some(Immediate { word })
-        } else {
-            None
-        }
     }
 
     /// The word with the sign extended.
@@ -75,18 +63,6 @@ impl UpperImmediate {
         UpperImmediate { word }
     }
 
-    /// The immediate of a word; None where a low bit is set.
-    pub fn try_new(word: u32) -> Option<UpperImmediate>
-        ensures valid { IsSome result ↔ IsUpper word }
-        ensures value { IfSome result (λ i. i ≡ word) }
-    {
-        if word % (1 << 12) == 0 {
-            Some(UpperImmediate { word })
-        } else {
-            None
-        }
-    }
-
     /// The word.
     pub fn word(self) -> u32
         ensures value { result ≡ self }
@@ -119,18 +95,6 @@ impl BranchOffset {
         ensures { result ≡ word }
     {
         BranchOffset { word }
-    }
-
-    /// The offset of a word; None where it is odd or out of range.
-    pub fn try_new(word: u32) -> Option<BranchOffset>
-        ensures valid { IsSome result ↔ IsOffset 13 word }
-        ensures value { IfSome result (λ i. i ≡ word) }
-    {
-        if word.wrapping_add(1 << 12) < 1 << 13 && word % 2 == 0 {
-            Some(BranchOffset { word })
-        } else {
-            None
-        }
     }
 
     /// The word with the sign extended.
@@ -168,18 +132,6 @@ impl JumpOffset {
         JumpOffset { word }
     }
 
-    /// The offset of a word; None where it is odd or out of range.
-    pub fn try_new(word: u32) -> Option<JumpOffset>
-        ensures valid { IsSome result ↔ IsOffset 21 word }
-        ensures value { IfSome result (λ i. i ≡ word) }
-    {
-        if word.wrapping_add(1 << 20) < 1 << 21 && word % 2 == 0 {
-            Some(JumpOffset { word })
-        } else {
-            None
-        }
-    }
-
     /// The word with the sign extended.
     pub fn word(self) -> u32
         ensures value { result ≡ self }
@@ -212,18 +164,6 @@ impl ShiftAmount {
         ensures { result ≡ bits }
     {
         ShiftAmount { bits }
-    }
-
-    /// A shift by this many bits; None from 32 on.
-    pub fn try_new(bits: u8) -> Option<ShiftAmount>
-        ensures valid { IsSome result ↔ (bits < 32) }
-        ensures value { IfSome result (λ a. a ≡ bits) }
-    {
-        if bits < 32 {
-            Some(ShiftAmount { bits })
-        } else {
-            None
-        }
     }
 
     /// The number of bits, 0 to 31.

@@ -1,5 +1,5 @@
 // The registers.
-ghost use Rattle.std.specs.Prelude.{◌≡◌, ℕ, ◌<◌, ◌↔◌, IsSome, IfSome};
+ghost use Rattle.std.specs.Prelude.{◌≡◌, ℕ, ◌<◌};
 
 use std::marker::Model;
 
@@ -62,18 +62,6 @@ impl Register {
         ensures { result ≡ number }
     {
         Register { number }
-    }
-
-    /// The register of this number; None from 32 on.
-    pub fn try_new(number: u8) -> Option<Register>
-        ensures valid { IsSome result ↔ (number < 32) }
-        ensures value { IfSome result (λ r. r ≡ number) }
-    {
-        if number < 32 {
-            Some(Register { number })
-        } else {
-            None
-        }
     }
 
     /// The number, 0 to 31.

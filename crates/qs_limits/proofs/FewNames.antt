@@ -4,8 +4,8 @@ use Rattle.std.specs.Prelude.{bytes_eq}
 use Rattle.std.specs.List.{list_all}
 use Rattle.std.proofs.lemmas.Slice.Eq.{bytes_eq-Decides}
 use Rattle.std.proofs.lemmas.List.Folds.{list_any-append}
-use Rattle.qs_syntax.specs.Sameness.{same_bytes}
-use Rattle.qs_syntax.proofs.SamenessLaws.{bytes_exact}
+use Rattle.qs_base.specs.Bytes.{same_bytes}
+use Rattle.qs_base.proofs.ByteLaws.{bytes_exact}
 use Rattle.qs_syntax.specs.Trees.{Stmts, structure, forward, function, variables, UnitTree}
 use Rattle.qs_types.specs.Contexts.{start_context}
 use Rattle.qs_types.specs.UnitRules.{is_name_in, with_name_once}

@@ -3,8 +3,8 @@ use Rattle.std.proofs.Common.{◌≡◌, ℕ, ◌+◌, nat_lt, nat_le, ◌==◌,
 use Rattle.std.specs.List.{list_all}
 use Rattle.std.proofs.lemmas.Bool.{eq-eqb}
 use Rattle.std.proofs.lemmas.Bool.Decides.{nat_tests}
-use Rattle.qs_syntax.specs.Sameness.{same_bytes}
-use Rattle.qs_syntax.proofs.SamenessLaws.{bytes_exact}
+use Rattle.qs_base.specs.Bytes.{same_bytes}
+use Rattle.qs_base.proofs.ByteLaws.{bytes_exact}
 use Rattle.qs_syntax.specs.Trees.{UnitTree}
 use Rattle.qs_types.specs.Layout.{rounded_up}
 use Rattle.qs_types.specs.Limits.{Block, block_end, block_past, global_limit, text_block, variable_blocks_from, data_blocks, first_past_globals, word_size}

@@ -5,8 +5,8 @@ use Rattle.std.proofs.lemmas.Bool.{eq-eqb}
 use Rattle.std.proofs.lemmas.Bool.Decides.{nat_tests}
 use Rattle.std.proofs.lemmas.List.{map-append, length-append, length-map}
 use Rattle.std.proofs.lemmas.List.Folds.{list_all-append}
-use Rattle.qs_syntax.specs.Sameness.{same_bytes}
-use Rattle.qs_syntax.proofs.SamenessLaws.{bytes_exact}
+use Rattle.qs_base.specs.Bytes.{same_bytes}
+use Rattle.qs_base.proofs.ByteLaws.{bytes_exact}
 use Rattle.qs_syntax.specs.declared.nodes.Node.{Node}
 use Rattle.qs_syntax.specs.declared.types.Base.{Base}
 use Rattle.qs_syntax.specs.Trees.{VariableTree, FunctionTree, Stmts, DeclTree, structure, forward, function, variables, UnitTree}

@@ -1,7 +1,7 @@
 -- The typed tree of an expression (C11 6.5). What type an expression has is said by the typing rules; here it is said what stands in the
 -- typed tree, and there is nothing only where nothing can be written.
 use Rattle.std.specs.Prelude.{ℕ, ◌+◌, Bool, false, List, [], ◌∷◌, Option, Some, None, if◌then◌else◌}
-use Rattle.qs_syntax.specs.Sameness.{same_bytes}
+use Rattle.qs_base.specs.Bytes.{same_bytes}
 use Rattle.qs_syntax.specs.declared.nodes.Node.{Node}
 use Rattle.qs_vocabulary.specs.declared.operators.UnaryOperator.{UnaryOperator}
 use Rattle.qs_vocabulary.specs.declared.operators.UnaryOperator.TheVariants as unaries

@@ -1,6 +1,6 @@
 -- What names, texts and called functions stand for in the typed tree (C11 6.2.1, 6.4.5, 6.5.1, 6.5.2.2).
 use Rattle.std.specs.Prelude.{ℕ, ◌+◌, ◌==◌, Bool, List, [], ◌∷◌, Option, Some, None, length, if◌then◌else◌}
-use Rattle.qs_syntax.specs.Sameness.{same_bytes}
+use Rattle.qs_base.specs.Bytes.{same_bytes}
 use Rattle.qs_types.specs.Types.{TypeTree}
 use Rattle.qs_memory.specs.Partial.{◌>>=◌}
 use Rattle.qs_calls.specs.declared.callee.Callee.{Callee}

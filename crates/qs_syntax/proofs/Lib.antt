@@ -2,5 +2,3 @@ pub mod RelabelLaws
 pub mod NodeLaws
 pub mod NumberingLoops
 pub mod UnitLaws
-pub mod SamenessLaws
-pub mod SamenessOfUnits

@@ -11,5 +11,4 @@ pub mod Sorts
 pub mod WithoutTokens
 pub mod Units
 pub mod UnitTrees
-pub mod Sameness
 pub mod Begins

@@ -1,24 +1,20 @@
-// Declarations (C11 6.7): their trees, whether two are the same, copies, and the numbers of their
+// Declarations (C11 6.7): their trees, copies, and the numbers of their
 // nodes.
 ghost use Rattle.std.specs.Prelude.{◌≡◌, IfOk, OnOk, map};
 ghost use Rattle.qs_syntax.specs.TreeOf.{lengths_tree, declarator_tree, initialiser_tree};
-ghost use Rattle.qs_syntax.specs.TreeOf.{list_tree, initialisers_tree, variable_tree};
+ghost use Rattle.qs_syntax.specs.TreeOf.{list_tree, variable_tree};
 ghost use Rattle.qs_syntax.specs.TreeOf.{declaration_tree, parameter_tree, members_tree};
 ghost use Rattle.qs_syntax.specs.TreeOf.{setting_tree};
-ghost use Rattle.qs_syntax.specs.Sameness.{same_lengths, same_declarator, same_initialiser};
-ghost use Rattle.qs_syntax.specs.Sameness.{same_initialisers, same_variable, same_declaration};
-ghost use Rattle.qs_syntax.specs.Sameness.{same_parameter, same_members, same_setting};
-ghost use Rattle.qs_syntax.specs.Sameness.{same_variables, same_declarators, same_name};
 ghost use Rattle.qs_syntax.specs.Sorts.{HasRoom, Numbers, Counts, Appends, braced_items, braces};
 ghost use Rattle.qs_syntax.specs.Sorts.{brackets, declarations, declarator_list, declarators};
 ghost use Rattle.qs_syntax.specs.Sorts.{initialiser_list, initialisers, member_groups, parameters};
 ghost use Rattle.qs_syntax.specs.Sorts.{settings, variable_list, variables};
 
 use crate::expressions::{
-    Expr, Shape, copy_expr, copy_exprs, number_expr, number_exprs, same_expr, same_exprs,
+    Expr, Shape, copy_expr, copy_exprs, number_expr, number_exprs,
 };
-use crate::nodes::{Node, number_node, same_node};
-use crate::types::{Base, TypeName, same_base, same_type};
+use crate::nodes::{Node, number_node};
+use crate::types::{Base, TypeName};
 use qs_base::{Name, NoMemory};
 use std::alloc::Global;
 use std::mem;
@@ -104,125 +100,6 @@ pub struct Members {
     pub base: Base,
     /// The members, at least one.
     pub declarators: Vec<Declarator>,
-}
-
-// ---- whether two are the same
-
-fn same_lengths(a: &Lengths, b: &Lengths) -> bool
-    ensures { result ≡ same_lengths (lengths_tree a.now) (lengths_tree b.now) }
-{
-    a.is_open == b.is_open && same_exprs(&a.given, &b.given)
-}
-
-fn same_declarator(a: &Declarator, b: &Declarator) -> bool
-    ensures { result ≡ same_declarator (declarator_tree a.now) (declarator_tree b.now) }
-{
-    same_node(a.node, b.node)
-        && a.stars == b.stars
-        && a.name == b.name
-        && same_lengths(&a.lengths, &b.lengths)
-}
-
-#[cycle(same_initialiser)]
-fn same_initialiser(a: &Initialiser, b: &Initialiser) -> bool
-    ensures { result ≡ same_initialiser (initialiser_tree a.now) (initialiser_tree b.now) }
-{
-    match (a, b) {
-        (Initialiser::Value(a), Initialiser::Value(b)) => same_expr(a, b),
-        (Initialiser::List(a), Initialiser::List(b)) => same_list(a, b),
-        _ => false,
-    }
-}
-
-#[cycle(same_initialiser)]
-fn same_list(a: &InitialiserList, b: &InitialiserList) -> bool
-    ensures { result ≡ same_initialiser (list_tree a.now) (list_tree b.now) }
-{
-    same_node(a.node, b.node) && same_initialisers(&a.items, &b.items)
-}
-
-#[cycle(same_initialiser)]
-fn same_initialisers(a: &[Initialiser], b: &[Initialiser]) -> bool
-    ensures { result ≡ same_initialisers (initialisers_tree a.now) (initialisers_tree b.now) }
-{
-    for (i, x) in a.iter().enumerate() {
-        if i == b.len() || !same_initialiser(x, &b[i]) {
-            return false;
-        }
-    }
-    a.len() == b.len()
-}
-
-fn same_option(a: &Option<Initialiser>, b: &Option<Initialiser>) -> bool
-    ensures { result ≡ same_setting (setting_tree a.now) (setting_tree b.now) }
-{
-    match (a, b) {
-        (None, None) => true,
-        (Some(a), Some(b)) => same_initialiser(a, b),
-        _ => false,
-    }
-}
-
-fn same_variable(a: &Variable, b: &Variable) -> bool
-    ensures { result ≡ same_variable (variable_tree a.now) (variable_tree b.now) }
-{
-    same_declarator(&a.declarator, &b.declarator) && same_option(&a.initialiser, &b.initialiser)
-}
-
-fn same_variables(a: &[Variable], b: &[Variable]) -> bool
-    ensures { result ≡ same_variables (map variable_tree a.now) (map variable_tree b.now) }
-{
-    for (i, x) in a.iter().enumerate() {
-        if i == b.len() || !same_variable(x, &b[i]) {
-            return false;
-        }
-    }
-    a.len() == b.len()
-}
-
-/// Whether the two are the same declaration: also the numbers and the tokens of their nodes.
-pub fn same_declaration(a: &Declaration, b: &Declaration) -> bool
-    ensures { result ≡ same_declaration (declaration_tree a.now) (declaration_tree b.now) }
-{
-    same_base(&a.base, &b.base) && same_variables(&a.variables, &b.variables)
-}
-
-fn same_name(a: &Option<Name>, b: &Option<Name>) -> bool
-    ensures { result ≡ same_name a.now b.now }
-{
-    match (a, b) {
-        (None, None) => true,
-        (Some(x), Some(y)) => x == y,
-        _ => false,
-    }
-}
-
-/// Whether the two are the same parameter: also the numbers and the tokens of nodes.
-pub fn same_parameter(a: &Parameter, b: &Parameter) -> bool
-    ensures { result ≡ same_parameter (parameter_tree a.now) (parameter_tree b.now) }
-{
-    same_node(a.node, b.node)
-        && same_type(&a.type_name, &b.type_name)
-        && same_name(&a.name, &b.name)
-        && same_lengths(&a.lengths, &b.lengths)
-}
-
-fn same_declarators(a: &[Declarator], b: &[Declarator]) -> bool
-    ensures { result ≡ same_declarators (map declarator_tree a.now) (map declarator_tree b.now) }
-{
-    for (i, x) in a.iter().enumerate() {
-        if i == b.len() || !same_declarator(x, &b[i]) {
-            return false;
-        }
-    }
-    a.len() == b.len()
-}
-
-/// Whether the two declare the same members: also the numbers and the tokens of their nodes.
-pub fn same_members(a: &Members, b: &Members) -> bool
-    ensures { result ≡ same_members (members_tree a.now) (members_tree b.now) }
-{
-    same_base(&a.base, &b.base) && same_declarators(&a.declarators, &b.declarators)
 }
 
 // ---- copies

@@ -1,15 +1,12 @@
-// Expressions (C11 6.5): their trees, whether two are the same, copies, and the numbers of their
+// Expressions (C11 6.5): their trees, copies, and the numbers of their
 // nodes.
-ghost use Rattle.std.specs.Prelude.{◌≡◌, ◌↔◌, IfOk, IsTrue, OnOk, map};
-ghost use Rattle.qs_syntax.specs.TreeOf.{expr_tree, exprs_tree, shape_tree};
-ghost use Rattle.qs_vocabulary.specs.Operators.{same_unary, same_step, same_binary, same_assign};
-ghost use Rattle.qs_vocabulary.specs.Operators.{same_access};
-ghost use Rattle.qs_syntax.specs.Sameness.{same_expr, same_shape, same_exprs};
+ghost use Rattle.std.specs.Prelude.{◌≡◌, IfOk, OnOk, map};
+ghost use Rattle.qs_syntax.specs.TreeOf.{expr_tree, shape_tree};
 ghost use Rattle.qs_syntax.specs.Sorts.{HasRoom, Numbers, Counts, Appends, arguments};
 ghost use Rattle.qs_syntax.specs.Sorts.{expression_list, expressions, shapes};
 
-use crate::nodes::{Node, number_node, same_node};
-use crate::types::{TypeName, same_type};
+use crate::nodes::{Node, number_node};
+use crate::types::TypeName;
 use qs_base::{Name, NoMemory};
 use qs_vocabulary::{
     Access, AssignmentOperator, BinaryOperator, StepOperator, Text, UnaryOperator,
@@ -89,16 +86,6 @@ pub enum Shape {
     Call(Name, Vec<Expr>),
 }
 
-impl Expr {
-    /// Whether the two are the same expression: also the numbers and the tokens of their nodes.
-    pub fn same(&self, other: &Expr) -> bool
-        ensures test { result ≡ same_expr (expr_tree self.now) (expr_tree other.now) }
-        ensures exact { IsTrue result ↔ (expr_tree self.now ≡ expr_tree other.now) }
-    {
-        same_expr(self, other)
-    }
-}
-
 // ---- how trees are dropped
 // By hand, since a derived drop of a tree stands with all its cases at each place where a tree may
 // be dropped.
@@ -147,127 +134,6 @@ impl Drop for Shape {
             Shape::Call(_, _) => {}
         }
     }
-}
-
-// ---- whether two are the same
-
-fn same_unary(a: UnaryOperator, b: UnaryOperator) -> bool
-    ensures { result ≡ same_unary a b }
-{
-    a == b
-}
-
-fn same_step(a: StepOperator, b: StepOperator) -> bool
-    ensures { result ≡ same_step a b }
-{
-    a == b
-}
-
-fn same_binary(a: BinaryOperator, b: BinaryOperator) -> bool
-    ensures { result ≡ same_binary a b }
-{
-    a == b
-}
-
-fn same_assign(a: AssignmentOperator, b: AssignmentOperator) -> bool
-    ensures { result ≡ same_assign a b }
-{
-    a == b
-}
-
-fn same_access(a: Access, b: Access) -> bool
-    ensures { result ≡ same_access a b }
-{
-    a == b
-}
-
-/// Whether the two are the same expression: also the numbers and the tokens of their nodes.
-#[cycle(same_expr)]
-pub fn same_expr(a: &Expr, b: &Expr) -> bool
-    ensures { result ≡ same_expr (expr_tree a.now) (expr_tree b.now) }
-{
-    same_node(a.node, b.node) && same_shape(&a.shape, &b.shape)
-}
-
-#[cycle(same_expr)]
-fn same_shape(a: &Shape, b: &Shape) -> bool
-    ensures { result ≡ same_shape (shape_tree a.now) (shape_tree b.now) }
-{
-    match (a, b) {
-        (Shape::Constant(n, u), Shape::Constant(m, v)) => n == m && u == v,
-        (Shape::Text(x), Shape::Text(y)) => x == y,
-        (Shape::Name(x), Shape::Name(y)) => x == y,
-        (Shape::Unary(s, a), Shape::Unary(r, b)) => same_unary(*s, *r) && same_expr(a, b),
-        (Shape::Step(s, a), Shape::Step(r, b)) => same_step(*s, *r) && same_expr(a, b),
-        (Shape::Cast(t, a), Shape::Cast(u, b)) => same_type(t, u) && same_expr(a, b),
-        (Shape::SizeofType(t), Shape::SizeofType(u)) => same_type(t, u),
-        (Shape::SizeofExpr(a), Shape::SizeofExpr(b)) => same_expr(a, b),
-        (
-            Shape::Binary {
-                operator: s,
-                left: a,
-                right: b,
-            },
-            Shape::Binary {
-                operator: r,
-                left: c,
-                right: d,
-            },
-        ) => same_binary(*s, *r) && same_expr(a, c) && same_expr(b, d),
-        (
-            Shape::Assign {
-                operator: s,
-                left: a,
-                right: b,
-            },
-            Shape::Assign {
-                operator: r,
-                left: c,
-                right: d,
-            },
-        ) => same_assign(*s, *r) && same_expr(a, c) && same_expr(b, d),
-        (
-            Shape::Conditional {
-                condition: a,
-                then: b,
-                otherwise: c,
-            },
-            Shape::Conditional {
-                condition: d,
-                then: e,
-                otherwise: f,
-            },
-        ) => same_expr(a, d) && same_expr(b, e) && same_expr(c, f),
-        (Shape::Comma(a, b), Shape::Comma(c, d)) => same_expr(a, c) && same_expr(b, d),
-        (Shape::Subscript(a, b), Shape::Subscript(c, d)) => same_expr(a, c) && same_expr(b, d),
-        (
-            Shape::Member {
-                access: s,
-                object: a,
-                name: x,
-            },
-            Shape::Member {
-                access: r,
-                object: b,
-                name: y,
-            },
-        ) => same_access(*s, *r) && same_expr(a, b) && x == y,
-        (Shape::Call(f, a), Shape::Call(g, b)) => f == g && same_exprs(a, b),
-        _ => false,
-    }
-}
-
-/// Whether the two lists are as long and have the same expressions in the same order.
-#[cycle(same_expr)]
-pub fn same_exprs(a: &[Expr], b: &[Expr]) -> bool
-    ensures { result ≡ same_exprs (exprs_tree a.now) (exprs_tree b.now) }
-{
-    for (i, x) in a.iter().enumerate() {
-        if i == b.len() || !same_expr(x, &b[i]) {
-            return false;
-        }
-    }
-    a.len() == b.len()
 }
 
 // ---- copies

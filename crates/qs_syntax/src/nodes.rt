@@ -1,7 +1,6 @@
 // Nodes of trees: their numbers and their places.
 ghost use Rattle.std.specs.Prelude.{◌≡◌, ◌+◌, ◌<◌, ◌^◌, ◌++◌, ◌∷◌, [], IfOk, OnOk, length};
 ghost use Rattle.qs_syntax.specs.Numbering.{numbered};
-ghost use Rattle.qs_syntax.specs.Sameness.{same_node};
 
 use qs_base::NoMemory;
 
@@ -12,13 +11,6 @@ pub struct Node {
     pub id: u32,
     /// The number of the token at which it stands: its first one, or its name.
     pub token: u32,
-}
-
-/// Whether the numbers and the tokens of the two are the same.
-pub fn same_node(a: Node, b: Node) -> bool
-    ensures { result ≡ same_node a b }
-{
-    a.id == b.id && a.token == b.token
 }
 
 /// The node with the next number, where `tokens` has the token of each node before it.

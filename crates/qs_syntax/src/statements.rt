@@ -1,17 +1,15 @@
-// Statements (C11 6.8): their trees, whether two are the same, copies, and the numbers of their
+// Statements (C11 6.8): their trees, copies, and the numbers of their
 // nodes.
-ghost use Rattle.std.specs.Prelude.{◌≡◌, ◌↔◌, IfOk, IsTrue, OnOk, map};
-ghost use Rattle.qs_syntax.specs.TreeOf.{option_tree, start_tree, stmt_tree, stmts_tree, else_tree};
-ghost use Rattle.qs_syntax.specs.Sameness.{same_option, same_start, same_stmt, same_stmts};
-ghost use Rattle.qs_syntax.specs.Sameness.{same_else};
+ghost use Rattle.std.specs.Prelude.{◌≡◌, IfOk, OnOk, map};
+ghost use Rattle.qs_syntax.specs.TreeOf.{option_tree, start_tree, stmt_tree, else_tree};
 ghost use Rattle.qs_syntax.specs.Sorts.{HasRoom, Numbers, Counts, Appends, alternatives, blocks};
 ghost use Rattle.qs_syntax.specs.Sorts.{optional_expressions, starts, statement_list, statements};
 
 use crate::declarations::{
-    Declaration, copy_declaration, number_owned_declaration, same_declaration,
+    Declaration, copy_declaration, number_owned_declaration,
 };
-use crate::expressions::{Expr, copy_expr, number_owned_expr, same_expr};
-use crate::nodes::{Node, number_node, same_node};
+use crate::expressions::{Expr, copy_expr, number_owned_expr};
+use crate::nodes::{Node, number_node};
 use qs_base::NoMemory;
 use std::alloc::Global;
 use std::mem;
@@ -88,16 +86,6 @@ pub enum Stmt {
     Return(Node, Option<Expr>),
 }
 
-impl Stmt {
-    /// Whether the two are the same statement: also the numbers and the tokens of their nodes.
-    pub fn same(&self, other: &Stmt) -> bool
-        ensures test { result ≡ same_stmt (stmt_tree self.now) (stmt_tree other.now) }
-        ensures exact { IsTrue result ↔ (stmt_tree self.now ≡ stmt_tree other.now) }
-    {
-        same_stmt(self, other)
-    }
-}
-
 // By hand, as the drops of expressions.
 impl Drop for Stmt {
     #[cycle(drop_stmt)]
@@ -135,130 +123,6 @@ impl Drop for Stmt {
             Stmt::Return(_, _) => {}
         }
     }
-}
-
-// ---- whether two are the same
-
-fn same_option(a: &Option<Expr>, b: &Option<Expr>) -> bool
-    ensures { result ≡ same_option (option_tree a.now) (option_tree b.now) }
-{
-    match (a, b) {
-        (None, None) => true,
-        (Some(a), Some(b)) => same_expr(a, b),
-        _ => false,
-    }
-}
-
-fn same_start(a: &Start, b: &Start) -> bool
-    ensures { result ≡ same_start (start_tree a.now) (start_tree b.now) }
-{
-    match (a, b) {
-        (Start::Nothing, Start::Nothing) => true,
-        (Start::Expression(a), Start::Expression(b)) => same_expr(a, b),
-        (Start::Declaration(a), Start::Declaration(b)) => same_declaration(a, b),
-        _ => false,
-    }
-}
-
-/// Whether the two are the same statement: also the numbers and the tokens of nodes in them.
-#[cycle(same_stmt)]
-pub fn same_stmt(a: &Stmt, b: &Stmt) -> bool
-    ensures { result ≡ same_stmt (stmt_tree a.now) (stmt_tree b.now) }
-{
-    match (a, b) {
-        (Stmt::Empty(n), Stmt::Empty(m)) => same_node(*n, *m),
-        (Stmt::Expression(n, e), Stmt::Expression(m, f)) => same_node(*n, *m) && same_expr(e, f),
-        (Stmt::Declaration(d), Stmt::Declaration(e)) => same_declaration(d, e),
-        (Stmt::Block(a), Stmt::Block(b)) => same_stmts(a, b),
-        (
-            Stmt::If {
-                node: n,
-                condition: e,
-                then: s,
-                otherwise: r,
-            },
-            Stmt::If {
-                node: m,
-                condition: f,
-                then: p,
-                otherwise: q,
-            },
-        ) => same_node(*n, *m) && same_expr(e, f) && same_stmt(s, p) && same_else(r, q),
-        (
-            Stmt::While {
-                node: n,
-                condition: e,
-                body: s,
-            },
-            Stmt::While {
-                node: m,
-                condition: f,
-                body: p,
-            },
-        ) => same_node(*n, *m) && same_expr(e, f) && same_stmt(s, p),
-        (
-            Stmt::Do {
-                node: n,
-                body: s,
-                condition: e,
-            },
-            Stmt::Do {
-                node: m,
-                body: p,
-                condition: f,
-            },
-        ) => same_node(*n, *m) && same_stmt(s, p) && same_expr(e, f),
-        (
-            Stmt::For {
-                node: n,
-                start: a,
-                condition: e,
-                step: u,
-                body: s,
-            },
-            Stmt::For {
-                node: m,
-                start: b,
-                condition: f,
-                step: v,
-                body: p,
-            },
-        ) => {
-            same_node(*n, *m)
-                && same_start(a, b)
-                && same_option(e, f)
-                && same_option(u, v)
-                && same_stmt(s, p)
-        }
-        (Stmt::Break(n), Stmt::Break(m)) => same_node(*n, *m),
-        (Stmt::Continue(n), Stmt::Continue(m)) => same_node(*n, *m),
-        (Stmt::Return(n, e), Stmt::Return(m, f)) => same_node(*n, *m) && same_option(e, f),
-        _ => false,
-    }
-}
-
-#[cycle(same_stmt)]
-fn same_else(a: &Option<Box<Stmt>>, b: &Option<Box<Stmt>>) -> bool
-    ensures { result ≡ same_else (else_tree a.now) (else_tree b.now) }
-{
-    match (a, b) {
-        (None, None) => true,
-        (Some(s), Some(p)) => same_stmt(s, p),
-        _ => false,
-    }
-}
-
-/// Whether the two lists are as long and have the same statements in the same order.
-#[cycle(same_stmt)]
-pub fn same_stmts(a: &[Stmt], b: &[Stmt]) -> bool
-    ensures { result ≡ same_stmts (stmts_tree a.now) (stmts_tree b.now) }
-{
-    for (i, x) in a.iter().enumerate() {
-        if i == b.len() || !same_stmt(x, &b[i]) {
-            return false;
-        }
-    }
-    a.len() == b.len()
 }
 
 // ---- copies

@@ -1,6 +1,5 @@
 // The types that declarations begin with, and the names of types.
 ghost use Rattle.std.specs.Prelude.{◌≡◌, IfOk};
-ghost use Rattle.qs_syntax.specs.Sameness.{same_base, same_type};
 
 use qs_base::{Name, NoMemory};
 use std::alloc::Global;
@@ -54,25 +53,4 @@ impl TypeName {
             stars: self.stars,
         })
     }
-}
-
-/// Whether the two are the same: of structs, whether the tags are.
-pub fn same_base(a: &Base, b: &Base) -> bool
-    ensures { result ≡ same_base a.now b.now }
-{
-    match (a, b) {
-        (Base::Void, Base::Void) => true,
-        (Base::Int, Base::Int) => true,
-        (Base::Unsigned, Base::Unsigned) => true,
-        (Base::Char, Base::Char) => true,
-        (Base::Struct(x), Base::Struct(y)) => x == y,
-        _ => false,
-    }
-}
-
-/// Whether the two names of types begin with the same and have as many stars.
-pub fn same_type(a: &TypeName, b: &TypeName) -> bool
-    ensures { result ≡ same_type a.now b.now }
-{
-    same_base(&a.base, &b.base) && a.stars == b.stars
 }

@@ -1,21 +1,18 @@
-// What stands at file scope (C11 6.9): its trees, whether two are the same, copies, and the numbers
+// What stands at file scope (C11 6.9): its trees, copies, and the numbers
 // of the nodes.
-ghost use Rattle.std.specs.Prelude.{◌≡◌, ◌↔◌, IfOk, IsTrue, OnOk, map};
-ghost use Rattle.qs_syntax.specs.TreeOf.{parameter_tree, members_tree, struct_tree, forward_tree};
+ghost use Rattle.std.specs.Prelude.{◌≡◌, IfOk, OnOk, map};
+ghost use Rattle.qs_syntax.specs.TreeOf.{parameter_tree, struct_tree};
 ghost use Rattle.qs_syntax.specs.TreeOf.{function_tree, decl_tree, body_tree};
-ghost use Rattle.qs_syntax.specs.Sameness.{same_struct, same_forward, same_function, same_decl};
-ghost use Rattle.qs_syntax.specs.Sameness.{same_unit, same_groups, same_parameters, same_body};
 ghost use Rattle.qs_syntax.specs.Sorts.{HasRoom, Numbers, Counts, Appends, bodies, externals};
 ghost use Rattle.qs_syntax.specs.Sorts.{functions, group_list, parameter_list, structs, units};
 
 use crate::declarations::{
     Declaration, Members, Parameter, copy_declaration, copy_members, copy_parameter,
-    number_declaration, number_members, number_parameter, same_declaration, same_members,
-    same_parameter,
+    number_declaration, number_members, number_parameter,
 };
-use crate::nodes::{Node, number_node, same_node};
-use crate::statements::{Stmt, copy_stmts, number_stmts, same_stmts};
-use crate::types::{TypeName, same_type};
+use crate::nodes::{Node, number_node};
+use crate::statements::{Stmt, copy_stmts, number_stmts};
+use crate::types::TypeName;
 use qs_base::{Name, NoMemory};
 use std::alloc::Global;
 
@@ -65,96 +62,6 @@ pub enum Decl {
     Function(Function),
     /// Variables.
     Variable(Declaration),
-}
-
-impl Decl {
-    /// Whether the two are the same: also the numbers and the tokens of their nodes.
-    pub fn same(&self, other: &Decl) -> bool
-        ensures test { result ≡ same_decl (decl_tree self.now) (decl_tree other.now) }
-        ensures exact { IsTrue result ↔ (decl_tree self.now ≡ decl_tree other.now) }
-    {
-        same_decl(self, other)
-    }
-}
-
-// ---- whether two are the same
-
-fn same_groups(a: &[Members], b: &[Members]) -> bool
-    ensures { result ≡ same_groups (map members_tree a.now) (map members_tree b.now) }
-{
-    for (i, x) in a.iter().enumerate() {
-        if i == b.len() || !same_members(x, &b[i]) {
-            return false;
-        }
-    }
-    a.len() == b.len()
-}
-
-fn same_struct(a: &Struct, b: &Struct) -> bool
-    ensures { result ≡ same_struct (struct_tree a.now) (struct_tree b.now) }
-{
-    same_node(a.node, b.node) && a.name == b.name && same_groups(&a.members, &b.members)
-}
-
-fn same_forward(a: &Forward, b: &Forward) -> bool
-    ensures { result ≡ same_forward (forward_tree a.now) (forward_tree b.now) }
-{
-    same_node(a.node, b.node) && a.name == b.name
-}
-
-fn same_parameters(a: &[Parameter], b: &[Parameter]) -> bool
-    ensures { result ≡ same_parameters (map parameter_tree a.now) (map parameter_tree b.now) }
-{
-    for (i, x) in a.iter().enumerate() {
-        if i == b.len() || !same_parameter(x, &b[i]) {
-            return false;
-        }
-    }
-    a.len() == b.len()
-}
-
-fn same_body(a: &Option<Vec<Stmt>>, b: &Option<Vec<Stmt>>) -> bool
-    ensures { result ≡ same_body (body_tree a.now) (body_tree b.now) }
-{
-    match (a, b) {
-        (None, None) => true,
-        (Some(a), Some(b)) => same_stmts(a, b),
-        _ => false,
-    }
-}
-
-fn same_function(a: &Function, b: &Function) -> bool
-    ensures { result ≡ same_function (function_tree a.now) (function_tree b.now) }
-{
-    same_node(a.node, b.node)
-        && same_type(&a.result_type, &b.result_type)
-        && a.name == b.name
-        && same_parameters(&a.parameters, &b.parameters)
-        && same_body(&a.body, &b.body)
-}
-
-fn same_decl(a: &Decl, b: &Decl) -> bool
-    ensures { result ≡ same_decl (decl_tree a.now) (decl_tree b.now) }
-{
-    match (a, b) {
-        (Decl::Struct(a), Decl::Struct(b)) => same_struct(a, b),
-        (Decl::Forward(a), Decl::Forward(b)) => same_forward(a, b),
-        (Decl::Function(a), Decl::Function(b)) => same_function(a, b),
-        (Decl::Variable(a), Decl::Variable(b)) => same_declaration(a, b),
-        _ => false,
-    }
-}
-
-/// Whether the two lists are as long and have the same declarations of a unit in the same order.
-pub fn same_decls(a: &[Decl], b: &[Decl]) -> bool
-    ensures { result ≡ same_unit (map decl_tree a.now) (map decl_tree b.now) }
-{
-    for (i, x) in a.iter().enumerate() {
-        if i == b.len() || !same_decl(x, &b[i]) {
-            return false;
-        }
-    }
-    a.len() == b.len()
 }
 
 // ---- copies

@@ -1,6 +1,6 @@
 -- What is known agrees with the scopes inside a scope with which it agrees.
 use Rattle.std.proofs.Common.{◌≡◌, ℕ, Bool, true, false, List, Option, Some, if◌then◌else◌}
-use Rattle.qs_syntax.specs.Sameness.{same_bytes}
+use Rattle.qs_base.specs.Bytes.{same_bytes}
 use Rattle.qs_types.specs.Types.{TypeTree}
 use Rattle.qs_types.specs.GivenFunctions.{Signature}
 use Rattle.qs_types.specs.Contexts.{Entity, local_variable, function, given, entity_of, with_name, inner_scope, inside_loop}

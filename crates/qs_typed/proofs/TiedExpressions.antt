@@ -2,7 +2,7 @@
 use Rattle.std.proofs.Common.{◌≡◌, ℕ, Bool, true, false, List, [], ◌∷◌, Option, Some, None, map, refl, sym, ap, ◌∙◌, if◌then◌else◌}
 use Rattle.qs_memory.specs.Partial.{◌>>=◌}
 use Rattle.qs_memory.specs.declared.scalar.Scalar.{Scalar}
-use Rattle.qs_syntax.specs.Sameness.{same_bytes}
+use Rattle.qs_base.specs.Bytes.{same_bytes}
 use Rattle.qs_syntax.specs.declared.nodes.Node.{Node}
 use Rattle.qs_syntax.specs.declared.types.Base.{Base}
 use Rattle.qs_syntax.specs.declared.types.Base.TheVariants as bases

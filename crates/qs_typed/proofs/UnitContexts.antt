@@ -1,7 +1,7 @@
 -- What is known at file scope of structs and tags goes on to the end of a unit, and given functions stay.
 use Rattle.std.proofs.Common.{◌≡◌, ℕ, ◌+◌, Bool, true, false, List, [], ◌∷◌, ◌++◌, Option, Some, None, is_some, refl, arith, if◌then◌else◌}
 use Rattle.std.specs.List.{slice_get}
-use Rattle.qs_syntax.specs.Sameness.{same_bytes}
+use Rattle.qs_base.specs.Bytes.{same_bytes}
 use Rattle.qs_syntax.specs.declared.types.Base.{Base}
 use Rattle.qs_syntax.specs.Trees.{VariableTree, StructTree, DeclTree, structure, forward, function, variables, UnitTree}
 use Rattle.qs_types.specs.Types as types

@@ -2,7 +2,7 @@
 use Rattle.std.proofs.Common.{◌≡◌, ℕ, Bool, true, false, ◌||◌, List, [], ◌∷◌, ◌++◌, Option, Some, None, is_some, refl, ap, ◌∙◌, if◌then◌else◌}
 use Rattle.std.specs.List.{slice_get}
 use Rattle.std.proofs.lemmas.Cmp.{nat_list_eq_equiv}
-use Rattle.qs_syntax.specs.Sameness.{same_bytes}
+use Rattle.qs_base.specs.Bytes.{same_bytes}
 use Rattle.qs_syntax.specs.declared.types.Base.{Base}
 use Rattle.qs_syntax.specs.Trees.{VariableTree, FunctionTree, DeclTree, structure, forward, function, variables}
 use Rattle.qs_types.specs.Types.{TypeTree, MemberTree}

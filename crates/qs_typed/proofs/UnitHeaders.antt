@@ -4,7 +4,7 @@ use Rattle.std.specs.Prelude.{◌==◌}
 use Rattle.std.proofs.lemmas.Cmp.{nat_eq_equiv}
 use Rattle.qs_memory.specs.Partial.{◌>>=◌}
 use Rattle.qs_memory.specs.declared.scalar.Scalar.{Scalar}
-use Rattle.qs_syntax.specs.Sameness.{same_bytes}
+use Rattle.qs_base.specs.Bytes.{same_bytes}
 use Rattle.qs_syntax.specs.Trees.{ParameterTree, FunctionTree}
 use Rattle.qs_types.specs.Types.{TypeTree}
 use Rattle.qs_types.specs.Layout.{and_then}

@@ -6,7 +6,7 @@ ghost use Rattle.qs_types.specs.EnvOf.{env_tree};
 ghost use Rattle.qs_types.specs.GivenFunctions.{main_name};
 ghost use Rattle.qs_types.specs.Placed.{is_no_scalar, is_placed};
 ghost use Rattle.qs_types.specs.TypeOf.{type_tree};
-ghost use Rattle.qs_syntax.specs.Sameness.{same_bytes};
+ghost use Rattle.qs_base.specs.Bytes.{same_bytes};
 ghost use Rattle.qs_typed_bodies.specs.KnownFunctions.{base_scalar, named_scalar, returns_nothing};
 ghost use Rattle.qs_typed_bodies.specs.KnownFunctions.{local_at, with_locals, with_parameters};
 ghost use Rattle.qs_typed.specs.LocalsOf.{Places, Puts, locals_in};

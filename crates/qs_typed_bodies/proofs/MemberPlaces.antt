@@ -4,7 +4,7 @@ use Rattle.std.specs.Prelude.{position}
 use Rattle.std.specs.List.{slice_get}
 use Rattle.std.proofs.lemmas.Option.{slice_get-map}
 use Rattle.qs_memory.specs.Partial.{◌>>=◌}
-use Rattle.qs_syntax.specs.Sameness.{same_bytes}
+use Rattle.qs_base.specs.Bytes.{same_bytes}
 use Rattle.qs_types.specs.Types.{struct, MemberTree, Structs}
 use Rattle.qs_types.specs.Contexts.{place_from}
 use Rattle.qs_types.specs.InitialiserRules.{member_at}

@@ -5,7 +5,7 @@ use Rattle.qs_syntax.specs.Trees as trees
 use Rattle.qs_types.specs.Types.{TypeTree, Structs}
 use Rattle.qs_types.specs.Layout.{extent_of, layout_of, struct_of}
 use Rattle.qs_types.specs.GivenFunctions.{Signature, putchar_name, putchar_type, getchar_type}
-use Rattle.qs_syntax.specs.Sameness.{same_bytes}
+use Rattle.qs_base.specs.Bytes.{same_bytes}
 use Rattle.qs_syntax.specs.declared.types.Base.{Base}
 use Rattle.qs_types.specs.Declarations.{variable_declared}
 use Rattle.qs_types.specs.StatementRules.{after_statement}

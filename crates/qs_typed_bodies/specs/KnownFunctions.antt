@@ -1,6 +1,6 @@
 -- The typed tree of functions, from what is known by the numbers of nodes.
 use Rattle.std.specs.Prelude.{ℕ, ◌==◌, Bool, ◌&&◌, List, [], ◌∷◌, ◌++◌, Option, Some, None, map, if◌then◌else◌}
-use Rattle.qs_syntax.specs.Sameness.{same_bytes}
+use Rattle.qs_base.specs.Bytes.{same_bytes}
 use Rattle.qs_syntax.specs.Trees.{VariableTree, ParameterTree, StartTree, no_start, start_expression, start_declaration, StmtTree, Stmts, no_stmts, stmt_and, Else, no_else, else_by, FunctionTree}
 use Rattle.qs_syntax.specs.Trees as trees
 use Rattle.qs_memory.specs.Partial.{◌>>=◌}

@@ -1,7 +1,7 @@
 -- The types of expressions, and the rules that their nodes keep (C11 6.5). Each form has its tests, by the types of its parts, and the
 -- type that it has where it breaks none of them.
 use Rattle.std.specs.Prelude.{ℕ, ◌+◌, ◌==◌, Bool, true, false, not, ◌&&◌, ◌||◌, List, [], ◌∷◌, ◌++◌, Option, Some, None, is_some, length, if◌then◌else◌}
-use Rattle.qs_syntax.specs.Sameness.{same_bytes}
+use Rattle.qs_base.specs.Bytes.{same_bytes}
 use Rattle.qs_vocabulary.specs.declared.operators.UnaryOperator.{UnaryOperator}
 use Rattle.qs_vocabulary.specs.declared.operators.UnaryOperator.TheVariants as unaries
 use Rattle.qs_vocabulary.specs.declared.operators.BinaryOperator.{BinaryOperator}

@@ -1,26 +1,20 @@
 -- The tables of operators: each is found by its punctuator, and what is found has the punctuator.
-use Rattle.std.proofs.Common.{◌≡◌, true, Some, refl, Decides, ◌≤◌, nat_le, arith}
+use Rattle.std.proofs.Common.{◌≡◌, true, Some, refl, ◌≤◌, nat_le, arith}
 use Rattle.std.proofs.lemmas.Bool.Decides.{nat_tests}
-use Rattle.qs_base.proofs.Variants.{every, finds, find_passes, variants_exact}
-use Rattle.qs_vocabulary.specs.Operators.{access_of, access_operators, assign_of, assignment_operators, binary_of, binary_operators, precedence, punctuator_of_access, punctuator_of_assign, punctuator_of_binary, punctuator_of_unary, same_access, same_assign, same_binary, same_step, same_unary, unary_of, unary_operators, weakest}
+use Rattle.qs_base.proofs.Variants.{every, finds, find_passes}
+use Rattle.qs_vocabulary.specs.Operators.{access_of, access_operators, assign_of, assignment_operators, binary_of, binary_operators, precedence, punctuator_of_access, punctuator_of_assign, punctuator_of_binary, punctuator_of_unary, unary_of, unary_operators, weakest}
 use Rattle.qs_vocabulary.specs.Punctuators.{same_punctuator}
 use Rattle.qs_vocabulary.specs.declared.punctuator.Punctuator.{Punctuator}
 use Rattle.qs_vocabulary.specs.contracts.operators.UnaryOperator.{the_type as unary_type}
 use Rattle.qs_vocabulary.specs.declared.operators.UnaryOperator.{UnaryOperator}
-use Rattle.qs_vocabulary.specs.contracts.operators.StepOperator.{the_type as step_type}
-use Rattle.qs_vocabulary.specs.declared.operators.StepOperator.{StepOperator}
 use Rattle.qs_vocabulary.specs.contracts.operators.BinaryOperator.{the_type as binary_type}
 use Rattle.qs_vocabulary.specs.declared.operators.BinaryOperator.{BinaryOperator}
 use Rattle.qs_vocabulary.specs.contracts.operators.AssignmentOperator.{the_type as assign_type}
 use Rattle.qs_vocabulary.specs.declared.operators.AssignmentOperator.{AssignmentOperator}
-use Rattle.qs_vocabulary.specs.contracts.operators.Access.{the_type as access_type}
 use Rattle.qs_vocabulary.specs.declared.operators.Access.{Access}
 use Rattle.qs_vocabulary.proofs.PunctuatorLaws.{same_punctuator_exact}
 
 -- ---- unary operators
-
-pub unary_operator_exact : (a b : UnaryOperator) → Decides (same_unary a b) (a ≡ b)
-unary_operator_exact a b = variants_exact unary_type tt a b
 
 pub unary_of-punctuator : (operator : UnaryOperator) → unary_of (punctuator_of_unary operator) ≡ Some operator
 unary_of-punctuator operator = finds unary_type tt unary_operators refl (λ k x. same_punctuator (punctuator_of_unary x) (punctuator_of_unary k)) refl operator
@@ -28,15 +22,7 @@ unary_of-punctuator operator = finds unary_type tt unary_operators refl (λ k x.
 pub punctuator-unary_of : (punctuator : Punctuator) (operator : UnaryOperator) → unary_of punctuator ≡ Some operator → punctuator_of_unary operator ≡ punctuator
 punctuator-unary_of punctuator operator e = (same_punctuator_exact (punctuator_of_unary operator) punctuator).0 (find_passes (λ x. same_punctuator (punctuator_of_unary x) punctuator) unary_operators operator e)
 
--- ---- steps by one
-
-pub step_operator_exact : (a b : StepOperator) → Decides (same_step a b) (a ≡ b)
-step_operator_exact a b = variants_exact step_type tt a b
-
 -- ---- operators between two operands
-
-pub binary_operator_exact : (a b : BinaryOperator) → Decides (same_binary a b) (a ≡ b)
-binary_operator_exact a b = variants_exact binary_type tt a b
 
 pub binary_of-punctuator : (operator : BinaryOperator) → binary_of (punctuator_of_binary operator) ≡ Some operator
 binary_of-punctuator operator = finds binary_type tt binary_operators refl (λ k x. same_punctuator (punctuator_of_binary x) (punctuator_of_binary k)) refl operator
@@ -51,9 +37,6 @@ precedence_within operator =
 
 -- ---- assignments
 
-pub assign_operator_exact : (a b : AssignmentOperator) → Decides (same_assign a b) (a ≡ b)
-assign_operator_exact a b = variants_exact assign_type tt a b
-
 pub assign_of-punctuator : (operator : AssignmentOperator) → assign_of (punctuator_of_assign operator) ≡ Some operator
 assign_of-punctuator operator = finds assign_type tt assignment_operators refl (λ k x. same_punctuator (punctuator_of_assign x) (punctuator_of_assign k)) refl operator
 
@@ -61,9 +44,6 @@ pub punctuator-assign_of : (punctuator : Punctuator) (operator : AssignmentOpera
 punctuator-assign_of punctuator operator e = (same_punctuator_exact (punctuator_of_assign operator) punctuator).0 (find_passes (λ x. same_punctuator (punctuator_of_assign x) punctuator) assignment_operators operator e)
 
 -- ---- access to a member
-
-pub access_operator_exact : (a b : Access) → Decides (same_access a b) (a ≡ b)
-access_operator_exact a b = variants_exact access_type tt a b
 
 pub punctuator-access_of : (punctuator : Punctuator) (operator : Access) → access_of punctuator ≡ Some operator → punctuator_of_access operator ≡ punctuator
 punctuator-access_of punctuator operator e = (same_punctuator_exact (punctuator_of_access operator) punctuator).0 (find_passes (λ x. same_punctuator (punctuator_of_access x) punctuator) access_operators operator e)

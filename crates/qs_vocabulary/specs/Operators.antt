@@ -1,25 +1,19 @@
 -- The operators (C11 6.5.2 to 6.5.17): the punctuator of each, the precedence of those between two operands, and which operator a punctuator is.
 use Rattle.std.specs.Prelude.{ℕ, Bool, true, false, List, [], ◌∷◌, Option}
 use Rattle.std.specs.List.{find}
-use denote.Enum.Bare.{sameb}
 use Rattle.qs_vocabulary.specs.Punctuators.{same_punctuator}
 use Rattle.qs_vocabulary.specs.declared.punctuator.Punctuator.{Punctuator}
 use Rattle.qs_vocabulary.specs.declared.punctuator.Punctuator.TheVariants as punctuators
 use Rattle.qs_vocabulary.specs.declared.terminal.Terminal.{Terminal}
 use Rattle.qs_vocabulary.specs.declared.terminal.Terminal.TheVariants as terminals
-use Rattle.qs_vocabulary.specs.contracts.operators.UnaryOperator.{the_type as unary_type}
 use Rattle.qs_vocabulary.specs.declared.operators.UnaryOperator.{UnaryOperator}
 use Rattle.qs_vocabulary.specs.declared.operators.UnaryOperator.TheVariants as unaries
-use Rattle.qs_vocabulary.specs.contracts.operators.StepOperator.{the_type as step_type}
 use Rattle.qs_vocabulary.specs.declared.operators.StepOperator.{StepOperator}
 use Rattle.qs_vocabulary.specs.declared.operators.StepOperator.TheVariants as steps
-use Rattle.qs_vocabulary.specs.contracts.operators.BinaryOperator.{the_type as binary_type}
 use Rattle.qs_vocabulary.specs.declared.operators.BinaryOperator.{BinaryOperator}
 use Rattle.qs_vocabulary.specs.declared.operators.BinaryOperator.TheVariants as binaries
-use Rattle.qs_vocabulary.specs.contracts.operators.AssignmentOperator.{the_type as assign_type}
 use Rattle.qs_vocabulary.specs.declared.operators.AssignmentOperator.{AssignmentOperator}
 use Rattle.qs_vocabulary.specs.declared.operators.AssignmentOperator.TheVariants as assigns
-use Rattle.qs_vocabulary.specs.contracts.operators.Access.{the_type as access_type}
 use Rattle.qs_vocabulary.specs.declared.operators.Access.{Access}
 use Rattle.qs_vocabulary.specs.declared.operators.Access.TheVariants as accesses
 
@@ -46,9 +40,6 @@ unary_operators =
 abbrev pub unary_of : Punctuator → Option UnaryOperator
 unary_of punctuator = find (λ operator. same_punctuator (punctuator_of_unary operator) punctuator) unary_operators
 
-abbrev pub same_unary : UnaryOperator → UnaryOperator → Bool
-same_unary = sameb unary_type
-
 -- ---- steps by one, before or behind the operand (6.5.2.4, 6.5.3.1)
 
 -- the punctuator, and whether it stands before the operand
@@ -63,9 +54,6 @@ punctuator_of_step operator = (step_row operator).0
 
 abbrev pub stands_before : StepOperator → Bool
 stands_before operator = (step_row operator).1
-
-abbrev pub same_step : StepOperator → StepOperator → Bool
-same_step = sameb step_type
 
 -- ---- operators between two operands (6.5.5 to 6.5.14)
 
@@ -125,9 +113,6 @@ precedence operator = (binary_row operator).1
 abbrev pub binary_of : Punctuator → Option BinaryOperator
 binary_of punctuator = find (λ operator. same_punctuator (punctuator_of_binary operator) punctuator) binary_operators
 
-abbrev pub same_binary : BinaryOperator → BinaryOperator → Bool
-same_binary = sameb binary_type
-
 -- ---- what binds more weakly (6.5.15 to 6.5.17)
 
 abbrev pub conditional_precedence : ℕ
@@ -176,9 +161,6 @@ assignment_operators =
 abbrev pub assign_of : Punctuator → Option AssignmentOperator
 assign_of punctuator = find (λ operator. same_punctuator (punctuator_of_assign operator) punctuator) assignment_operators
 
-abbrev pub same_assign : AssignmentOperator → AssignmentOperator → Bool
-same_assign = sameb assign_type
-
 -- ---- access to a member (6.5.2.3)
 
 abbrev pub punctuator_of_access : Access → Punctuator
@@ -193,9 +175,6 @@ access_operators =
 
 abbrev pub access_of : Punctuator → Option Access
 access_of punctuator = find (λ access. same_punctuator (punctuator_of_access access) punctuator) access_operators
-
-abbrev pub same_access : Access → Access → Bool
-same_access = sameb access_type
 
 -- ---- tokens
 

@@ -1,14 +1,13 @@
 // How units are made, copied, compared and read.
-ghost use Rattle.std.specs.Prelude.{◌≡◌, ◌<◌, ◌^◌, ◌↔◌, map, IfOk, IsTrue};
+ghost use Rattle.std.specs.Prelude.{◌≡◌, ◌<◌, ◌^◌, map, IfOk};
 ghost use Rattle.qs_syntax.specs.TreeOf.{decl_tree};
 ghost use Rattle.qs_syntax.specs.UnitTrees.{unit_tree};
 ghost use Rattle.qs_syntax.specs.Nodes.{StandsAt, unit_count};
 ghost use Rattle.qs_syntax.specs.Numbering.{numbered_unit};
-ghost use Rattle.qs_syntax.specs.Sameness.{same_unit};
 ghost use Rattle.qs_syntax.specs.Units.{IsRead};
 
 use super::Unit;
-use crate::units::{Decl, copy_decls, number_owned_decls, same_decls};
+use crate::units::{Decl, copy_decls, number_owned_decls};
 use qs_base::NoMemory;
 use std::alloc::Global;
 
@@ -45,14 +44,6 @@ impl Unit {
             declarations: copy_decls(alloc, &self.declarations)?,
             tokens: Vec::from_slice(alloc, &self.tokens)?,
         })
-    }
-
-    /// Whether the two are the same unit: also the tokens of their nodes.
-    pub fn same(&self, other: &Unit) -> bool
-        ensures test { result ≡ same_unit (unit_tree self.now) (unit_tree other.now) }
-        ensures exact { IsTrue result ↔ (unit_tree self.now ≡ unit_tree other.now) }
-    {
-        same_decls(self.declarations(), other.declarations())
     }
 }
 

@@ -1,7 +1,7 @@
 use Rattle.std.proofs.Common.{[], map, option_map, take}
 use Rattle.std.specs.Prelude.{nat_eq}
 use Rattle.indexmap.specs.IndexMap.{get}
-use Rattle.qs_syntax.specs.Sameness.{same_bytes}
+use Rattle.qs_base.specs.Bytes.{same_bytes}
 use Rattle.qs_elaborate.specs.NamesOf.{variable_name_of}
 use Rattle.qs_elaborate.specs.DeclaredOf.{declared_of}
 use Rattle.qs_elaborate.specs.Naming.{newest_first, Known}

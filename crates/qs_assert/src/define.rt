@@ -3,7 +3,7 @@ use crate::Assertion;
 use qs_base::Name;
 
 /// A definition: a name for an assertion.
-#[derive(Debug, Drop)]
+#[derive(Drop)]
 pub struct Define {
     /// The name.
     pub name: Name,
@@ -12,7 +12,7 @@ pub struct Define {
 }
 
 /// The value of an assertion.
-#[derive(Clone, Copy, Debug, PartialEq, Eq)]
+#[derive(Clone, Copy, PartialEq, Eq)]
 pub enum Amount {
     /// A natural number.
     Finite(u128),

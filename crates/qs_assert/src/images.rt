@@ -23,7 +23,7 @@ pub struct Image {
 }
 
 /// What becomes of the variables that are not in a list of images.
-#[derive(Clone, Copy, Debug, PartialEq, Eq)]
+#[derive(Clone, Copy, PartialEq, Eq)]
 pub enum Others {
     /// They stay.
     Stay,
@@ -32,7 +32,7 @@ pub enum Others {
 }
 
 /// What a substitution gives.
-#[derive(Debug, Drop)]
+#[derive(Drop)]
 pub enum Substituted {
     /// The assertion with the images.
     Whole(Assertion),

@@ -25,7 +25,7 @@ impl Model for Term {
 }
 
 /// A condition over terms.
-#[derive(Debug, Drop)]
+#[derive(Drop)]
 pub struct Cond {
     nodes: Vec<Node>,
 }

@@ -68,7 +68,7 @@ pub fn begins(nodes: &[Node], node: &Node) -> bool
 }
 
 /// A condition in a list of nodes that others hold. Contracts see it as the tree.
-#[derive(Debug, Drop)]
+#[derive(Drop)]
 pub struct CondView<'a> {
     nodes: &'a [Node],
 }
@@ -90,7 +90,7 @@ impl<'a> Model for CondView<'a> {
 }
 
 /// An assertion in a list of nodes that others hold. Contracts see it as the tree.
-#[derive(Debug, Drop)]
+#[derive(Drop)]
 pub struct AssertionView<'a> {
     nodes: &'a [Node],
 }
@@ -113,7 +113,7 @@ impl<'a> Model for AssertionView<'a> {
 
 /// Assertions one after another in a list of nodes that
 /// others hold. Contracts see them as a list of trees.
-#[derive(Debug, Drop)]
+#[derive(Drop)]
 pub struct AssertionViews<'a> {
     nodes: &'a [Node],
 }

@@ -98,7 +98,7 @@ pub enum WordsFault {
 }
 
 /// How a call of the tool ends.
-#[derive(Debug, Drop)]
+#[derive(Drop)]
 pub enum Status {
     /// All that the command asks for was done and written.
     Done,

@@ -44,7 +44,7 @@ pub enum Fact {
 }
 
 /// A certificate that P is at least Q, under the conditions and with the polynomials of its place.
-#[derive(Debug, Drop)]
+#[derive(Drop)]
 pub enum Certificate {
     /// P and Q are the same tree.
     Same,

@@ -7,7 +7,7 @@ use qs_assert::Cond;
 use qs_poly::Poly;
 
 /// The conditions that hold, and the polynomials that are at least 0, each in the order of pushing.
-#[derive(Debug, Drop)]
+#[derive(Drop)]
 pub struct Known {
     pub conditions: Vec<Cond>,
     pub polynomials: Vec<Poly>,

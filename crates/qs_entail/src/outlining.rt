@@ -10,7 +10,7 @@ use qs_base::NoMemory;
 use std::alloc::Global;
 
 /// What hypotheses push, without the polynomials.
-#[derive(Debug, Drop)]
+#[derive(Drop)]
 pub struct Outline {
     /// The conditions that are pushed.
     pub conditions: Vec<Cond>,

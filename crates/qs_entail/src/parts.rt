@@ -19,7 +19,7 @@ use qs_base::NoMemory;
 use std::alloc::Global;
 
 /// The parts of a guard.
-#[derive(Debug, Drop)]
+#[derive(Drop)]
 pub struct Guarded<'a> {
     /// What has to hold.
     pub condition: CondView<'a>,
@@ -28,7 +28,7 @@ pub struct Guarded<'a> {
 }
 
 /// Two terms of which a condition says that they differ.
-#[derive(Debug, Drop)]
+#[derive(Drop)]
 pub struct Sides {
     /// The first.
     pub left: Term,

@@ -21,7 +21,7 @@ use qs_poly::Poly;
 use std::alloc::Global;
 
 /// The polynomials of two terms.
-#[derive(Debug, Drop)]
+#[derive(Drop)]
 struct Pair {
     left: Poly,
     right: Poly,

@@ -19,7 +19,7 @@ use qs_poly::Poly;
 use std::alloc::Global;
 
 /// Two assertions.
-#[derive(Debug, Drop)]
+#[derive(Drop)]
 pub struct Both {
     pub left: Assertion,
     pub right: Assertion,

@@ -31,7 +31,7 @@ impl Limit {
 }
 
 /// Why a step gives nothing.
-#[derive(Clone, Copy, Debug, PartialEq, Eq)]
+#[derive(Clone, Copy, PartialEq, Eq)]
 pub enum Stop {
     /// No memory was found.
     NoMemory,

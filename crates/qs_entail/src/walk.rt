@@ -22,7 +22,7 @@ use qs_assert::{AssertionView, CondView, Define};
 use std::alloc::Global;
 
 /// How many conditions and polynomials were known.
-#[derive(Clone, Copy, Debug, PartialEq, Eq)]
+#[derive(Clone, Copy, PartialEq, Eq)]
 pub struct Mark {
     pub conditions: usize,
     pub polynomials: usize,

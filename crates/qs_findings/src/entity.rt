@@ -40,7 +40,7 @@ pub struct Binding {
 }
 
 /// What a name stands for, apart from its type: a declaration, by the number of its node.
-#[derive(Clone, Copy, PartialEq, Eq, Debug)]
+#[derive(Clone, Copy, PartialEq, Eq)]
 pub enum Referent {
     /// A variable or parameter of a function.
     Local(u32),

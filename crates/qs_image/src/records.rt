@@ -16,7 +16,7 @@ use qs_isa::CODE_START;
 pub const RECORD_BYTES: usize = 12;
 
 /// The record of a function in an image that was read.
-#[derive(Clone, Copy, Debug)]
+#[derive(Clone, Copy)]
 pub struct RecordView<'a> {
     /// The name.
     pub name: &'a [u8],
@@ -28,7 +28,7 @@ pub struct RecordView<'a> {
 
 /// The records of a table, whose names lie one after the other. Of a name that passes the end of
 /// the names there is what is there.
-#[derive(Clone, Copy, Debug)]
+#[derive(Clone, Copy)]
 pub struct Records<'a> {
     /// `RECORD_BYTES` for each record.
     pub table: &'a [u8],

@@ -15,7 +15,7 @@ const ENTRY_WORD: usize = 5;
 
 /// The bytes of an image, taken apart: three words of the header, the table of records, the names,
 /// the code and the data.
-#[derive(Clone, Copy, Debug)]
+#[derive(Clone, Copy)]
 pub struct Sections<'a> {
     pub entry: u32,
     pub parameters: u32,

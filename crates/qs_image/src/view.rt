@@ -9,7 +9,7 @@ use std::marker::Model;
 
 /// An image that was read, over the bytes that were read. Contracts see it as a pure image that
 /// keeps to its form: `IsWellFormed`. No call takes memory.
-#[derive(Debug, Drop)]
+#[derive(Drop)]
 pub struct ImageView<'a> {
     pub(crate) sections: Sections<'a>,
 }

@@ -26,7 +26,7 @@ pub enum Cause {
 }
 
 /// What a step did.
-#[derive(Clone, Copy, Debug, PartialEq, Eq)]
+#[derive(Clone, Copy, PartialEq, Eq)]
 pub enum StepResult {
     /// It goes on.
     Going,
@@ -39,7 +39,7 @@ pub enum StepResult {
 }
 
 /// How a run ended.
-#[derive(Clone, Copy, Debug, PartialEq, Eq)]
+#[derive(Clone, Copy, PartialEq, Eq)]
 pub enum RunEnd {
     /// The program has exited with this status.
     Exited(u8),

@@ -11,7 +11,7 @@ use qs_base::add32;
 use qs_isa::{EXIT_CALL, Instr, LoadKind, PUT_BYTE_CALL, Register, StoreKind, TAKE_BYTE_CALL};
 
 /// A machine that was loaded. It keeps how many bytes of the input it has taken, and how it ended.
-#[derive(Debug, Drop)]
+#[derive(Drop)]
 pub struct Machine {
     pub(crate) instructions: Vec<Option<Instr>>,
     pub(crate) memory: Memory,

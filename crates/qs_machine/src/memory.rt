@@ -11,7 +11,7 @@ use byteorder::{ByteOrder, LittleEndian};
 use qs_isa::{CODE_START, DATA_START, LoadKind, StoreKind};
 
 /// The bytes of the code, of the data and of the stack.
-#[derive(Debug, Drop)]
+#[derive(Drop)]
 pub struct Memory {
     pub code: Vec<u8>,
     pub data: Vec<u8>,

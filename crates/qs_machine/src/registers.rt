@@ -8,7 +8,7 @@ use crate::regions::STACK_TOP;
 use qs_isa::Register;
 
 /// The words of x0 to x31. That of x0 is never read.
-#[derive(Clone, Copy, Debug)]
+#[derive(Clone, Copy)]
 pub struct Registers {
     pub words: [u32; 32],
 }

@@ -33,7 +33,7 @@ use qs_vocabulary::{
 use std::alloc::Global;
 
 /// What an expression is read as.
-#[derive(Clone, Copy, Debug)]
+#[derive(Clone, Copy)]
 pub enum Form {
     /// An operand with suffixes (C11 6.5.2).
     Postfix,

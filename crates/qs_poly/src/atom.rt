@@ -15,7 +15,7 @@ use std::alloc::Global;
 
 /// What polynomials are over. Two atoms are the same where their heads and numbers are and their
 /// polynomials are equal.
-#[derive(Drop, Debug)]
+#[derive(Drop)]
 pub enum Atom {
     /// A variable.
     Variable(Var),

@@ -18,7 +18,7 @@ use std::marker::Model;
 
 /// A polynomial with whole coefficients over atoms, in canonical form: equal polynomials are equal
 /// values. It has at most 64 terms of degree at most 4, with coefficients from -2^56 to 2^56.
-#[derive(Drop, Debug)]
+#[derive(Drop)]
 pub struct Poly {
     terms: Vec<Term>,
 }

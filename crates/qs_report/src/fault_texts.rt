@@ -7,7 +7,7 @@ use qs_machine::Cause;
 use qs_types::{LimitKind, Rule};
 
 /// A bound on the stack.
-#[derive(Clone, Copy, Debug, PartialEq, Eq)]
+#[derive(Clone, Copy, PartialEq, Eq)]
 pub enum Shown {
     /// So many bytes.
     Number(u128),
@@ -18,7 +18,7 @@ pub enum Shown {
 }
 
 /// How much was done.
-#[derive(Clone, Copy, Debug, PartialEq, Eq)]
+#[derive(Clone, Copy, PartialEq, Eq)]
 pub enum Count {
     /// Functions with an entry in the proof file, and functions whose entry was filled in.
     Checked(usize, usize),
@@ -66,7 +66,7 @@ pub enum ProofText {
 }
 
 /// What is wrong with the text of a proof file.
-#[derive(Clone, Copy, Debug, PartialEq, Eq)]
+#[derive(Clone, Copy, PartialEq, Eq)]
 pub enum ProofFileText {
     /// A byte begins nothing, or does not fit its symbol.
     BadByte,
@@ -85,7 +85,7 @@ pub enum ProofFileText {
 }
 
 /// A fault, as its line tells it.
-#[derive(Debug, Drop)]
+#[derive(Drop)]
 pub enum FaultText {
     /// The words mean no command.
     Usage,

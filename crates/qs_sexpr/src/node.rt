@@ -1,7 +1,7 @@
 // Nodes: lists and atoms with their places.
 
 /// A number, a symbol or a list.
-#[derive(Clone, Copy, PartialEq, Eq, Debug)]
+#[derive(Clone, Copy, PartialEq, Eq)]
 pub enum Item {
     /// A number.
     Number(i64),
@@ -17,7 +17,7 @@ pub enum Item {
 }
 
 /// An atom or a list, with the number of its first byte.
-#[derive(Clone, Copy, PartialEq, Eq, Debug)]
+#[derive(Clone, Copy, PartialEq, Eq)]
 pub struct Node {
     /// The number of its first byte in the text, from 0.
     pub at: u32,

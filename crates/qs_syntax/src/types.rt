@@ -5,7 +5,7 @@ use qs_base::{Name, NoMemory};
 use std::alloc::Global;
 
 /// The type that a declaration begins with (C11 6.7.2). `const` and `static` leave no trace.
-#[derive(Debug, Drop)]
+#[derive(Drop)]
 pub enum Base {
     /// `void`
     Void,
@@ -35,7 +35,7 @@ impl Base {
 }
 
 /// The name of a type (C11 6.7.7).
-#[derive(Debug, Drop)]
+#[derive(Drop)]
 pub struct TypeName {
     /// What it begins with.
     pub base: Base,

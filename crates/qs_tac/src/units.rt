@@ -17,7 +17,7 @@ pub struct TacFunction {
 }
 
 /// A block of data: a file-scope variable, or a string literal.
-#[derive(Clone, Copy, PartialEq, Eq, Debug)]
+#[derive(Clone, Copy, PartialEq, Eq)]
 pub struct TacData {
     /// its bytes
     pub size: u32,

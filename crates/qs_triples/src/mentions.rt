@@ -16,7 +16,7 @@ use qs_memory::{Scalar, is_integer};
 use std::alloc::Global;
 
 /// Where an assertion stands.
-#[derive(Clone, Copy, PartialEq, Eq, Debug)]
+#[derive(Clone, Copy, PartialEq, Eq)]
 pub enum Standing {
     /// It is a precondition.
     Before,

@@ -4,7 +4,7 @@ use crate::text::Text;
 use qs_base::{Keyword, Name};
 
 /// A token as the grammar sees it. The number of the token comes first.
-#[derive(Debug, Drop)]
+#[derive(Drop)]
 pub enum Terminal {
     /// A name.
     Name(u32, Name),

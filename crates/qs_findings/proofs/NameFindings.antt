@@ -16,8 +16,9 @@ use Rattle.qs_types.specs.StatementRules.{after_variable, after_statement, for_c
 use Rattle.qs_types.specs.UnitRules as units
 use Rattle.qs_types.specs.UnitRules.{with_tag, is_defined, Before, no_members, after_member, after_together, after_parameter, after_declaration, body_context, parameter_types}
 use Rattle.qs_types.specs.Sites.{may_hold}
-use Rattle.qs_findings.specs.declared.entity.Referent.{Referent}
-use Rattle.qs_findings.specs.ExprFindings.{of_nodes, referent_of}
+use Rattle.qs_types.specs.declared.referent.Referent.{Referent}
+use Rattle.qs_types.specs.Referents.{referent_of}
+use Rattle.qs_findings.specs.ExprFindings.{of_nodes}
 use Rattle.qs_findings.specs.UnitNodes.{of_option, of_lengths, of_declarator, of_declarators, of_initialiser, of_initialisers, of_option_initialiser, of_variables, of_start, of_statement, of_statements, of_else, of_members, of_parameters, of_body, of_declaration, of_declarations}
 use Rattle.qs_findings.specs.NodeReferents.{no_referent, unit_referents}
 use Rattle.qs_findings.specs.Noted.{parameters_noted}

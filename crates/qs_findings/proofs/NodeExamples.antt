@@ -7,7 +7,7 @@ use Rattle.qs_syntax.specs.Trees as trees
 use Rattle.qs_syntax.specs.Numbering.{numbered_unit}
 use Rattle.qs_types.specs.GivenFunctions.{putchar_name}
 use Rattle.qs_types.specs.Types.{int, char, pointer, array}
-use Rattle.qs_findings.specs.declared.entity.Referent.TheVariants as referents
+use Rattle.qs_types.specs.declared.referent.Referent.TheVariants as referents
 use Rattle.qs_findings.specs.LatestHeaders.{latest, unit_headers}
 use Rattle.qs_findings.specs.NodeReferents.{unit_referents, unit_addressed}
 use Rattle.qs_findings.specs.NodeTypes.{unit_types}

@@ -12,9 +12,10 @@ use Rattle.qs_types.specs.Contexts.{Context}
 use Rattle.qs_types.specs.Expressions.{Judged, type_of, shape_judged}
 use Rattle.qs_types.specs.ExpressionFaults.{Position, used, discarded, whole, operand_position, assigned_position, object_position, right_position, position_tests, own_tests}
 use Rattle.qs_types.specs.Placed.{operand_of, named_local}
-use Rattle.qs_findings.specs.declared.entity.Referent.{Referent}
+use Rattle.qs_types.specs.declared.referent.Referent.{Referent}
 use Rattle.qs_findings.specs.Findings.{FoundTree, Findings, least_with, judged_at, with_findings, both}
-use Rattle.qs_findings.specs.ExprFindings.{shape_referent, expr_findings, part_findings, all_findings}
+use Rattle.qs_types.specs.Referents.{shape_referent}
+use Rattle.qs_findings.specs.ExprFindings.{expr_findings, part_findings, all_findings}
 use Rattle.qs_findings.specs.PartsOf.{type_by}
 use Rattle.qs_findings.specs.Walk.{opened, filled, with_addressed, walked, parts_walked, all_walked}
 use Rattle.qs_findings.proofs.LeastFaults.{least_swaps, least_with-append}

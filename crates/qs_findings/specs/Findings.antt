@@ -4,7 +4,7 @@ use Rattle.qs_types.specs.Types.{TypeTree}
 use Rattle.qs_types.specs.declared.rules.Rule.{Rule}
 use Rattle.qs_types.specs.Rules.{rule_number, Test, Fault, faults_of}
 use Rattle.qs_types.specs.UnitRules.{is_among}
-use Rattle.qs_findings.specs.declared.entity.Referent.{Referent}
+use Rattle.qs_types.specs.declared.referent.Referent.{Referent}
 
 -- ---- the least fault
 

@@ -1,6 +1,6 @@
 -- What code adds to what is found, as the definitions say.
 use Rattle.std.specs.Prelude.{◌≡◌, ℕ, List, [], ◌∷◌, Option, None, map}
-use Rattle.qs_findings.specs.declared.entity.Referent.{Referent}
+use Rattle.qs_types.specs.declared.referent.Referent.{Referent}
 use Rattle.qs_findings.specs.declared.found.Found.{Found}
 use Rattle.qs_findings.specs.declared.judged.Test.{Test}
 use Rattle.qs_findings.specs.Findings.{judged_at}

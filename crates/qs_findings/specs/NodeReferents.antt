@@ -5,8 +5,8 @@ use Rattle.qs_syntax.specs.Trees.{UnitTree}
 use Rattle.qs_types.specs.Types.{TypeTree}
 use Rattle.qs_types.specs.Placed.{addressed}
 use Rattle.qs_types.specs.Sites.{unit_sites}
-use Rattle.qs_findings.specs.declared.entity.Referent.{Referent}
-use Rattle.qs_findings.specs.ExprFindings.{referent_of}
+use Rattle.qs_types.specs.declared.referent.Referent.{Referent}
+use Rattle.qs_types.specs.Referents.{referent_of}
 use Rattle.qs_findings.specs.UnitNodes.{of_unit}
 
 -- a node that is no expression names nothing

@@ -7,9 +7,9 @@ use Rattle.qs_types.specs.Contexts.{Context}
 use Rattle.qs_types.specs.Expressions.{type_of, shape_judged}
 use Rattle.qs_types.specs.ExpressionFaults.{Position, used, discarded, whole, operand_position, assigned_position, object_position, right_position, position_tests, own_tests}
 use Rattle.qs_types.specs.Placed.{operand_of, named_local}
-use Rattle.qs_findings.specs.declared.entity.Referent.{Referent}
+use Rattle.qs_types.specs.declared.referent.Referent.{Referent}
 use Rattle.qs_findings.specs.Findings.{FoundTree, judged_at}
-use Rattle.qs_findings.specs.ExprFindings.{shape_referent}
+use Rattle.qs_types.specs.Referents.{shape_referent}
 
 -- with the type of one more node, and what its name stands for
 abbrev pub opened : Option TypeTree → Option Referent → FoundTree → FoundTree

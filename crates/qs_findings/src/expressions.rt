@@ -8,7 +8,7 @@ ghost use Rattle.qs_types.specs.Placed.{local_node, named_local};
 ghost use Rattle.qs_types.specs.Types.{array, char, int, unsigned};
 ghost use Rattle.qs_findings.specs.ContextOf.{context_tree};
 ghost use Rattle.qs_findings.specs.EntityOf.{entity_at};
-ghost use Rattle.qs_findings.specs.ExprFindings.{given_referent, referent, shape_referent};
+ghost use Rattle.qs_types.specs.Referents.{given_referent, referent, shape_referent};
 ghost use Rattle.qs_findings.specs.ExprWalks.{AddsFindings, AddsType, HasType, HaveTypes};
 ghost use Rattle.qs_findings.specs.ExprWalks.{IsJudgedAssign, IsJudgedBinary, IsJudgedComma};
 ghost use Rattle.qs_findings.specs.ExprWalks.{IsJudgedConditional, IsJudgedMember, IsJudgedShape};
@@ -22,7 +22,8 @@ ghost use Rattle.qs_findings.specs.PartsOf.{option_type, type_by};
 
 use crate::assignments::judge_assign;
 use crate::context::Context;
-use crate::entity::{Entity, Referent};
+use crate::entity::Entity;
+use qs_types::Referent;
 use crate::found::Found;
 use crate::judged::{Judged, violates, with_tests};
 use crate::members::judge_member;

@@ -8,7 +8,7 @@ ghost use Rattle.qs_findings.specs.Founding.{NotesAddressed, NotesTests, Opens};
 ghost use Rattle.qs_findings.specs.JudgedOf.{test_tree};
 ghost use Rattle.qs_findings.specs.Walk.{filled};
 
-use crate::entity::Referent;
+use qs_types::Referent;
 use crate::judged::Test;
 use qs_base::NoMemory;
 use qs_types::{CType, Rule};

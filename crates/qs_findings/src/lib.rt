@@ -22,7 +22,7 @@ mod types;
 mod walk;
 
 pub use context::{Context, is_void_base};
-pub use entity::{Entity, Referent, Signature};
+pub use entity::{Entity, Signature};
 pub use expressions::walk_expression;
 pub use found::{Fault, Found};
 pub use judged::{Test, keeps, violates};

@@ -15,7 +15,7 @@ ghost use Rattle.qs_findings.specs.TypeSets.{blocks_prop, structs_prop, texts_pr
 
 mod methods;
 
-use crate::entity::Referent;
+use qs_types::Referent;
 use crate::noted::{Block, TextBlock};
 use indexmap::IndexSet;
 use qs_base::Name;

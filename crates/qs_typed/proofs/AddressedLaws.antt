@@ -14,8 +14,9 @@ use Rattle.qs_types.specs.InitialiserRules.{option_part}
 use Rattle.qs_types.specs.StatementRules.{after_variable, after_statement, for_context}
 use Rattle.qs_types.specs.Placed.{local_node, named_local, operand_of, addressed, shape_addressed, all_addressed}
 use Rattle.qs_types.specs.Sites.{Site, site, sites, option_sites, declarator_sites, initialiser_sites, elements_sites, option_initialiser_sites, variable_sites, variables_sites, start_sites, statement_sites, statements_sites, else_sites}
-use Rattle.qs_findings.specs.declared.entity.Referent.TheVariants as referents
-use Rattle.qs_findings.specs.ExprFindings.{referent, of_nodes}
+use Rattle.qs_types.specs.declared.referent.Referent.TheVariants as referents
+use Rattle.qs_types.specs.Referents.{referent}
+use Rattle.qs_findings.specs.ExprFindings.{of_nodes}
 use Rattle.qs_findings.specs.UnitNodes.{of_option, of_lengths, of_declarator, of_initialiser, of_initialisers, of_option_initialiser, of_variables, of_start, of_statement, of_statements, of_else}
 use Rattle.qs_typed.specs.Addressed as known
 use Rattle.qs_typed_bodies.specs.Known.{Known}

@@ -9,8 +9,9 @@ use Rattle.qs_types.specs.Contexts.{Context, inner_scope, inside_loop}
 use Rattle.qs_types.specs.Declarations.{variable_declared}
 use Rattle.qs_types.specs.Expressions.{type_of}
 use Rattle.qs_types.specs.StatementRules.{after_variable, after_variables, after_statement, after_start, for_context}
-use Rattle.qs_findings.specs.declared.entity.Referent.{Referent}
-use Rattle.qs_findings.specs.ExprFindings.{referent_of, node_of, of_nodes}
+use Rattle.qs_types.specs.declared.referent.Referent.{Referent}
+use Rattle.qs_types.specs.Referents.{referent_of}
+use Rattle.qs_findings.specs.ExprFindings.{node_of, of_nodes}
 use Rattle.qs_findings.specs.UnitNodes.{of_option, of_declarator, of_initialiser, of_initialisers, of_option_initialiser, of_variables, of_start, of_statement, of_statements, of_else}
 use Rattle.qs_meaning.specs.Names.{Scope, within}
 use Rattle.qs_meaning.specs.Statements.{behind_variable, inner, loop_body, in_for}

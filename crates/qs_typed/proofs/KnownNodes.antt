@@ -7,9 +7,10 @@ use Rattle.qs_syntax.specs.Trees.{ExprTree, expr, ShapeTree, Exprs, no_exprs, ex
 use Rattle.qs_syntax.specs.Trees as trees
 use Rattle.qs_types.specs.Types.{TypeTree}
 use Rattle.qs_types.specs.Contexts.{Context}
-use Rattle.qs_findings.specs.declared.entity.Referent.{Referent}
+use Rattle.qs_types.specs.declared.referent.Referent.{Referent}
 use Rattle.qs_types.specs.Expressions.{type_of}
-use Rattle.qs_findings.specs.ExprFindings.{referent_of, node_of, of_nodes, of_parts, of_all}
+use Rattle.qs_types.specs.Referents.{referent_of}
+use Rattle.qs_findings.specs.ExprFindings.{node_of, of_nodes, of_parts, of_all}
 use Rattle.qs_typed_bodies.specs.Known.{Known, at_number}
 use Rattle.qs_typed_bodies.specs.Agrees.{NodesKnown, PartsKnown, AllKnown}
 

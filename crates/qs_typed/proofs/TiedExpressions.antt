@@ -14,12 +14,12 @@ use Rattle.qs_calls.specs.declared.callee.Callee.TheVariants as callees
 use Rattle.qs_types.specs.Types.{TypeTree, struct}
 use Rattle.qs_types.specs.Conversions.{decayed}
 use Rattle.qs_types.specs.GivenFunctions.{Signature, putchar_name, putchar_type, getchar_type}
-use Rattle.qs_findings.specs.declared.entity.Referent.TheVariants as referents
+use Rattle.qs_types.specs.declared.referent.Referent.TheVariants as referents
 use Rattle.qs_types.specs.Layout.{and_then}
 use Rattle.qs_types.specs.Rules.{breaks_one, type_unless}
 use Rattle.qs_types.specs.Contexts.{Context, Entity, local_variable, file_variable, function, given, entity_of, tag_place, base_type, pointers, named_type}
 use Rattle.qs_types.specs.Expressions.{type_of, type_or_void, cast_judged}
-use Rattle.qs_findings.specs.ExprFindings.{referent, referent_of}
+use Rattle.qs_types.specs.Referents.{referent, referent_of}
 use Rattle.qs_meaning.specs.Typed.{pointer_to, object}
 use Rattle.qs_meaning.specs.Conversions.{scalar_of}
 use Rattle.qs_meaning.specs.Forms.{Form, lvalue, call, TypedExpr}

@@ -19,7 +19,7 @@ use Rattle.qs_types.specs.Expressions.{is_null_constant}
 use Rattle.qs_types.specs.References.{literal_blocks}
 use Rattle.qs_types.specs.StatementRules.{after_variable, after_variables}
 use Rattle.qs_types.specs.UnitRules.{with_tag, after_struct, after_function, context_after}
-use Rattle.qs_findings.specs.ExprFindings.{referent}
+use Rattle.qs_types.specs.Referents.{referent}
 use Rattle.qs_findings.specs.UnitNodes.{of_declarator, of_initialiser, of_initialisers, of_option_initialiser, of_variables, of_declaration, of_declarations}
 use Rattle.qs_meaning.specs.Typed.{Function, StaticBlock, TypedProgram}
 use Rattle.qs_meaning.specs.Conversions.{scalar_of}

@@ -4,7 +4,7 @@ use Rattle.qs_types.specs.References.{literal_blocks}
 use Rattle.qs_types.specs.Expressions.{type_of}
 use Rattle.qs_syntax.specs.Trees.{UnitTree}
 use Rattle.qs_findings.specs.declared.typed_unit.TypedUnit.{TypedUnit}
-use Rattle.qs_findings.specs.ExprFindings.{referent_of}
+use Rattle.qs_types.specs.Referents.{referent_of}
 use Rattle.qs_findings.specs.NodeReferents.{no_referent, unit_referents}
 use Rattle.qs_findings.specs.NodeTypes.{declared_type, unit_types}
 use Rattle.qs_findings.specs.TypedOf.{typed_tree}

@@ -14,7 +14,7 @@ use Rattle.qs_types.specs.Expressions.{type_of}
 use Rattle.qs_types.specs.UnitRules.{context_after}
 use Rattle.qs_types.specs.WellTyped.{WellTyped}
 use Rattle.qs_findings.specs.ByNumber.{IsByNumber}
-use Rattle.qs_findings.specs.ExprFindings.{referent_of}
+use Rattle.qs_types.specs.Referents.{referent_of}
 use Rattle.qs_findings.specs.NodeReferents.{no_referent, unit_referents}
 use Rattle.qs_findings.specs.NodeTypes.{declared_type, unit_types}
 use Rattle.qs_findings.specs.UnitNodes.{of_unit}

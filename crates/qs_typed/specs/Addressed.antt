@@ -3,8 +3,8 @@ use Rattle.std.specs.Prelude.{ℕ, List, [], ◌∷◌, ◌++◌, Option, Some, 
 use Rattle.qs_syntax.specs.Trees.{ExprTree, expr, ShapeTree, Exprs, no_exprs, expr_and, InitialiserTree, Initialisers, no_initialisers, initialiser_and, VariableTree, StartTree, no_start, start_expression, start_declaration, StmtTree, Stmts, no_stmts, stmt_and, Else, no_else, else_by}
 use Rattle.qs_syntax.specs.Trees as trees
 use Rattle.qs_types.specs.Placed.{operand_of}
-use Rattle.qs_findings.specs.declared.entity.Referent.{Referent}
-use Rattle.qs_findings.specs.declared.entity.Referent.TheVariants as referents
+use Rattle.qs_types.specs.declared.referent.Referent.{Referent}
+use Rattle.qs_types.specs.declared.referent.Referent.TheVariants as referents
 use Rattle.qs_typed_bodies.specs.Known.{at_number}
 
 -- what names stand for, by the numbers of the nodes

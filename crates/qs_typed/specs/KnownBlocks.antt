@@ -9,8 +9,8 @@ use Rattle.qs_types.specs.Types.{TypeTree, is_pointer, is_array}
 use Rattle.qs_types.specs.Contexts.{context_with}
 use Rattle.qs_types.specs.Expressions.{is_null_constant}
 use Rattle.qs_types.specs.Constants.{value_of}
-use Rattle.qs_findings.specs.declared.entity.Referent.{Referent}
-use Rattle.qs_findings.specs.declared.entity.Referent.TheVariants as referents
+use Rattle.qs_types.specs.declared.referent.Referent.{Referent}
+use Rattle.qs_types.specs.declared.referent.Referent.TheVariants as referents
 use Rattle.qs_meaning.specs.Typed.{StaticBlock}
 use Rattle.qs_meaning.specs.Conversions.{scalar_of}
 use Rattle.qs_meaning.specs.Names.{Statics, file_variable_object, text_object}

@@ -4,7 +4,7 @@ use Rattle.std.specs.List.{list_any}
 use Rattle.qs_syntax.specs.Trees.{structure, forward, function, variables, FunctionTree, Stmts, UnitTree}
 use Rattle.qs_memory.specs.Partial.{◌>>=◌}
 use Rattle.qs_types.specs.Types.{TypeTree, Structs}
-use Rattle.qs_findings.specs.declared.entity.Referent.{Referent}
+use Rattle.qs_types.specs.declared.referent.Referent.{Referent}
 use Rattle.qs_meaning.specs.Typed.{Function}
 use Rattle.qs_meaning.specs.Names.{Locals, Statics}
 use Rattle.qs_typed.specs.Addressed.{statements_addressed}

@@ -12,7 +12,7 @@ ghost use Rattle.qs_typed.specs.AddressedOf.{initialisers_operands, operand_in, 
 ghost use Rattle.qs_typed_bodies.specs.Results.{Adds};
 
 use qs_base::NoMemory;
-use qs_findings::Referent;
+use qs_types::Referent;
 use qs_syntax::{Expr, Initialiser, Shape, Start, Stmt, Variable};
 use qs_typed_bodies::referent_in;
 use qs_vocabulary::UnaryOperator;

@@ -21,7 +21,7 @@ use crate::cells::{Cell, push_bytes, push_pointer};
 use crate::contents::Target;
 use crate::tables::Tables;
 use qs_base::NoMemory;
-use qs_findings::Referent;
+use qs_types::Referent;
 use qs_memory::Scalar;
 use qs_syntax::{Expr, Shape};
 use qs_typed_bodies::{Statics, file_variable_object, referent_in, text_object, text_of};

@@ -10,7 +10,7 @@ ghost use Rattle.qs_typed.specs.TablesOf.{defined_name};
 use crate::functions::insert;
 use indexmap::{IndexMap, IndexSet};
 use qs_base::{Name, NoMemory};
-use qs_findings::Referent;
+use qs_types::Referent;
 use qs_memory::Scalar;
 use qs_syntax::{Decl, Function, Variable};
 use qs_typed_bodies::Statics;

@@ -12,7 +12,7 @@ use Rattle.qs_types.specs.Layout.{and_then, offset_of, struct_of}
 use Rattle.qs_types.specs.StructsOf.{member_tree}
 use Rattle.qs_types.specs.TypeOf.{type_tree}
 use Rattle.qs_types.specs.declared.types.CType.{CType}
-use Rattle.qs_findings.proofs.Tags.{tag_position}
+use Rattle.qs_types.proofs.TagPlaces.{tag_position}
 use Rattle.qs_meaning.specs.Expressions.{member_number, member_offset}
 
 abbrev pub entry_names : List (List ℕ × CType) → List (List ℕ)

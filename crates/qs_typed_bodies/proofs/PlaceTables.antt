@@ -6,7 +6,7 @@ use Rattle.std.specs.Map.{lookup}
 use Rattle.std.specs.Prelude.{Vec}
 use Rattle.std.specs.declared.alloc.Global.{Global}
 use Rattle.qs_memory.specs.declared.scalar.Scalar.{Scalar}
-use Rattle.qs_findings.proofs.Tags.{tag_position}
+use Rattle.qs_types.proofs.TagPlaces.{tag_position}
 use Rattle.std.proofs.lemmas.Cmp.{nat_list_eq_equiv, nat_eq_equiv}
 use Rattle.qs_base.specs.Bytes.{same_bytes}
 use Rattle.qs_types.specs.Types.{TypeTree}

@@ -11,7 +11,7 @@ use Rattle.qs_types.specs.Declarations.{variable_declared}
 use Rattle.qs_types.specs.StatementRules.{after_statement}
 use Rattle.qs_types.specs.Contexts.{Context, function, given, entity_of, tag_place}
 use Rattle.qs_types.specs.Expressions.{type_of}
-use Rattle.qs_findings.specs.ExprFindings.{referent_of}
+use Rattle.qs_types.specs.Referents.{referent_of}
 use Rattle.qs_meaning.specs.Conversions.{scalar_of}
 use Rattle.qs_meaning.specs.Names.{Scope, within}
 use Rattle.qs_meaning.specs.Blanks.{blank_of}

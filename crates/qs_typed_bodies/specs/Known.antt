@@ -13,8 +13,8 @@ use Rattle.qs_types.specs.Types.{TypeTree, Structs}
 use Rattle.qs_types.specs.Contexts.{Context, start_context, base_type, named_type}
 use Rattle.qs_syntax.specs.declared.types.Base.{Base}
 use Rattle.qs_syntax.specs.declared.types.TypeName.{TypeName}
-use Rattle.qs_findings.specs.declared.entity.Referent.{Referent}
-use Rattle.qs_findings.specs.declared.entity.Referent.TheVariants as referents
+use Rattle.qs_types.specs.declared.referent.Referent.{Referent}
+use Rattle.qs_types.specs.declared.referent.Referent.TheVariants as referents
 use Rattle.qs_meaning.specs.Typed.{constant, pointer_to, Arguments, no_arguments, argument_and, Lvalue, object}
 use Rattle.qs_meaning.specs.Conversions.{scalar_of}
 use Rattle.qs_meaning.specs.Names.{Locals, Statics, local_lvalue, file_variable_object, text_object, function_number}

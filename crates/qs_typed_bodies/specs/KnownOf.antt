@@ -6,7 +6,7 @@ use Rattle.qs_memory.specs.declared.scalar.Scalar.{Scalar}
 use Rattle.qs_syntax.specs.TreeOf.{exprs_tree}
 use Rattle.qs_syntax.specs.declared.expressions.Expr.{Expr}
 use Rattle.qs_types.specs.EnvOf.{env_tree}
-use Rattle.qs_findings.specs.declared.entity.Referent.{Referent}
+use Rattle.qs_types.specs.declared.referent.Referent.{Referent}
 use Rattle.qs_typed_bodies.specs.Known as pure
 use Rattle.qs_typed_bodies.specs.PlacesOf.{locals_tree, statics_tree}
 use Rattle.qs_typed_bodies.specs.Results.{Gives, listed}

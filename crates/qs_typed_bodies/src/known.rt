@@ -21,7 +21,7 @@ use crate::sizes::size_in;
 use indexmap::{IndexMap, IndexSet};
 use qs_base::{FnId, Name, NoMemory, count};
 use qs_calls::Callee;
-use qs_findings::Referent;
+use qs_types::Referent;
 use qs_memory::Scalar;
 use qs_syntax::{Base, Expr, TypeName};
 use qs_typed_trees::{Expression, Lvalue};

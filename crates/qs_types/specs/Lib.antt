@@ -20,6 +20,7 @@ pub mod StatementRules
 pub mod UnitRules
 pub mod Sites
 pub mod References
+pub mod Referents
 pub mod Placed
 pub mod Limits
 pub mod UnitLaws

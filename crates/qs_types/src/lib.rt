@@ -9,6 +9,7 @@ mod kinds;
 mod laws;
 mod layout;
 mod limits;
+mod referent;
 mod rules;
 mod structs;
 mod tags;
@@ -26,6 +27,7 @@ pub use layout::{
     SIZE_LIMIT, align_of, extent_of, is_complete, members_layout, offset_of, size_of,
 };
 pub use limits::LimitKind;
+pub use referent::Referent;
 pub use rules::Rule;
 pub use structs::{StructLayout, StructType};
 pub use tags::tag_place;

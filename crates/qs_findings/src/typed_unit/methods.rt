@@ -9,7 +9,7 @@ ghost use Rattle.qs_types.specs.UnitRules.{structs_of};
 ghost use Rattle.qs_types.specs.WellTyped.{end_context};
 ghost use Rattle.qs_findings.specs.ByNumber.{IsByNumber};
 ghost use Rattle.qs_findings.specs.ContextOf.{context_tree};
-ghost use Rattle.qs_findings.specs.ExprFindings.{referent_of};
+ghost use Rattle.qs_types.specs.Referents.{referent_of};
 ghost use Rattle.qs_findings.specs.NodeReferents.{no_referent, unit_addressed, unit_referents};
 ghost use Rattle.qs_findings.specs.NodeTypes.{AreTypesByNumber, unit_types};
 ghost use Rattle.qs_findings.specs.NotedOf.{block_tree, text_tree};
@@ -20,7 +20,7 @@ ghost use Rattle.qs_findings.specs.WalkOf.{walk_tree};
 
 use super::TypedUnit;
 use crate::context::Context;
-use crate::entity::Referent;
+use qs_types::Referent;
 use crate::noted::{Block, TextBlock};
 use crate::walk::Walk;
 use indexmap::IndexSet;

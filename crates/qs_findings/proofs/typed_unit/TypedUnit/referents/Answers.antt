@@ -1,5 +1,5 @@
 use Rattle.std.proofs.Common.{◌∙◌}
-use Rattle.qs_findings.specs.ExprFindings.{referent_of}
+use Rattle.qs_types.specs.Referents.{referent_of}
 use Rattle.qs_findings.specs.NodeReferents.{no_referent}
 use Rattle.qs_findings.proofs.TypedLaws.{by_number}
 use Rattle.qs_findings.proofs.typed_unit.TypedUnit.referents.Goals as goal

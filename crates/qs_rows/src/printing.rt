@@ -1,6 +1,7 @@
 // What crates below the tool answer, as text.
 use qs_base::NoMemory;
 use qs_cli::{CliFault, read_words};
+use qs_copies::copy_unit;
 use qs_driver::SOURCE_LIMIT;
 use qs_elaborate::elaborate;
 use qs_isa::{decode, encode};
@@ -26,7 +27,7 @@ fn read(alloc: Global, source: &[u8]) -> Option<Unit> {
 // The text of the unit, where its copy is printed alike.
 fn text_of(alloc: Global, unit: &Unit) -> Result<Option<Vec<u8>>, NoMemory> {
     let text = print(alloc, unit)?;
-    let copy = unit.copy(alloc)?;
+    let copy = copy_unit(alloc, unit)?;
     if copy.nodes() == unit.nodes() && print(alloc, &copy)? == text {
         Ok(Some(text))
     } else {

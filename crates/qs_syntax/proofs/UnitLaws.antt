@@ -23,7 +23,7 @@ is_numbered ds unnumbered e = ∣ ap numbered_unit e ∙ (unit_numbered_again un
 pub tokens_stay : (ds : UnitTree) → tokens_of (unit_nodes (numbered_unit ds)) ≡ tokens_of (unit_nodes ds)
 tokens_stay ds = ap tokens_of (unit_at ds) ∙ same_tokens 0 (unit_nodes ds)
 
-same_node : Node → Node → Bool
+abbrev same_node : Node → Node → Bool
 same_node a b = (a.id == b.id) && (a.token == b.token)
 
 node_exact : (a b : Node) → Decides (same_node a b) (a ≡ b)

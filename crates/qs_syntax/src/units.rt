@@ -1,20 +1,15 @@
-// What stands at file scope (C11 6.9): its trees, copies, and the numbers
-// of the nodes.
-ghost use Rattle.std.specs.Prelude.{◌≡◌, IfOk, OnOk, map};
-ghost use Rattle.qs_syntax.specs.TreeOf.{parameter_tree, struct_tree};
-ghost use Rattle.qs_syntax.specs.TreeOf.{function_tree, decl_tree, body_tree};
+// What stands at file scope (C11 6.9): its trees, and the numbers of the nodes.
+ghost use Rattle.std.specs.Prelude.{IfOk, OnOk};
 ghost use Rattle.qs_syntax.specs.Sorts.{HasRoom, Numbers, Counts, Appends, bodies, externals};
 ghost use Rattle.qs_syntax.specs.Sorts.{functions, group_list, parameter_list, structs, units};
 
 use crate::declarations::{
-    Declaration, Members, Parameter, copy_declaration, copy_members, copy_parameter,
-    number_declaration, number_members, number_parameter,
+    Declaration, Members, Parameter, number_declaration, number_members, number_parameter,
 };
 use crate::nodes::{Node, number_node};
-use crate::statements::{Stmt, copy_stmts, number_stmts};
+use crate::statements::{Stmt, number_stmts};
 use crate::types::TypeName;
 use qs_base::{Name, NoMemory};
-use std::alloc::Global;
 
 /// A struct and its members (C11 6.7.2.1).
 #[derive(Drop)]
@@ -62,79 +57,6 @@ pub enum Decl {
     Function(Function),
     /// Variables.
     Variable(Declaration),
-}
-
-// ---- copies
-
-fn copy_struct(alloc: Global, from: &Struct) -> Result<Struct, NoMemory>
-    ensures { IfOk result (λ to. struct_tree to ≡ struct_tree from.now) }
-{
-    let mut members = Vec::new(alloc);
-    for group in &from.members {
-        members.push(copy_members(alloc, group)?)?;
-    }
-    Ok(Struct {
-        node: from.node,
-        name: from.name.copy(alloc)?,
-        members,
-    })
-}
-
-fn copy_parameters(alloc: Global, from: &[Parameter]) -> Result<Vec<Parameter>, NoMemory>
-    ensures { IfOk result (λ to. map parameter_tree to.items ≡ map parameter_tree from.now) }
-{
-    let mut to = Vec::new(alloc);
-    for parameter in from {
-        to.push(copy_parameter(alloc, parameter)?)?;
-    }
-    Ok(to)
-}
-
-fn copy_body(alloc: Global, from: &Option<Vec<Stmt>>) -> Result<Option<Vec<Stmt>>, NoMemory>
-    ensures { IfOk result (λ to. body_tree to ≡ body_tree from.now) }
-{
-    match from {
-        None => Ok(None),
-        Some(items) => Ok(Some(copy_stmts(alloc, items)?)),
-    }
-}
-
-fn copy_function(alloc: Global, from: &Function) -> Result<Function, NoMemory>
-    ensures { IfOk result (λ to. function_tree to ≡ function_tree from.now) }
-{
-    Ok(Function {
-        node: from.node,
-        result_type: from.result_type.copy(alloc)?,
-        name: from.name.copy(alloc)?,
-        parameters: copy_parameters(alloc, &from.parameters)?,
-        body: copy_body(alloc, &from.body)?,
-    })
-}
-
-fn copy_decl(alloc: Global, from: &Decl) -> Result<Decl, NoMemory>
-    ensures { IfOk result (λ to. decl_tree to ≡ decl_tree from.now) }
-{
-    match from {
-        Decl::Struct(from) => Ok(Decl::Struct(copy_struct(alloc, from)?)),
-        Decl::Forward(from) => Ok(Decl::Forward(Forward {
-            node: from.node,
-            name: from.name.copy(alloc)?,
-        })),
-        Decl::Function(from) => Ok(Decl::Function(copy_function(alloc, from)?)),
-        Decl::Variable(from) => Ok(Decl::Variable(copy_declaration(alloc, from)?)),
-    }
-}
-
-/// Copies of the declarations of a unit, in their order, with the same numbers and tokens of their
-/// nodes.
-pub fn copy_decls(alloc: Global, from: &[Decl]) -> Result<Vec<Decl>, NoMemory>
-    ensures { IfOk result (λ to. map decl_tree to.items ≡ map decl_tree from.now) }
-{
-    let mut to = Vec::new(alloc);
-    for declaration in from {
-        to.push(copy_decl(alloc, declaration)?)?;
-    }
-    Ok(to)
 }
 
 // ---- the numbers of the nodes

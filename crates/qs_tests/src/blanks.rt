@@ -1,44 +1,8 @@
-// That memory is found for copies: of a blank with a part of each sort, and of blanks that are as deep
-// as types nest.
+// That memory is found for copies of blanks that are as deep as types nest.
 use qs_base::NoMemory;
 use qs_memory::Blank;
 use std::alloc::Global;
 use std::test::*;
-
-/// That of `struct { char c; int *p[2]; }`: a byte and its padding, then two pointers.
-fn of_a_struct(alloc: Global) -> Result<Blank, NoMemory> {
-    let pointers = Blank::Repeated(2, Box::new(alloc, Blank::Nulls(1))?);
-    let mut members = Vec::new(alloc);
-    members.push(Blank::Zeros(4))?;
-    members.push(pointers)?;
-    Ok(Blank::Joined(members))
-}
-
-fn is_null(blank: &Blank) -> bool {
-    matches!(blank, Blank::Nulls(1))
-}
-
-fn are_members(members: &[Blank]) -> bool {
-    match members {
-        [Blank::Zeros(4), Blank::Repeated(2, pointer)] => is_null(pointer),
-        _ => false,
-    }
-}
-
-fn is_of_a_struct(blank: &Blank) -> bool {
-    match blank {
-        Blank::Joined(members) => are_members(members),
-        _ => false,
-    }
-}
-
-#[test]
-fn a_copy(rt: HostRuntime) -> Result<(), Fail> {
-    let blank = of_a_struct(rt.alloc())?;
-    let copy = blank.copy(rt.alloc())?;
-    assert!(rt; is_of_a_struct(&copy));
-    Ok(())
-}
 
 /// That of `char c[1][1]..[1]` with 10,000 dimensions.
 fn of_a_deep_array(alloc: Global) -> Result<Blank, NoMemory> {

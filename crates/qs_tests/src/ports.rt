@@ -1,7 +1,7 @@
-// What no clause says: that memory is found for the stores and sinks in memory.
+// What no clause says: that memory is found for the store and the sink that never fail.
 use qs_base::NoMemory;
 use qs_ports::{
-    CleanSink, CleanStore, FILE_ROOM, MemSink, MemStore, ReadFault, Sink, SinkFault, Store,
+    CleanSink, CleanStore, FILE_ROOM, ReadFault, Sink, SinkFault, Store,
     put_all, read_whole, write_whole,
 };
 use std::alloc::Global;
@@ -56,17 +56,3 @@ fn clean_forms_take_all(rt: HostRuntime) -> Result<(), Fail> {
     Ok(())
 }
 
-// A copy to `c` moves 36 bytes: those of `a`, the name's and the 24 of a file.
-#[test]
-fn forms_with_a_plan_take_all_that_has_room(rt: HostRuntime) -> Result<(), Fail> {
-    let alloc = rt.alloc();
-    for (room, held) in [(36, Some(TEXT)), (35, None), (0, None)] {
-        let mut store = MemStore::new(alloc, files(alloc)?, 4, Vec::new(alloc), room)?;
-        copy(alloc, &mut store)?;
-        assert!(rt; held.is_none() || store.file("c") == held, "at {room}");
-        let mut sink = MemSink::new(alloc, 4, Vec::new(alloc), room)?;
-        put_two(&mut sink)?;
-        assert!(rt; held.is_none() || sink.written() == TEXT, "at {room}");
-    }
-    Ok(())
-}

@@ -18,6 +18,7 @@ ghost use Rattle.qs_findings.specs.declared.type_fault.TypeFault.TheVariants as 
 use crate::units::walk_declarations;
 use indexmap::IndexSet;
 use qs_base::{Name, NoMemory};
+use qs_copies::copy_unit;
 use qs_findings::{
     Block, Context, Entity, Noted, TextBlock, TypeFault, TypedUnit, Walk, block_past,
 };
@@ -254,6 +255,6 @@ pub fn check(alloc: Global, unit: &Unit) -> Result<TypedUnit, TypeFault>
     if let Some(f) = late_fault(alloc, unit, &c, &walk)? {
         return Err(f);
     }
-    let copy = unit.copy(alloc)?;
+    let copy = copy_unit(alloc, unit)?;
     Ok(TypedUnit::new(copy, c, walk))
 }

@@ -1,4 +1,4 @@
-// How units are made, copied, compared and read.
+// How units are made and read.
 ghost use Rattle.std.specs.Prelude.{◌≡◌, ◌<◌, ◌^◌, map, IfOk};
 ghost use Rattle.qs_syntax.specs.TreeOf.{decl_tree};
 ghost use Rattle.qs_syntax.specs.UnitTrees.{unit_tree};
@@ -7,7 +7,7 @@ ghost use Rattle.qs_syntax.specs.Numbering.{numbered_unit};
 ghost use Rattle.qs_syntax.specs.Units.{IsRead};
 
 use super::Unit;
-use crate::units::{Decl, copy_decls, number_owned_decls};
+use crate::units::{Decl, number_owned_decls};
 use qs_base::NoMemory;
 use std::alloc::Global;
 
@@ -36,12 +36,13 @@ impl Unit {
         self.tokens[node as usize]
     }
 
-    /// A copy.
-    pub fn copy(&self, alloc: Global) -> Result<Unit, NoMemory>
+    /// The unit with copies in the place of what stands at file scope.
+    pub fn with_copies(&self, alloc: Global, declarations: Vec<Decl>) -> Result<Unit, NoMemory>
+        requires { map decl_tree declarations.items ≡ unit_tree self.now }
         ensures { IfOk result (λ to. unit_tree to ≡ unit_tree self.now) }
     {
         Ok(Unit {
-            declarations: copy_decls(alloc, &self.declarations)?,
+            declarations,
             tokens: Vec::from_slice(alloc, &self.tokens)?,
         })
     }

@@ -1,6 +1,6 @@
 use Rattle.std.proofs.Common.{◌≡◌, ◌++◌, map, drop}
 use Rattle.qs_syntax.specs.TreeOf.{declarator_tree}
-use Rattle.qs_syntax.proofs.declarations.copy_members.Given as goal
+use Rattle.qs_copies.proofs.declarations.copy_members.Given as goal
 
 abbrev pub invariant-loop-declarator : goal.invariant-loop-declarator
 invariant-loop-declarator l = record {

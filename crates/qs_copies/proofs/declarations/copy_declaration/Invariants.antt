@@ -1,6 +1,6 @@
 use Rattle.std.proofs.Common.{◌≡◌, ◌++◌, map, drop}
 use Rattle.qs_syntax.specs.TreeOf.{variable_tree}
-use Rattle.qs_syntax.proofs.declarations.copy_declaration.Given as goal
+use Rattle.qs_copies.proofs.declarations.copy_declaration.Given as goal
 
 abbrev pub invariant-loop-variable : goal.invariant-loop-variable
 invariant-loop-variable l = record {

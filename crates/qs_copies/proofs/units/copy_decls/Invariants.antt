@@ -1,6 +1,6 @@
 use Rattle.std.proofs.Common.{◌≡◌, ◌++◌, map, drop}
 use Rattle.qs_syntax.specs.TreeOf.{decl_tree}
-use Rattle.qs_syntax.proofs.units.copy_decls.Given as goal
+use Rattle.qs_copies.proofs.units.copy_decls.Given as goal
 
 abbrev pub invariant-loop-declaration : goal.invariant-loop-declaration
 invariant-loop-declaration l = record {

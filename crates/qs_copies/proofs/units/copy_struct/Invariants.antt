@@ -1,6 +1,6 @@
 use Rattle.std.proofs.Common.{◌≡◌, ◌++◌, map, drop}
 use Rattle.qs_syntax.specs.TreeOf.{members_tree}
-use Rattle.qs_syntax.proofs.units.copy_struct.Given as goal
+use Rattle.qs_copies.proofs.units.copy_struct.Given as goal
 
 abbrev pub invariant-loop-group : goal.invariant-loop-group
 invariant-loop-group l = record {

@@ -1,6 +1,6 @@
 use Rattle.std.proofs.Common.{◌≡◌, ◌++◌, map, drop}
 use Rattle.qs_syntax.specs.TreeOf.{parameter_tree}
-use Rattle.qs_syntax.proofs.units.copy_parameters.Given as goal
+use Rattle.qs_copies.proofs.units.copy_parameters.Given as goal
 
 abbrev pub invariant-loop-parameter : goal.invariant-loop-parameter
 invariant-loop-parameter l = record {

@@ -1,6 +1,6 @@
 use Rattle.std.proofs.Common.{◌≡◌, ◌++◌, map, drop}
 use Rattle.qs_syntax.specs.TreeOf.{stmt_tree}
-use Rattle.qs_syntax.proofs.statements.+copy_stmt.Given as goal
+use Rattle.qs_copies.proofs.statements.+copy_stmt.Given as goal
 
 abbrev pub invariant-copy_stmts-loop-s : goal.invariant-copy_stmts-loop-s
 invariant-copy_stmts-loop-s l = record {

@@ -1,6 +1,6 @@
 use Rattle.std.proofs.Common.{◌≡◌, ◌++◌, map, drop}
 use Rattle.qs_syntax.specs.TreeOf.{initialiser_tree}
-use Rattle.qs_syntax.proofs.declarations.+copy_initialiser.Given as goal
+use Rattle.qs_copies.proofs.declarations.+copy_initialiser.Given as goal
 
 abbrev pub invariant-copy_initialisers-loop-item : goal.invariant-copy_initialisers-loop-item
 invariant-copy_initialisers-loop-item l = record {

@@ -1,6 +1,6 @@
 use Rattle.std.proofs.Common.{◌≡◌, ◌++◌, map, drop}
 use Rattle.qs_syntax.specs.TreeOf.{expr_tree}
-use Rattle.qs_syntax.proofs.expressions.+copy_expr.Given as goal
+use Rattle.qs_copies.proofs.expressions.+copy_expr.Given as goal
 
 abbrev pub invariant-copy_exprs-loop-e : goal.invariant-copy_exprs-loop-e
 invariant-copy_exprs-loop-e l = record {

@@ -7,7 +7,7 @@ use std::alloc::{AllocError, AllocFailed};
 use thiserror::Error;
 
 /// What the tool is asked to do. Files are named as in the words.
-#[derive(PartialEq, Eq, Drop)]
+#[derive(Debug, PartialEq, Eq, Drop)]
 pub enum Command {
     /// Compile a source file into an image.
     Build {

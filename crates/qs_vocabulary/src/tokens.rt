@@ -14,7 +14,7 @@ pub struct Token {
 }
 
 /// What a token is.
-#[derive(Clone, Copy, PartialEq, Eq)]
+#[derive(Clone, Copy, PartialEq, Eq, Debug)]
 pub enum TokenKind {
     /// A name (C11 6.4.2.1), which is none of the keywords. Its bytes are those of the text.
     Name,

@@ -8,7 +8,7 @@ ghost use Rattle.qs_findings.specs.TypedOf.{typed_tree};
 ghost use Rattle.qs_meaning.specs.Units.{typed_of};
 ghost use Rattle.qs_meaning.specs.Runs.{main_from};
 ghost use Rattle.qs_elaborate_laws.specs.FitLaws.{HasCore};
-ghost use Rattle.qs_typed.specs.TablesOf.{numbers};
+ghost use Rattle.qs_static_data.specs.TablesOf.{numbers};
 ghost use Rattle.qs_typed.specs.UnitVariables.{unit_variables};
 ghost use Rattle.qs_elaborate_bodies.specs.Units.{core_of};
 ghost use Rattle.qs_elaborate.specs.FunctionOf.{core_with};

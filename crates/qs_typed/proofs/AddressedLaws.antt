@@ -18,9 +18,9 @@ use Rattle.qs_types.specs.declared.referent.Referent.TheVariants as referents
 use Rattle.qs_types.specs.Referents.{referent}
 use Rattle.qs_findings.specs.ExprFindings.{of_nodes}
 use Rattle.qs_findings.specs.UnitNodes.{of_option, of_lengths, of_declarator, of_initialiser, of_initialisers, of_option_initialiser, of_variables, of_start, of_statement, of_statements, of_else}
-use Rattle.qs_typed.specs.Addressed as known
-use Rattle.qs_typed_bodies.specs.Known.{Known}
-use Rattle.qs_typed_bodies.specs.Agrees.{NodesKnown, PartsKnown, AllKnown}
+use Rattle.qs_static_data.specs.Addressed as known
+use Rattle.qs_known.specs.Known.{Known}
+use Rattle.qs_known.specs.Agrees.{NodesKnown, PartsKnown, AllKnown}
 use Rattle.qs_typed.proofs.KnownNodes.{nodes_known}
 use Rattle.qs_typed.proofs.KnownBodies.{declared_type, no_referent, its_type, its_referent, Stand, left, right}
 

@@ -15,8 +15,8 @@ use Rattle.qs_findings.specs.ExprFindings.{node_of, of_nodes}
 use Rattle.qs_findings.specs.UnitNodes.{of_option, of_declarator, of_initialiser, of_initialisers, of_option_initialiser, of_variables, of_start, of_statement, of_statements, of_else}
 use Rattle.qs_meaning.specs.Names.{Scope, within}
 use Rattle.qs_meaning.specs.Statements.{behind_variable, inner, loop_body, in_for}
-use Rattle.qs_typed_bodies.specs.Known.{Known}
-use Rattle.qs_typed_bodies.specs.Agrees.{ResultIs, ExpressionAt, OptionAt, InitialiserAt, InitialisersAt, InitialAt, VariablesAt, StartAt, StatementAt, StatementsAt, ElseAt}
+use Rattle.qs_known.specs.Known.{Known}
+use Rattle.qs_known.specs.Agrees.{ResultIs, ExpressionAt, OptionAt, InitialiserAt, InitialisersAt, InitialAt, VariablesAt, StartAt, StatementAt, StatementsAt, ElseAt}
 use Rattle.qs_typed.proofs.KnownNodes.{Each, each_left, each_right, StandsIn, at_node, nodes_known}
 use Rattle.qs_typed.proofs.InnerScopes.{Inside, inner_inside, loop_inside, local_inside}
 

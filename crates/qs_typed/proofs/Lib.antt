@@ -6,11 +6,9 @@ pub mod KnownNodes
 pub mod InnerScopes
 pub mod LaterStructs
 pub mod KnownBodies
-pub mod HeaderTables
 pub mod UnitHeaders
 pub mod UnitContexts
 pub mod AddressedLaws
-pub mod Variants
 pub mod UnitLocals
 pub mod UnitGiven
 pub mod UnitBodies
@@ -22,5 +20,3 @@ pub mod PieceParts
 pub mod ValuesKept
 pub mod UnitBlocks
 pub mod UnitTrees
-pub mod DataOrder
-pub mod BlockTurns

@@ -28,12 +28,12 @@ use Rattle.qs_meaning.specs.Blanks.{blank_of}
 use Rattle.qs_meaning.specs.Initialisers.{Piece, pieces}
 use Rattle.qs_meaning.specs.InitialValues.{pointer_width, static_pointer, entity_pointer, named_pointer, pointer_by, address_constant, pointer_constant, constant_cells, array_cells, piece_cells, written_over, pieces_over, initial_cells, text_block}
 use Rattle.qs_meaning.specs.Units.{function_typed, file_variable_typed, file_variables_typed, no_functions, no_blocks, declarations_typed, start_scope}
-use Rattle.qs_typed_bodies.specs.Agrees.{Keeps, NodesKnown}
+use Rattle.qs_known.specs.Agrees.{Keeps, NodesKnown}
 use Rattle.qs_typed.specs.BlockLaws.{UnitBlocksAreTyped}
-use Rattle.qs_typed_bodies.specs.Known.{Known, at_number}
-use Rattle.qs_typed.specs.KnownBlocks.{referent_pointer, name_pointer, named_pointer_known, address_constant_known, pointer_constant_known, pointer_cells_known, integer_cells_known, constant_cells_known, piece_cells_known, pieces_over_known, initialised_cells_known, initial_cells_known, variable_block_known, file_variables_known, blocks_known}
-use Rattle.qs_typed.specs.KnownPrograms.{Tables}
-use Rattle.qs_typed_bodies.proofs.KeptAgreement.{nothing, same, kept, kept_by, is_kept, equal_kept, choice_kept}
+use Rattle.qs_known.specs.Known.{Known, at_number}
+use Rattle.qs_static_data.specs.KnownBlocks.{referent_pointer, name_pointer, named_pointer_known, address_constant_known, pointer_constant_known, pointer_cells_known, integer_cells_known, constant_cells_known, piece_cells_known, pieces_over_known, initialised_cells_known, initial_cells_known, variable_block_known, file_variables_known, blocks_known}
+use Rattle.qs_static_data.specs.KnownPrograms.{Tables}
+use Rattle.qs_known.proofs.KeptAgreement.{nothing, same, kept, kept_by, is_kept, equal_kept, choice_kept}
 use Rattle.qs_typed.proofs.LaterStructs.{grown}
 use Rattle.qs_typed.proofs.TiedStatements.{pieces_kept}
 use Rattle.qs_typed.proofs.KnownNodes.{at_node, nodes_known}

@@ -19,9 +19,9 @@ use Rattle.qs_meaning.specs.Operations.{Operated, operation_of, combined, moved,
 use Rattle.qs_meaning.specs.Forms.{Form, result, TypedExpr, lvalue_of, address_of, struct_assignment, type_in_use, value_in_use}
 use Rattle.qs_meaning.specs.Typed as typed_trees
 use Rattle.qs_meaning.specs.Expressions.{object_at, operated, operator_value, subscript_form, member_number, member_offset, member_form, set_form, struct_form, plain_form, updated, compound_form, assign_form, one, after_form, step_after_form, step_form, size_form, operator_form, binary_form}
-use Rattle.qs_typed_bodies.specs.Known.{sized}
-use Rattle.qs_typed_bodies.specs.Agrees.{Keeps, Grown}
-use Rattle.qs_typed_bodies.proofs.KeptAgreement.{kept, then_kept, is_kept, choice_kept}
+use Rattle.qs_known.specs.Known.{sized}
+use Rattle.qs_known.specs.Agrees.{Keeps, Grown}
+use Rattle.qs_known.proofs.KeptAgreement.{kept, then_kept, is_kept, choice_kept}
 
 pub size_kept : (old new : Structs) → Grown old new → (t : TypeTree) → Keeps (size_of old t) (size_of new t)
 size_kept old new g t = then_kept (extent_of old t) (extent_of new t) (λ (e : Extent). Some e.size) (λ (e : Extent). Some e.size) (g.extents t) (λ e. is_kept (Some e.size))

@@ -13,9 +13,9 @@ use Rattle.qs_meaning.specs.InitialValues.{text_block}
 use Rattle.qs_meaning.specs.Typed.{Function, StaticBlock, TypedProgram}
 use Rattle.qs_meaning.specs.Units.{typed_of}
 use Rattle.qs_meaning.proofs.UnitsTyped.{units_typed}
-use Rattle.qs_typed.specs.KnownBlocks.{blocks_known}
-use Rattle.qs_typed.specs.KnownPrograms.{Tables, functions_known}
-use Rattle.qs_typed.specs.TablesOf.{AreOf}
+use Rattle.qs_static_data.specs.KnownBlocks.{blocks_known}
+use Rattle.qs_static_data.specs.KnownPrograms.{Tables, functions_known}
+use Rattle.qs_static_data.specs.TablesOf.{AreOf}
 use Rattle.qs_typed.specs.UnitLaws.{IsNumberedUnit}
 use Rattle.qs_typed.proofs.UnitBlocks.{blocks_typed}
 use Rattle.qs_typed.proofs.UnitWhole.{typed_are}

@@ -22,12 +22,12 @@ use Rattle.qs_meaning.specs.Typed.{Function, TypedProgram}
 use Rattle.qs_meaning.specs.InitialValues as initial
 use Rattle.qs_meaning.specs.Units.{declarations_typed, start_scope, typed_of}
 use Rattle.qs_meaning.proofs.UnitsTyped.{start_known}
-use Rattle.qs_typed.specs.KnownPrograms.{Tables, functions_known}
+use Rattle.qs_static_data.specs.KnownPrograms.{Tables, functions_known}
 use Rattle.qs_typed.specs.UnitLaws.{IsNumberedUnit}
 use Rattle.qs_typed.proofs.UnitContexts.{GoesTo}
-use Rattle.qs_typed.specs.TablesOf.{AreOf}
+use Rattle.qs_static_data.specs.TablesOf.{AreOf}
 use Rattle.qs_typed.specs.UnitVariables.{unit_variables, variables_known}
-use Rattle.qs_typed_bodies.proofs.KeptAgreement.{nothing, same}
+use Rattle.qs_known.proofs.KeptAgreement.{nothing, same}
 use Rattle.qs_typed.proofs.KnownNodes.{Each, StandsIn}
 use Rattle.qs_typed.proofs.KnownBodies as bodies
 use Rattle.qs_typed.proofs.UnitGiven.{start_given}

@@ -1,16 +1,6 @@
-pub mod LocalsOf
 pub mod AgreesFunctions
 pub mod Laws
-pub mod Addressed
-pub mod AddressedOf
-pub mod KnownUnits
-pub mod HeadersOf
-pub mod KnownPrograms
-pub mod TablesOf
 pub mod UnitVariables
 pub mod UnitsOf
 pub mod UnitLaws
-pub mod KnownBlocks
 pub mod BlockLaws
-pub mod CellsOf
-pub mod BlocksOf

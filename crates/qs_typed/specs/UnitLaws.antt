@@ -9,8 +9,8 @@ use Rattle.qs_findings.specs.NodeReferents.{no_referent, unit_referents}
 use Rattle.qs_findings.specs.NodeTypes.{declared_type, unit_types}
 use Rattle.qs_meaning.specs.Typed.{Function, TypedProgram}
 use Rattle.qs_meaning.specs.Units.{typed_of}
-use Rattle.qs_typed.specs.KnownPrograms.{Tables, functions_known}
-use Rattle.qs_typed.specs.TablesOf.{AreOf}
+use Rattle.qs_static_data.specs.KnownPrograms.{Tables, functions_known}
+use Rattle.qs_static_data.specs.TablesOf.{AreOf}
 use Rattle.qs_typed.specs.UnitVariables.{unit_variables, variables_known}
 
 -- a unit whose types and referents stand at the numbers of its nodes

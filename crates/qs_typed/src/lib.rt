@@ -2,23 +2,14 @@
 //! and offsets as numbers, and what stands in memory when a run begins.
 #![tactic(auto)]
 
-mod addressed;
-mod cells;
-mod constants;
-mod contents;
 mod functions;
-mod headers;
 mod laws;
-mod locals;
-mod static_data;
-mod tables;
 mod unit;
 mod units;
 
-pub use functions::{function, named_scalar, places_of};
+pub use functions::{function, named_scalar};
 pub use laws::{
     expressions_are_typed, functions_are_typed, statements_are_typed, unit_blocks_are_typed,
     unit_functions_are_typed, unit_variables_are_known,
 };
-pub use locals::statements_nodes;
 pub use unit::{typed_program, variable_nodes};

@@ -2,21 +2,22 @@
 ghost use Rattle.std.specs.Prelude.{◌∷◌, [], map};
 ghost use Rattle.qs_syntax.specs.TreeOf.{decl_tree, function_tree};
 ghost use Rattle.qs_syntax.specs.Trees.{function};
-ghost use Rattle.qs_typed.specs.KnownPrograms.{functions_known};
-ghost use Rattle.qs_typed_bodies.specs.Results.{Makes};
-ghost use Rattle.qs_typed.specs.TablesOf.{Finds, number_lists};
+ghost use Rattle.qs_static_data.specs.KnownPrograms.{functions_known};
+ghost use Rattle.qs_forms.specs.Results.{Makes};
+ghost use Rattle.qs_static_data.specs.TablesOf.{Finds, number_lists};
 ghost use Rattle.qs_typed_trees.specs.TreeOf.{functions_tree};
 ghost use Rattle.qs_typed.specs.UnitVariables.{variables_known};
 ghost use Rattle.qs_typed.specs.UnitsOf.{AddsFunctions, AddsVariables, FindsFunction, FindsPlaces};
 ghost use Rattle.qs_typed.specs.UnitsOf.{body_variables, variables_in};
 
-use crate::addressed::statements_addressed;
-use crate::functions::{function, named_scalar, places_of};
-use crate::locals::{parameters_nodes, statements_nodes};
-use crate::tables::{Tables, each_once, nodes_of};
+use crate::functions::{function, named_scalar};
 use qs_base::NoMemory;
+use qs_known::{Known, Locals};
+use qs_static_data::{
+    Tables, each_once, nodes_of, parameters_nodes, places_of, statements_addressed,
+    statements_nodes,
+};
 use qs_syntax::{Decl, Function, Stmt};
-use qs_typed_bodies::{Known, Locals};
 use qs_typed_trees::TypedFunction;
 use std::alloc::Global;
 

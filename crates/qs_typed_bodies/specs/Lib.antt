@@ -1,13 +1,1 @@
-pub mod Results
-pub mod TypesOf
-pub mod Parts
-pub mod FormOf
-pub mod PlacesOf
-pub mod Known
-pub mod KnownOf
-pub mod KnownStatements
-pub mod PieceOf
 pub mod SetsOf
-pub mod Behind
-pub mod Agrees
-pub mod KnownFunctions

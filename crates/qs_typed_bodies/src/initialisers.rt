@@ -1,42 +1,27 @@
 // What the declaration of a local does (C11 6.7.9).
-ghost use Rattle.std.specs.Prelude.{◌≡◌, ℕ, List, IfOk, Some, length, map};
+ghost use Rattle.std.specs.Prelude.{◌≡◌, ℕ, List, length, map};
 ghost use Rattle.qs_meaning.specs.Forms.{address_in};
 ghost use Rattle.qs_meaning.specs.Initialisers.{text_room};
 ghost use Rattle.qs_meaning.specs.Typed.{member};
-ghost use Rattle.qs_syntax.specs.TreeOf.{expr_tree, variable_tree};
-ghost use Rattle.qs_types.specs.Declarations.{text_of};
+ghost use Rattle.qs_syntax.specs.TreeOf.{variable_tree};
 ghost use Rattle.qs_types.specs.TypeOf.{type_tree};
-ghost use Rattle.qs_typed_bodies.specs.KnownOf.{Knows};
-ghost use Rattle.qs_typed_bodies.specs.KnownStatements.{local_set_known, object_set_known, variable_known};
-ghost use Rattle.qs_typed_bodies.specs.KnownStatements.{variables_known};
-ghost use Rattle.qs_typed_bodies.specs.Results.{Equals, Gives, Makes, listed};
+ghost use Rattle.qs_known.specs.KnownOf.{Knows};
+ghost use Rattle.qs_known.specs.KnownStatements.{local_set_known, object_set_known, variable_known};
+ghost use Rattle.qs_known.specs.KnownStatements.{variables_known};
+ghost use Rattle.qs_forms.specs.Results.{Equals, Gives, Makes, listed};
 ghost use Rattle.qs_typed_bodies.specs.SetsOf.{Fills, Initialises, SetsLocal, SetsPart, SetsPiece};
 ghost use Rattle.qs_typed_bodies.specs.SetsOf.{SetsPieces, SetsText, object_address};
 ghost use Rattle.qs_typed_trees.specs.TreeOf.{effect_tree, effects_tree, expression_tree, lvalue_tree};
 
-use crate::assignments::plain_form;
-use crate::blanks::blank_of;
-use crate::forms::{Form, Typed};
-use crate::known::Known;
-use crate::piece::{Piece, pieces};
-use crate::places::local_lvalue;
 use crate::typed::typed;
 use qs_base::NoMemory;
-use qs_syntax::{Expr, Initialiser, Shape, Variable};
+use qs_forms::{Form, Typed};
+use qs_known::{Known, Piece, blank_of, local_lvalue, pieces, text_of};
+use qs_operators::plain_form;
+use qs_syntax::{Expr, Initialiser, Variable};
 use qs_typed_trees::{Effect, Expression, Lvalue, Object};
 use qs_types::{CType, is_array};
-use qs_vocabulary::Text;
 use std::alloc::Global;
-
-/// The text that an expression is.
-pub fn text_of(e: &Expr) -> Result<&Text, NoMemory>
-    ensures { IfOk result (λ text. text_of (expr_tree e.now) ≡ Some text.now) }
-{
-    match &e.shape {
-        Shape::Text(text) => Ok(text),
-        _ => Err(NoMemory),
-    }
-}
 
 /// Of a text as many bytes as there is room for, the zero at its end among them (C11 6.7.9p14).
 fn text_room(t: &CType, len: usize) -> u32

@@ -1,42 +1,27 @@
 // Members of structs (C11 6.5.2.3).
-ghost use Rattle.std.specs.Prelude.{◌≡◌, IfOk, Some};
 ghost use Rattle.qs_meaning.specs.Expressions.{arrow_form, dot_form, member_form, member_number};
 ghost use Rattle.qs_meaning.specs.Expressions.{member_offset, object_at};
 ghost use Rattle.qs_meaning.specs.Typed.{member};
 ghost use Rattle.qs_types.specs.EnvOf.{env_tree};
-ghost use Rattle.qs_types.specs.Layout.{offset_of, struct_of};
 ghost use Rattle.qs_types.specs.TypeOf.{type_tree};
 ghost use Rattle.qs_types.specs.Types.{struct};
-ghost use Rattle.qs_typed_bodies.specs.FormOf.{IsForm, form_tree, typed_tree};
-ghost use Rattle.qs_typed_bodies.specs.Results.{Gives, Makes, itself};
+ghost use Rattle.qs_forms.specs.FormOf.{IsForm, form_tree, typed_tree};
+ghost use Rattle.qs_forms.specs.Results.{Gives, Makes, itself};
 ghost use Rattle.qs_typed_trees.specs.TreeOf.{expression_tree};
-ghost use Rattle.qs_typed_bodies.specs.TypesOf.{members_tree};
+ghost use Rattle.qs_known.specs.TypesOf.{members_tree};
 
-use crate::forms::{Form, Typed, value_in_use};
-use crate::operators::object_at;
-use crate::types::referenced;
 use indexmap::IndexMap;
 use qs_base::{Name, NoMemory};
+use qs_forms::{Form, Typed, referenced, value_in_use};
+use qs_known::{offset_at, struct_members};
+use qs_operators::object_at;
 use qs_typed_trees::Expression;
 use qs_types::{CType, Env};
 use qs_vocabulary::Access;
 use std::alloc::Global;
 
-/// The members of a struct.
-pub fn struct_members(env: &Env, k: u32) -> Result<&IndexMap<Name, CType>, NoMemory>
-    ensures { IfOk result (λ ms. struct_of (env_tree env.now) k ≡ Some (members_tree ms.now)) }
-{
-    match env.structs().get(k as usize) {
-        None => Err(NoMemory),
-        Some(structure) => match &structure.members {
-            None => Err(NoMemory),
-            Some(members) => Ok(members),
-        },
-    }
-}
-
 /// The place of a member among others.
-#[tactic(auto, using(crate::proofs::MemberPlaces::number_found))]
+#[tactic(auto, using(qs_known::proofs::MemberPlaces::number_found))]
 fn member_number(members: &IndexMap<Name, CType>, name: &Name) -> Result<usize, NoMemory>
     ensures { Gives itself (member_number 0 name.now (members_tree members.now)) result }
 {
@@ -46,20 +31,7 @@ fn member_number(members: &IndexMap<Name, CType>, name: &Name) -> Result<usize, 
     }
 }
 
-/// The offset of the member at this place.
-pub fn offset_at(env: &Env, k: u32, i: usize) -> Result<u32, NoMemory>
-    ensures { Gives itself (offset_of (env_tree env.now) k i) result }
-{
-    match env.layout_of(k) {
-        None => Err(NoMemory),
-        Some(layout) => match layout.offsets.get(i) {
-            None => Err(NoMemory),
-            Some(offset) => Ok(*offset),
-        },
-    }
-}
-
-#[tactic(auto, using(crate::proofs::MemberPlaces::offset_found))]
+#[tactic(auto, using(qs_known::proofs::MemberPlaces::offset_found))]
 fn struct_offset(env: &Env, k: u32, name: &Name) -> Result<u32, NoMemory>
     ensures { Gives itself (member_offset (env_tree env.now) (struct k) name.now) result }
 {
@@ -100,7 +72,7 @@ fn dot_form(alloc: Global, env: &Env, a: Typed<'_>, name: &Name) -> Result<Form,
 }
 
 /// `p->x` (C11 6.5.2.3p4).
-#[tactic(auto, using(crate::proofs::OperationTypes::referenced_in_use))]
+#[tactic(auto, using(qs_operators::proofs::OperationTypes::referenced_in_use))]
 fn arrow_form(alloc: Global, env: &Env, a: Typed<'_>, name: &Name) -> Result<Form, NoMemory>
     ensures { IsForm (arrow_form (env_tree env.now) (typed_tree a.entry) name.now) result }
 {

@@ -1,0 +1,7 @@
+pub mod NamedSizes
+pub mod Entries
+pub mod PlaceTables
+pub mod MemberPlaces
+pub mod Loops
+pub mod BlankTurns
+pub mod KeptAgreement

@@ -1,0 +1,9 @@
+pub mod TypesOf
+pub mod PlacesOf
+pub mod Known
+pub mod KnownOf
+pub mod KnownStatements
+pub mod PieceOf
+pub mod Behind
+pub mod Agrees
+pub mod KnownFunctions

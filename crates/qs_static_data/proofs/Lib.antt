@@ -1,0 +1,4 @@
+pub mod HeaderTables
+pub mod Variants
+pub mod DataOrder
+pub mod BlockTurns

@@ -1,0 +1,10 @@
+pub mod LocalsOf
+pub mod Addressed
+pub mod AddressedOf
+pub mod KnownUnits
+pub mod HeadersOf
+pub mod KnownPrograms
+pub mod TablesOf
+pub mod KnownBlocks
+pub mod CellsOf
+pub mod BlocksOf

@@ -34,10 +34,10 @@ use Rattle.qs_certify.proofs.MainLaws.{BoundsMain, main_bounds_runs, entry_bound
 use Rattle.qs_compile.specs.Agree.{AgreesFrom, IsInput}
 use Rattle.qs_compile.specs.Compiled.{IsCompiled, IsImageOfSource, SourceHasStack}
 use Rattle.qs_ports.specs.StoreView.{StoreView}
+use Rattle.qs_session.specs.Lines.{record_line, cost_lines}
 use Rattle.qs_driver.specs.Bounds.{bound_by, bytes_by, costs_in, if_finite, linear_runs, main_runs, seen_runs, IsBounded, IsBoundedByMain, IsImageOf, WeighsWithin}
 use Rattle.qs_report.specs.Lines.{cost_line}
-use Rattle.qs_driver.specs.Arguments.{IsMisfit}
-use Rattle.qs_driver.specs.Lines.{record_line, cost_lines}
+use Rattle.qs_driver.specs.Misfits.{IsMisfit}
 use Rattle.qs_driver.specs.Certified.{CertifiedSource, CertifyWords, IsCertifiedAs, ReadsCertified}
 use Rattle.qs_driver.proofs.MainLaws.{arguments_are_mains, parameters_are, misfits}
 

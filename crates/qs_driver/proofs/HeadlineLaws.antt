@@ -12,30 +12,30 @@ use Rattle.qs_machine.specs.Run.{Outcome, Exited, Trapped, Going, machine, outpu
 use Rattle.qs_machine.specs.declared.answers.Cause.{Cause}
 use Rattle.qs_emit.specs.Agree.{Agree, Begins, IsUndefinedWithin}
 use Rattle.qs_report.specs.Lines.{bound_line}
-use Rattle.qs_driver.specs.Devices.{DevicesView, StreamsView, streams_of}
-use Rattle.qs_driver.specs.Steps.{on_out, ArePut}
-use Rattle.qs_driver.specs.Lines.{cost_lines}
-use Rattle.qs_driver.specs.Faults.{shown_of}
-use Rattle.qs_driver.specs.Due.{Due}
-use Rattle.qs_driver.specs.Files.{CannotRead}
-use Rattle.qs_driver.specs.Files as files
-use Rattle.qs_driver.specs.Source.{LacksSource}
-use Rattle.qs_driver.specs.Source as source
+use Rattle.qs_session.specs.Devices.{DevicesView, StreamsView, streams_of}
+use Rattle.qs_session.specs.Steps.{on_out, ArePut}
+use Rattle.qs_session.specs.Lines.{cost_lines}
+use Rattle.qs_session.specs.Faults.{shown_of}
+use Rattle.qs_session.specs.Due.{Due}
+use Rattle.qs_session.specs.Files.{CannotRead}
+use Rattle.qs_session.specs.Files as files
+use Rattle.qs_session.specs.Source.{LacksSource}
+use Rattle.qs_session.specs.Source as source
+use Rattle.qs_session.specs.Task.{Task, Answers}
+use Rattle.qs_session.specs.Promises.{Promises, NoneFailed, LacksMemory}
+use Rattle.qs_session.specs.declared.status.FileKind.{FileKind}
+use Rattle.qs_session.specs.declared.status.Status.{Status}
+use Rattle.qs_session.specs.declared.status.Status.TheVariants.{Done, SinkFailed, NoMemory}
 use Rattle.qs_driver.specs.Bounds.{bound_by, costs_in, seen_runs, IsImageOf}
 use Rattle.qs_driver.specs.Certified.{CertifyWords, CertifiedSource, AreAsBefore, LacksCertified, HoldsRightProofs}
 use Rattle.qs_driver.specs.Certified as certified
 use Rattle.qs_driver.specs.Made.{MakeWords, CannotMake}
 use Rattle.qs_driver.specs.Made as made
-use Rattle.qs_driver.specs.Task.{Task, Answers}
 use Rattle.qs_driver.specs.Tool.{task_of}
-use Rattle.qs_driver.specs.Promises.{Promises, NoneFailed, LacksMemory}
 use Rattle.qs_driver.specs.commands.Build.{BuildWords, build_words, build, NamesDiffer, HasBuilt, IsDueToBuild, CannotBuild, IsGood}
 use Rattle.qs_driver.specs.commands.Build as meant
 use Rattle.qs_driver.specs.commands.Bound.{bound_words, bound, to_make, HasBound, IsDueToBound}
 use Rattle.qs_driver.specs.commands.Bound as bound_meant
-use Rattle.qs_driver.specs.declared.status.FileKind.{FileKind}
-use Rattle.qs_driver.specs.declared.status.Status.{Status}
-use Rattle.qs_driver.specs.declared.status.Status.TheVariants.{Done, SinkFailed, NoMemory}
 use Rattle.qs_driver.specs.Headline.{PrintsBound, BoundPrintsIt, IsDefined, EndsSo, ExitsSo, RunsAsSource, FromItsBound, HoldsItsImage, IsPlain, IsAccepted, BuildsAndAccepts, Headline}
 use Rattle.qs_driver.proofs.BoundsLaws.{image_takes, same_lines}
 use Rattle.qs_driver.proofs.OneSource.{HoldsSource, source_held, one_held, held_before, images_of_one}

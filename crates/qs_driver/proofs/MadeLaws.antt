@@ -11,15 +11,15 @@ use Rattle.qs_image.specs.Image.{Image}
 use Rattle.qs_machine.specs.Arguments.{AreArguments}
 use Rattle.qs_compile.specs.Compiled.{IsImageOfSource}
 use Rattle.qs_certify.specs.Bound.{main_bound}
-use Rattle.qs_driver.specs.Arguments.{LacksWords}
-use Rattle.qs_driver.specs.Arguments as arguments
+use Rattle.qs_session.specs.Arguments.{LacksWords}
+use Rattle.qs_session.specs.Arguments as arguments
+use Rattle.qs_session.specs.declared.status.Status.{Status}
 use Rattle.qs_driver.specs.Bounds.{costs_in}
 use Rattle.qs_driver.specs.Certified.{LacksCertified, HasCertified}
 use Rattle.qs_driver.specs.Made.{MakeWords, ComesToImage, Makes, MakesCertified}
 use Rattle.qs_driver.specs.Made as meant
 use Rattle.qs_driver.specs.declared.certified.CertifiedUnit.{CertifiedUnit}
 use Rattle.qs_driver.specs.declared.made.Made.{Made}
-use Rattle.qs_driver.specs.declared.status.Status.{Status}
 use Rattle.qs_driver.proofs.BoundsLaws.{is_compiled, source_image, image_takes, image_parameters, image_misfits}
 
 pub not_certified : (m : MakeWords) (v w : StoreView) (status : Status) → LacksCertified m.inputs v w status → Makes m v w (Err status)

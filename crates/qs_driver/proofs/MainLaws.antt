@@ -16,7 +16,7 @@ use Rattle.qs_machine.specs.Arguments as image_arguments
 use Rattle.qs_build.specs.Built.{IsBuiltFrom}
 use Rattle.qs_certify.specs.Bound.{IsNumberOf, AreNumbersOf}
 use Rattle.qs_certify.specs.Bound as certify
-use Rattle.qs_driver.specs.Arguments.{IsFirstUnfit, IsMisfit}
+use Rattle.qs_driver.specs.Misfits.{IsFirstUnfit, IsMisfit}
 
 -- ---- numbers
 

@@ -15,16 +15,16 @@ use Rattle.qs_machine.specs.Arguments.{AreArguments}
 use Rattle.qs_certify.specs.Bound.{costs_of}
 use Rattle.qs_certify.specs.Laws.{HasLongestBound}
 use Rattle.qs_certify.proofs.LongestLaws.{bounds_are_longest_paths}
+use Rattle.qs_session.specs.SampleSource.{sample_text}
+use Rattle.qs_session.proofs.SourceLaws.{same_trees}
+use Rattle.qs_session.proofs.SampleTrees.{IsTail}
+use Rattle.qs_session.proofs.SampleMeaning.{typed_tail}
+use Rattle.qs_session.proofs.SampleGood.{IsTypedSample, sample_is_typed}
 use Rattle.qs_driver.specs.Bounds.{IsImageOf, bound_by, costs_in}
 use Rattle.qs_driver.specs.Certified.{CertifiedSource, IsCertifiedAs}
-use Rattle.qs_driver.specs.SampleSource.{sample_text}
 use Rattle.qs_driver.specs.SampleLaws.{HasSmallBound, SamplesHaveStacks}
-use Rattle.qs_driver.proofs.SourceLaws.{same_trees}
-use Rattle.qs_driver.proofs.SampleTrees.{IsTail}
-use Rattle.qs_driver.proofs.SampleMeaning.{typed_tail}
 use Rattle.qs_driver.proofs.SampleCore.{core_by}
 use Rattle.qs_driver.proofs.SampleBounds.{AreCheap, all_cheap, caps_are_cheap, cheap_below, cheap_at, few_functions, longest_path_is_small}
-use Rattle.qs_driver.proofs.SampleGood.{IsTypedSample, sample_is_typed}
 use Rattle.qs_driver.proofs.SampleLaws.{sample_core}
 
 -- ---- main takes no arguments

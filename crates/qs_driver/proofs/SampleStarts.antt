@@ -3,25 +3,25 @@ use Rattle.std.proofs.Common.{◌≡◌, ◌∙◌, inl, inr, ℕ, List, [], Non
 use Rattle.qs_syntax.specs.Trees.{DeclTree}
 use Rattle.qs_syntax.specs.Units.{IsRead}
 use Rattle.qs_image.specs.Image.{Image}
+use Rattle.qs_session.specs.SampleSource.{sample_text}
+use Rattle.qs_session.specs.Source.{IsTypedAs, RefusesText}
+use Rattle.qs_session.specs.Starting.{RunWords, IsStackOf, LoadsImage}
+use Rattle.qs_session.specs.declared.status.Status.{Status}
+use Rattle.qs_session.specs.declared.status.Status.TheVariants.{NoMemory}
+use Rattle.qs_session.proofs.StartingLaws.{lacks_none, no_load}
 use Rattle.qs_driver.specs.Bounds.{IsImageOf}
 use Rattle.qs_driver.specs.Certified.{IsCertifiedUnit, LacksCertificate, cannot_certify, lacks_memory}
 use Rattle.qs_driver.specs.Made.{IsMadeOf, CannotMakeOf}
 use Rattle.qs_driver.specs.Made as made
 use Rattle.qs_driver.specs.SampleLaws.{HasSmallBound, IsSampleCount}
-use Rattle.qs_driver.specs.SampleSource.{sample_text}
-use Rattle.qs_driver.specs.Source.{IsTypedAs, RefusesText}
-use Rattle.qs_driver.specs.Starting.{RunWords, IsStackOf, LoadsImage}
 use Rattle.qs_driver.specs.commands.Exec.{as_run}
 use Rattle.qs_driver.specs.commands.Sample.{as_exec, CanStart}
 use Rattle.qs_driver.specs.declared.certified.CertifiedUnit.{CertifiedUnit}
 use Rattle.qs_driver.specs.declared.made.Made.{Made}
-use Rattle.qs_driver.specs.declared.status.Status.{Status}
-use Rattle.qs_driver.specs.declared.status.Status.TheVariants.{NoMemory}
 use Rattle.qs_driver.proofs.CertifiedLaws.{HoldsCertified, holds_certified}
 use Rattle.qs_driver.proofs.SampleLaws.{samples_are_good}
 use Rattle.qs_driver.proofs.SampleStacks.{samples_have_stacks}
 use Rattle.qs_driver.proofs.SampleRefusals.{good_text_is_typed, good_core, good_core_is_certified, stack_is_there}
-use Rattle.qs_driver.proofs.StartingLaws.{lacks_none, no_load}
 use Rattle.qs_driver.proofs.rooms.Sample.{image_of, bound_of_held}
 
 pub not_refused : (text : List ℕ) (status : Status) → RefusesText text status → CanStart text → status ≡ NoMemory

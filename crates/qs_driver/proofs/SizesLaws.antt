@@ -11,9 +11,9 @@ use Rattle.qs_types.specs.WellTyped.{WellTyped}
 use Rattle.qs_compile.specs.Names.{HasRoomForNames}
 use Rattle.qs_compile.proofs.CompiledLaws.{units_pass_no_size}
 use Rattle.qs_compile.proofs.SourceNames.{names_are_of_the_text}
-use Rattle.qs_driver.specs.Limits.{source_limit}
+use Rattle.qs_session.specs.Limits.{source_limit}
+use Rattle.qs_session.specs.Source.{IsTypedAs}
 use Rattle.qs_driver.specs.Sizes.{SourcesPassNoSize}
-use Rattle.qs_driver.specs.Source.{IsTypedAs}
 
 -- a source that is no longer than its limit
 text_has_room : (text : List ℕ) (unit : UnitTree) → length text ≤ source_limit → IsTypedAs text unit → HasRoomForNames unit

@@ -20,10 +20,10 @@ use Rattle.qs_report.specs.declared.fault_texts.Spot.{Spot}
 use Rattle.qs_report.specs.declared.fault_texts.Spot.TheVariants as spots
 use Rattle.qs_report.specs.declared.fault_texts.ProofText.{ProofText}
 use Rattle.qs_report.specs.declared.fault_texts.ProofText.TheVariants as wrongs
+use Rattle.qs_session.specs.declared.status.ProofFault.{ProofFault}
+use Rattle.qs_session.specs.declared.status.ProofFault.TheVariants.{Cycle, Entry}
+use Rattle.qs_session.specs.declared.status.Status.TheVariants.{Proof}
 use Rattle.qs_driver.specs.Certified.{path_is, IsCertificateTold, IsEntryTold, IsMentionPlace, IsToldAs, TellsFault}
-use Rattle.qs_driver.specs.declared.status.ProofFault.{ProofFault}
-use Rattle.qs_driver.specs.declared.status.ProofFault.TheVariants.{Cycle, Entry}
-use Rattle.qs_driver.specs.declared.status.Status.TheVariants.{Proof}
 
 -- the path is these steps
 steps_are : (node : Path) (steps : Vec ℕ Global) → node.steps ≡ steps → path_is node steps.items

@@ -1,5 +1,3 @@
-pub mod Follows
-pub mod Usage
 pub mod WritingFollows
 pub mod Build
 pub mod BuildFollows
@@ -13,8 +11,6 @@ pub mod Exec
 pub mod ExecFollows
 pub mod Outline
 pub mod OutlineFollows
-pub mod Run
-pub mod RunFollows
 pub mod Sample
 pub mod SampleFollows
 pub mod Tool

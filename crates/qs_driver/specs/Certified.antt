@@ -43,19 +43,19 @@ use Rattle.qs_report.specs.declared.fault_texts.Spot.TheVariants as spots
 use Rattle.qs_report.specs.declared.fault_texts.ProofText.{ProofText}
 use Rattle.qs_report.specs.declared.fault_texts.ProofText.TheVariants as wrongs
 use Rattle.qs_ports.specs.StoreView.{StoreView, Files}
-use Rattle.qs_driver.specs.Limits.{source_limit, proof_limit}
-use Rattle.qs_driver.specs.Names.{name_in}
-use Rattle.qs_driver.specs.Files.{IsUntouched, HoldsContent, HoldsWith, IsTooLong, WasReadAs, CannotRead, ReadsFile}
-use Rattle.qs_driver.specs.Source.{HoldsText, IsPlaceOf, IsTypedAs, IsTypedUnit, IsOfSource, LacksSource, RefusesSource}
-use Rattle.qs_driver.specs.Told.{EntryPlace, place_of, fault_place, owner_of, fault_text}
+use Rattle.qs_session.specs.Limits.{source_limit, proof_limit}
+use Rattle.qs_session.specs.Names.{name_in}
+use Rattle.qs_session.specs.Files.{IsUntouched, HoldsContent, HoldsWith, IsTooLong, WasReadAs, CannotRead, ReadsFile}
+use Rattle.qs_session.specs.Source.{HoldsText, IsPlaceOf, IsTypedAs, IsTypedUnit, IsOfSource, LacksSource, RefusesSource}
+use Rattle.qs_session.specs.Told.{EntryPlace, place_of, fault_place, owner_of, fault_text}
+use Rattle.qs_session.specs.declared.status.Status.{Status}
+use Rattle.qs_session.specs.declared.status.Status.TheVariants.{Source, Proof, Missing, NoMemory}
+use Rattle.qs_session.specs.declared.status.SourceFault.TheVariants.{TooLong}
+use Rattle.qs_session.specs.declared.status.ProofFault.{ProofFault}
+use Rattle.qs_session.specs.declared.status.ProofFault.TheVariants.{Text, Cycle, Order, Entry}
+use Rattle.qs_session.specs.declared.status.FileKind.TheVariants as kinds
 use Rattle.qs_driver.specs.declared.certified.CertifyOrder.{CertifyOrder}
 use Rattle.qs_driver.specs.declared.certified.CertifiedUnit.{CertifiedUnit}
-use Rattle.qs_driver.specs.declared.status.Status.{Status}
-use Rattle.qs_driver.specs.declared.status.Status.TheVariants.{Source, Proof, Missing, NoMemory}
-use Rattle.qs_driver.specs.declared.status.SourceFault.TheVariants.{TooLong}
-use Rattle.qs_driver.specs.declared.status.ProofFault.{ProofFault}
-use Rattle.qs_driver.specs.declared.status.ProofFault.TheVariants.{Text, Cycle, Order, Entry}
-use Rattle.qs_driver.specs.declared.status.FileKind.TheVariants as kinds
 use Rattle.qs_driver.specs.declared.told.Wrong.{Wrong}
 
 -- ---- the words

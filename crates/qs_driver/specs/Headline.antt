@@ -16,19 +16,19 @@ use Rattle.qs_certify.specs.Bound.{AreArguments}
 use Rattle.qs_compile.specs.Agree.{IsInput}
 use Rattle.qs_compile.specs.Compiled.{IsCompiled}
 use Rattle.qs_report.specs.Lines.{bound_line}
-use Rattle.qs_driver.specs.Limits.{source_limit}
-use Rattle.qs_driver.specs.Lines.{cost_lines}
-use Rattle.qs_driver.specs.Faults.{shown_of}
-use Rattle.qs_driver.specs.Files.{HoldsContent}
-use Rattle.qs_driver.specs.Source.{IsTypedUnit}
+use Rattle.qs_session.specs.Limits.{source_limit}
+use Rattle.qs_session.specs.Lines.{cost_lines}
+use Rattle.qs_session.specs.Faults.{shown_of}
+use Rattle.qs_session.specs.Files.{HoldsContent}
+use Rattle.qs_session.specs.Source.{IsTypedUnit}
+use Rattle.qs_session.specs.Devices.{DevicesView}
+use Rattle.qs_session.specs.Promises.{Promises, NoneFailed}
+use Rattle.qs_session.specs.declared.status.Status.{Status}
+use Rattle.qs_session.specs.declared.status.Status.TheVariants.{Done, NoMemory}
 use Rattle.qs_driver.specs.Bounds.{bound_by, bytes_by, costs_in, seen_runs}
 use Rattle.qs_driver.specs.Certified.{CertifyWords, CertifiedSource, AreAsBefore, ReadsCertified, OfCore}
-use Rattle.qs_driver.specs.Devices.{DevicesView}
-use Rattle.qs_driver.specs.Promises.{Promises, NoneFailed}
 use Rattle.qs_driver.specs.Tool.{task}
 use Rattle.qs_driver.specs.commands.Build.{build_words, inputs, IsGood}
-use Rattle.qs_driver.specs.declared.status.Status.{Status}
-use Rattle.qs_driver.specs.declared.status.Status.TheVariants.{Done, NoMemory}
 
 -- ---- the bound that is printed
 

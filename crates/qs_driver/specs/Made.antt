@@ -13,15 +13,16 @@ use Rattle.qs_triples.specs.TreeOf.{proofs_tree}
 use Rattle.qs_compile.specs.Compiled.{IsImageOfSource}
 use Rattle.qs_image.specs.Image.{Image}
 use Rattle.qs_machine.specs.Arguments as machine
-use Rattle.qs_driver.specs.Arguments.{CountDiffers, IsMisfit, LacksWords}
-use Rattle.qs_driver.specs.Files.{IsUntouched}
+use Rattle.qs_session.specs.Arguments.{LacksWords}
+use Rattle.qs_session.specs.Files.{IsUntouched}
+use Rattle.qs_session.specs.declared.status.Status.{Status}
+use Rattle.qs_session.specs.declared.status.Status.TheVariants.{Words, NoMemory}
+use Rattle.qs_session.specs.declared.status.WordsFault.TheVariants.{ArgCount, ArgRange}
+use Rattle.qs_driver.specs.Misfits.{CountDiffers, IsMisfit}
 use Rattle.qs_driver.specs.Certified.{CertifyWords, CertifiedSource, ReadsCertified, LacksCertified, HoldsRight, IsOfCertified, RefusesCertified}
 use Rattle.qs_driver.specs.Bounds.{IsImageOf, bound_by, costs_in}
 use Rattle.qs_driver.specs.declared.certified.CertifiedUnit.{CertifiedUnit}
 use Rattle.qs_driver.specs.declared.made.Made.{Made}
-use Rattle.qs_driver.specs.declared.status.Status.{Status}
-use Rattle.qs_driver.specs.declared.status.Status.TheVariants.{Words, NoMemory}
-use Rattle.qs_driver.specs.declared.status.WordsFault.TheVariants.{ArgCount, ArgRange}
 
 -- ---- the words
 

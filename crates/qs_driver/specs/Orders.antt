@@ -3,8 +3,8 @@ use Rattle.std.specs.Prelude.{ℕ, ℤ, Option, Vec, string_bytes}
 use Rattle.std.specs.declared.alloc.Global.{Global}
 use Rattle.std.specs.declared.string.String.{String}
 use Rattle.qs_cli.specs.Reading.{text_of}
+use Rattle.qs_session.specs.Starting.{RunWords, run_words}
 use Rattle.qs_driver.specs.Certified.{CertifyWords, certify_words}
-use Rattle.qs_driver.specs.Starting.{RunWords, run_words}
 use Rattle.qs_driver.specs.commands.Bound.{BoundWords, bound_words}
 use Rattle.qs_driver.specs.commands.Build.{BuildWords, build_words}
 use Rattle.qs_driver.specs.commands.Derive.{DeriveWords, derive_words}

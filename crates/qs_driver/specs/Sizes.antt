@@ -8,8 +8,8 @@ use Rattle.qs_elaborate_bodies.specs.Units.{core_of}
 use Rattle.qs_build.specs.Limits.{Passes}
 use Rattle.qs_build.specs.declared.fault.BuildFault.{BuildFault}
 use Rattle.qs_build.specs.declared.fault.BuildFault.TheVariants.{NoMemory}
-use Rattle.qs_driver.specs.Limits.{source_limit}
-use Rattle.qs_driver.specs.Source.{IsTypedAs}
+use Rattle.qs_session.specs.Limits.{source_limit}
+use Rattle.qs_session.specs.Source.{IsTypedAs}
 
 -- Bytes within the limit of a source that are a unit which is well typed and within the limits: where its core has no
 -- image, memory is wanting.

@@ -1,9 +1,7 @@
-pub mod Usage
 pub mod Build
 pub mod Check
 pub mod Bound
 pub mod Derive
 pub mod Outline
-pub mod Run
 pub mod Exec
 pub mod Sample

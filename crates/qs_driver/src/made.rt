@@ -5,8 +5,6 @@ ghost use Rattle.qs_driver.specs.Bounds.{costs_in};
 ghost use Rattle.qs_driver.specs.Certified.{words_in};
 ghost use Rattle.qs_driver.specs.Made.{MakesCertified, MakesOn};
 
-use crate::Status;
-use crate::arguments::image_words;
 use crate::certified::{CertifiedUnit, CertifyOrder, read_certified};
 use qs_assert::Amount;
 use qs_base::NoMemory;
@@ -14,6 +12,7 @@ use qs_certify::bound_of_main;
 use qs_compile::compile_unit;
 use qs_image::{FunctionRecord, Image};
 use qs_ports::Store;
+use qs_session::{Status, image_words};
 use std::alloc::Global;
 
 /// The image of a source, and what main needs of the stack at the arguments.

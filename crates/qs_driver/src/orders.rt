@@ -1,11 +1,11 @@
 // The words of each command, as the command takes them.
 ghost use Rattle.std.specs.Prelude.{◌≡◌};
 ghost use Rattle.qs_cli.specs.Reading.{text_of};
+ghost use Rattle.qs_session.specs.Names.{name_in};
+ghost use Rattle.qs_session.specs.Starting as run;
 ghost use Rattle.qs_driver.specs.Certified as certified;
-ghost use Rattle.qs_driver.specs.Names.{name_in};
 ghost use Rattle.qs_driver.specs.Orders.{to_bound, to_build, to_check, to_derive, to_exec};
 ghost use Rattle.qs_driver.specs.Orders.{to_outline, to_run, to_sample};
-ghost use Rattle.qs_driver.specs.Starting as run;
 ghost use Rattle.qs_driver.specs.commands.Bound as bound;
 ghost use Rattle.qs_driver.specs.commands.Build as build;
 ghost use Rattle.qs_driver.specs.commands.Derive as derive;
@@ -20,7 +20,7 @@ use crate::commands::derive::DeriveOrder;
 use crate::commands::exec::ExecOrder;
 use crate::commands::outline::OutlineOrder;
 use crate::commands::sample::SampleOrder;
-use crate::starting::RunOrder;
+use qs_session::RunOrder;
 
 fn name_in(name: &Option<String>) -> Option<&str>
     ensures { name_in result ≡ text_of name.now }

@@ -1,27 +1,22 @@
 // The top call: reads the words, and hands the devices to their command.
 ghost use Rattle.qs_cli.specs.Reading.{command_of};
-ghost use Rattle.qs_driver.specs.Promises.{LacksMemoryOn, PromiseOn};
-ghost use Rattle.qs_driver.specs.Task.{AnswersOn};
+ghost use Rattle.qs_session.specs.Promises.{LacksMemoryOn, PromiseOn};
+ghost use Rattle.qs_session.specs.Task.{AnswersOn};
 ghost use Rattle.qs_driver.specs.Tool.{task_in, to_do, IsMeant};
 
-use crate::Status;
 use crate::commands::bound::bound;
 use crate::commands::build::build;
 use crate::commands::check::check;
 use crate::commands::derive::derive;
 use crate::commands::exec::exec;
 use crate::commands::outline::outline;
-use crate::commands::run::run;
 use crate::commands::sample::sample;
-use crate::commands::usage::usage;
-use crate::devices::Devices;
-use crate::due::refuse;
-use crate::names::nameless;
 use crate::orders::{
     to_bound, to_build, to_check, to_derive, to_exec, to_outline, to_run, to_sample,
 };
 use qs_cli::{CliFault, Command, read_words};
 use qs_ports::{Sink, Store};
+use qs_session::{Devices, Status, nameless, refuse, run, usage};
 use std::alloc::Global;
 
 // A row for each command. That words mean it, tells what is known of the count of a sample.

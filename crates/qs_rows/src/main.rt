@@ -4,7 +4,6 @@
 //! of a table how many rows it has. docs/ROWS.md has the form of a table.
 #![tactic(auto)]
 
-mod printing;
 mod running;
 mod table;
 

@@ -1,10 +1,10 @@
 // What comes of a row.
-use crate::printing::{
-    printed_code, printed_command, printed_instructions, printed_tokens, printed_unit,
-};
 use qs_base::NoMemory;
 use qs_driver::{Devices, run_tool};
 use qs_ports::{MemSink, MemStore};
+use qs_row_printing::{
+    printed_code, printed_command, printed_instructions, printed_tokens, printed_unit,
+};
 use qs_row_tables::{Act, NamedFile, Row, TableFault};
 use std::alloc::{AllocError, Global};
 

@@ -3,18 +3,18 @@ use Rattle.std.proofs.Common.{◌++◌, Result, Ok, Err, refl}
 use Rattle.qs_ports.specs.StoreView.{StoreView}
 use Rattle.qs_ports.specs.SinkView.{SinkView}
 use Rattle.qs_report.specs.Lines.{bound_line}
-use Rattle.qs_driver.specs.Faults.{status_line, shown_of}
-use Rattle.qs_driver.specs.Lines.{cost_lines}
-use Rattle.qs_driver.specs.Devices.{streams, views_of}
-use Rattle.qs_driver.specs.Due.{EndsWith, IsWritten}
+use Rattle.qs_session.specs.Faults.{status_line, shown_of}
+use Rattle.qs_session.specs.Lines.{cost_lines}
+use Rattle.qs_session.specs.Devices.{streams, views_of}
+use Rattle.qs_session.specs.Due.{EndsWith, IsWritten}
+use Rattle.qs_session.specs.Task.{Answers}
+use Rattle.qs_session.specs.declared.status.Status.{Status}
+use Rattle.qs_session.specs.declared.status.Status.TheVariants.{Done}
+use Rattle.qs_session.proofs.StepsLaws.{log_last, out_last}
 use Rattle.qs_driver.specs.Made.{Makes}
-use Rattle.qs_driver.specs.Task.{Answers}
 use Rattle.qs_driver.specs.commands.Bound.{BoundWords, names_of, to_make, bound, due_of, IsDueToBound}
 use Rattle.qs_driver.specs.commands.Bound as meant
 use Rattle.qs_driver.specs.declared.made.Made.{Made}
-use Rattle.qs_driver.specs.declared.status.Status.{Status}
-use Rattle.qs_driver.specs.declared.status.Status.TheVariants.{Done}
-use Rattle.qs_driver.proofs.StepsLaws.{log_last, out_last}
 
 -- what is due after the work on the store is due to the command
 is_due : (b : BoundWords) (v w : StoreView) (work : Result Made Status) → Makes (to_make b) v w work → IsDueToBound b v w (due_of b work)

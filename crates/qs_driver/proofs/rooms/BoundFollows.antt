@@ -1,16 +1,16 @@
 -- What follows from what is due to `bound`.
 use Rattle.std.proofs.Common.{◌≡◌, ◌≢◌, ◌⊎◌, ◌<◌, ap, subst, sym, inl, inr}
 use Rattle.qs_ports.specs.StoreView.{StoreView}
-use Rattle.qs_driver.specs.Due.{Due}
+use Rattle.qs_session.specs.Due.{Due}
+use Rattle.qs_session.specs.Promises.{StoreHeld, SaysStoreFailed}
+use Rattle.qs_session.specs.declared.status.Status.{Status}
+use Rattle.qs_session.specs.declared.status.Status.TheVariants.{Done, NoMemory}
+use Rattle.qs_session.proofs.rooms.Follows.{Follows, not_untouched}
 use Rattle.qs_driver.specs.Made.{CannotMake}
-use Rattle.qs_driver.specs.Promises.{StoreHeld, SaysStoreFailed}
 use Rattle.qs_driver.specs.commands.Bound.{BoundWords, to_make, bound, HasBound, IsDueToBound, Accepts, Refuses, IsOfBound}
 use Rattle.qs_driver.specs.commands.Bound as meant
-use Rattle.qs_driver.specs.declared.status.Status.{Status}
-use Rattle.qs_driver.specs.declared.status.Status.TheVariants.{Done, NoMemory}
 use Rattle.qs_driver.proofs.MadeFollows.{is_refusal, none_refused, made_own, made_shows, made_no_good, MadeEnds, goes_on, refuses_made}
 use Rattle.qs_driver.proofs.MadeFollows as made
-use Rattle.qs_driver.proofs.rooms.Follows.{Follows, not_untouched}
 
 data BoundEnds (b : BoundWords) (v w : StoreView) (status : Status) : Type 0 where
   bounded : (due : Due) → HasBound b v w due → status ≡ Done → BoundEnds b v w status

@@ -4,17 +4,17 @@ use Rattle.qs_ports.specs.StoreView.{StoreView}
 use Rattle.qs_ports.specs.SinkView.{SinkView}
 use Rattle.qs_report.specs.declared.fault_texts.Count.{Count}
 use Rattle.qs_report.specs.declared.fault_texts.Count.TheVariants.{Checked}
-use Rattle.qs_driver.specs.Devices.{streams, views_of}
-use Rattle.qs_driver.specs.Due.{IsWritten}
-use Rattle.qs_driver.specs.Counts.{counted, counted_or_refused}
+use Rattle.qs_session.specs.Devices.{streams, views_of}
+use Rattle.qs_session.specs.Due.{IsWritten}
+use Rattle.qs_session.specs.Counts.{counted, counted_or_refused}
+use Rattle.qs_session.specs.Task.{Answers}
+use Rattle.qs_session.specs.declared.status.Status.{Status}
+use Rattle.qs_session.specs.declared.status.Status.TheVariants.{NoMemory}
 use Rattle.qs_driver.specs.Certified.{CertifyWords, CertifiedSource, LacksCertified, HasCertified}
 use Rattle.qs_driver.specs.Certified as lacks
-use Rattle.qs_driver.specs.Task.{Answers}
 use Rattle.qs_driver.specs.commands.Check.{names_of, check, Checks}
 use Rattle.qs_driver.specs.commands.Check as meant
 use Rattle.qs_driver.specs.declared.certified.CertifiedUnit.{CertifiedUnit}
-use Rattle.qs_driver.specs.declared.status.Status.{Status}
-use Rattle.qs_driver.specs.declared.status.Status.TheVariants.{NoMemory}
 use Rattle.qs_driver.proofs.BoundsLaws.{source_bounded}
 
 pub not_certified : (w : CertifyWords) (v u : StoreView) (status : Status) → LacksCertified w v u status → Checks w v u (Err status)

@@ -1,16 +1,16 @@
 -- What follows from what is due to `check`.
 use Rattle.std.proofs.Common.{◌≡◌, ◌≢◌, ◌⊎◌, ◌<◌, ap, subst, sym, inl, inr, IsTrue}
 use Rattle.qs_ports.specs.StoreView.{StoreView}
-use Rattle.qs_driver.specs.Due.{Due}
+use Rattle.qs_session.specs.Due.{Due}
+use Rattle.qs_session.specs.Promises.{StoreHeld, SaysStoreFailed}
+use Rattle.qs_session.specs.declared.status.Status.{Status}
+use Rattle.qs_session.specs.declared.status.Status.TheVariants.{Done, NoMemory}
+use Rattle.qs_session.proofs.rooms.Follows.{Follows, not_untouched}
 use Rattle.qs_driver.specs.Certified.{CertifyWords, CertifiedSource, ReadsCertified, LacksCertified}
-use Rattle.qs_driver.specs.Promises.{StoreHeld, SaysStoreFailed}
 use Rattle.qs_driver.specs.commands.Check.{check, IsDueToCheck, Accepts, Refuses, IsOfCheck}
 use Rattle.qs_driver.specs.commands.Check as meant
-use Rattle.qs_driver.specs.declared.status.Status.{Status}
-use Rattle.qs_driver.specs.declared.status.Status.TheVariants.{Done, NoMemory}
 use Rattle.qs_driver.proofs.CertifiedFollows.{certified_own, certified_shows, certified_no_right}
 use Rattle.qs_driver.proofs.CertifiedRefusals.{CertifiedEnds, certified_ends, was_right, refuses_certified, done_is_no_refusal}
-use Rattle.qs_driver.proofs.rooms.Follows.{Follows, not_untouched}
 
 data CheckEnds (c : CertifyWords) (v w : StoreView) (status : Status) : Type 0 where
   checked : (s : CertifiedSource) → ReadsCertified c v s → status ≡ Done → CheckEnds c v w status

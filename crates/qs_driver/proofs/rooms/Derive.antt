@@ -26,20 +26,20 @@ use Rattle.qs_ports.specs.Whole.{Stores, IsCutShort}
 use Rattle.qs_ports.proofs.Wholes.{counts_more, failed_later}
 use Rattle.qs_report.specs.declared.fault_texts.Count.{Count}
 use Rattle.qs_report.specs.declared.fault_texts.Count.TheVariants.{Derived}
-use Rattle.qs_driver.specs.Devices.{streams, views_of}
-use Rattle.qs_driver.specs.Due.{IsWritten}
-use Rattle.qs_driver.specs.Counts.{counted, counted_or_refused}
+use Rattle.qs_session.specs.Devices.{streams, views_of}
+use Rattle.qs_session.specs.Due.{IsWritten}
+use Rattle.qs_session.specs.Counts.{counted, counted_or_refused}
+use Rattle.qs_session.specs.Source.{IsTypedUnit}
+use Rattle.qs_session.specs.Task.{Answers}
+use Rattle.qs_session.specs.declared.status.Status.{Status}
+use Rattle.qs_session.specs.declared.status.Status.TheVariants.{StoreFailed, NoMemory}
+use Rattle.qs_session.specs.declared.status.FileKind.TheVariants as kinds
+use Rattle.qs_session.proofs.LaterLaws.{keeps_then_holds, cut_short}
 use Rattle.qs_driver.specs.Certified.{CertifiedSource, ReadsCertified, LacksCertified, HasCertified}
-use Rattle.qs_driver.specs.Source.{IsTypedUnit}
-use Rattle.qs_driver.specs.Task.{Answers}
 use Rattle.qs_driver.specs.commands.Derive.{DeriveWords, names_of, inputs, derive, HasProofs, Derives}
 use Rattle.qs_driver.specs.commands.Derive as meant
 use Rattle.qs_driver.specs.declared.certified.CertifiedUnit.{CertifiedUnit}
-use Rattle.qs_driver.specs.declared.status.Status.{Status}
-use Rattle.qs_driver.specs.declared.status.Status.TheVariants.{StoreFailed, NoMemory}
-use Rattle.qs_driver.specs.declared.status.FileKind.TheVariants as kinds
 use Rattle.qs_driver.proofs.BoundsLaws.{core_is}
-use Rattle.qs_driver.proofs.LaterLaws.{keeps_then_holds, cut_short}
 
 -- ---- what is certified without a proof file
 

@@ -8,25 +8,25 @@ use Rattle.qs_image.specs.Image.{Image}
 use Rattle.qs_machine.specs.Arguments.{words_of}
 use Rattle.qs_machine.specs.Run.{Outcome, Exited, Trapped as HasTrapped, Going, machine}
 use Rattle.qs_machine.specs.State.{stack_limit}
-use Rattle.qs_driver.specs.Limits.{input_limit}
-use Rattle.qs_driver.specs.Due.{Due}
-use Rattle.qs_driver.specs.Files.{HoldsContent, IsTooLong, CannotRead}
-use Rattle.qs_driver.specs.Files as files
+use Rattle.qs_session.specs.Limits.{input_limit}
+use Rattle.qs_session.specs.Due.{Due}
+use Rattle.qs_session.specs.Files.{HoldsContent, IsTooLong, CannotRead}
+use Rattle.qs_session.specs.Files as files
+use Rattle.qs_session.specs.Promises.{StoreHeld, SaysStoreFailed}
+use Rattle.qs_session.specs.Starting.{HasInput, ReadInput, IsNoStack, status_at}
+use Rattle.qs_session.specs.declared.status.Status.{Status}
+use Rattle.qs_session.specs.declared.status.Status.TheVariants.{Source, Missing, NoBound, NoMemory}
+use Rattle.qs_session.specs.declared.status.SourceFault.TheVariants.{TooLong}
+use Rattle.qs_session.specs.declared.status.FileKind.TheVariants as kinds
+use Rattle.qs_session.proofs.FilesLaws.{held_content, held_long}
+use Rattle.qs_session.proofs.SourceFollows.{not_absent, not_long, one_content}
+use Rattle.qs_session.proofs.rooms.Follows.{Follows, not_untouched, unread_shows}
 use Rattle.qs_driver.specs.Made as made_meant
 use Rattle.qs_driver.specs.Made.{FitsMain, IsOfMade}
-use Rattle.qs_driver.specs.Promises.{StoreHeld, SaysStoreFailed}
-use Rattle.qs_driver.specs.Starting.{HasInput, ReadInput, IsNoStack, status_at}
 use Rattle.qs_driver.specs.commands.Exec.{ExecWords, to_make, exec, HasRun, HasStack, HasNoStack, ComesToInput, CannotExec, IsDueAt, IsDueToExec, LacksInput, HasLongInput, Ends, Accepts, Refuses, IsOfExec}
 use Rattle.qs_driver.specs.commands.Exec as meant
-use Rattle.qs_driver.specs.declared.status.Status.{Status}
-use Rattle.qs_driver.specs.declared.status.Status.TheVariants.{Source, Missing, NoBound, NoMemory}
-use Rattle.qs_driver.specs.declared.status.SourceFault.TheVariants.{TooLong}
-use Rattle.qs_driver.specs.declared.status.FileKind.TheVariants as kinds
-use Rattle.qs_driver.proofs.FilesLaws.{held_content, held_long}
-use Rattle.qs_driver.proofs.SourceFollows.{not_absent, not_long, one_content}
 use Rattle.qs_driver.proofs.MadeFollows.{is_refusal, certified_refuses, none_refused, made_or_bound, made_own, made_shows, made_no_good, one_bound, certified_or_not, IsNoMadeRefusal, MadeEnds, goes_on, refuses_made}
 use Rattle.qs_driver.proofs.MadeFollows as made
-use Rattle.qs_driver.proofs.rooms.Follows.{Follows, not_untouched, unread_shows}
 
 -- ---- how it ends
 

@@ -18,33 +18,33 @@ use Rattle.qs_emit.specs.Agree.{Agree}
 use Rattle.qs_certify.specs.Bound.{main_bound}
 use Rattle.qs_compile.specs.Compiled.{IsCompiled, IsImageOfSource}
 use Rattle.qs_cli.specs.Numbers.{default_steps}
+use Rattle.qs_session.specs.Devices.{streams, views_of}
+use Rattle.qs_session.specs.Due.{Due, EndsWith, IsWritten}
+use Rattle.qs_session.specs.Faults.{status_line}
+use Rattle.qs_session.specs.KeptOutput.{kept_view}
+use Rattle.qs_session.specs.SampleSource.{sample_text}
+use Rattle.qs_session.specs.Source.{IsTypedAs}
+use Rattle.qs_session.specs.Task.{Answers}
+use Rattle.qs_session.specs.Starting.{IsStackOf, LoadsImage}
+use Rattle.qs_session.specs.declared.kept_output.KeptOutput.{KeptOutput}
+use Rattle.qs_session.specs.declared.status.Status.{Status}
+use Rattle.qs_session.specs.declared.status.Status.TheVariants.{Done, Trapped, StepLimit, NoMemory}
+use Rattle.qs_session.proofs.StartingLaws.{stands_at}
+use Rattle.qs_session.proofs.rooms.Follows.{untouched}
+use Rattle.qs_session.proofs.StepsLaws.{log_last, out_last}
 use Rattle.qs_driver.specs.Bounds.{IsImageOf, bound_by, bytes_by, costs_in, if_finite, seen_runs}
 use Rattle.qs_driver.specs.Certified.{IsCertifiedUnit}
-use Rattle.qs_driver.specs.Devices.{streams, views_of}
-use Rattle.qs_driver.specs.Due.{Due, EndsWith, IsWritten}
-use Rattle.qs_driver.specs.Faults.{status_line}
-use Rattle.qs_driver.specs.KeptOutput.{kept_view}
 use Rattle.qs_driver.specs.Made.{IsMadeOf}
-use Rattle.qs_driver.specs.SampleSource.{sample_text}
-use Rattle.qs_driver.specs.Source.{IsTypedAs}
-use Rattle.qs_driver.specs.Task.{Answers}
-use Rattle.qs_driver.specs.Starting.{IsStackOf, LoadsImage}
 use Rattle.qs_driver.specs.commands.Exec.{as_run, IsSourcesEnd}
 use Rattle.qs_driver.specs.commands.Sample.{SampleWords, names_of, as_exec, counted, outcome, sample, sample_lines, due_of, HasStarted, HasWritten, IsDueAt, IsDueToSample, ComesTo, RunsCounted, Samples, WritesText}
 use Rattle.qs_driver.specs.commands.Sample as meant
 use Rattle.qs_driver.specs.declared.certified.CertifiedUnit.{CertifiedUnit}
 use Rattle.qs_driver.specs.declared.commands.sample.SampleStart.{SampleStart}
 use Rattle.qs_driver.specs.declared.commands.sample.SampleEnd.{SampleEnd}
-use Rattle.qs_driver.specs.declared.kept_output.KeptOutput.{KeptOutput}
 use Rattle.qs_driver.specs.declared.made.Made.{Made}
-use Rattle.qs_driver.specs.declared.status.Status.{Status}
-use Rattle.qs_driver.specs.declared.status.Status.TheVariants.{Done, Trapped, StepLimit, NoMemory}
 use Rattle.qs_driver.proofs.BoundsLaws.{compiled_is_image, is_compiled}
 use Rattle.qs_driver.proofs.CertifiedLaws.{HoldsCertified, holds_certified}
-use Rattle.qs_driver.proofs.StartingLaws.{stands_at}
 use Rattle.qs_driver.proofs.rooms.Exec.{sources_end}
-use Rattle.qs_driver.proofs.rooms.Follows.{untouched}
-use Rattle.qs_driver.proofs.StepsLaws.{log_last, out_last}
 
 -- ---- a text comes to a machine
 

@@ -4,16 +4,16 @@ use Rattle.qs_ports.specs.StoreView.{StoreView}
 use Rattle.qs_image.specs.Image.{Image}
 use Rattle.qs_machine.specs.Run.{Outcome, Exited, Trapped as HasTrapped, Going}
 use Rattle.qs_cli.specs.Numbers.{default_steps}
-use Rattle.qs_driver.specs.Due.{Due}
-use Rattle.qs_driver.specs.Promises.{StoreHeld, SaysStoreFailed}
-use Rattle.qs_driver.specs.SampleSource.{sample_text}
-use Rattle.qs_driver.specs.Starting.{status_at}
+use Rattle.qs_session.specs.Due.{Due}
+use Rattle.qs_session.specs.Promises.{StoreHeld, SaysStoreFailed}
+use Rattle.qs_session.specs.SampleSource.{sample_text}
+use Rattle.qs_session.specs.Starting.{status_at}
+use Rattle.qs_session.specs.declared.status.Status.{Status}
+use Rattle.qs_session.specs.declared.status.Status.TheVariants.{NoMemory}
+use Rattle.qs_session.specs.declared.status.FileKind.TheVariants as kinds
+use Rattle.qs_session.proofs.rooms.Follows.{Follows, not_risen, not_untouched}
 use Rattle.qs_driver.specs.commands.Sample.{SampleWords, outcome, sample, HasWritten, IsDueAt, HasRun, CannotSample, IsDueToSample, Accepts, Refuses, IsOfSample}
 use Rattle.qs_driver.specs.commands.Sample as meant
-use Rattle.qs_driver.specs.declared.status.Status.{Status}
-use Rattle.qs_driver.specs.declared.status.Status.TheVariants.{NoMemory}
-use Rattle.qs_driver.specs.declared.status.FileKind.TheVariants as kinds
-use Rattle.qs_driver.proofs.rooms.Follows.{Follows, not_risen, not_untouched}
 
 -- ---- how it ends
 

@@ -2,18 +2,18 @@
 use Rattle.std.proofs.Common.{◌≡◌, ◌≢◌, ◌⊎◌, ◌<◌, subst, sym, inl, inr, IsTrue}
 use Rattle.std.specs.Prelude.{◌↔◌}
 use Rattle.qs_ports.specs.StoreView.{StoreView, HasSameCounts, HasFailed}
-use Rattle.qs_driver.specs.Files.{IsUntouched}
+use Rattle.qs_session.specs.Files.{IsUntouched}
+use Rattle.qs_session.specs.Source as source
+use Rattle.qs_session.specs.Promises.{StoreHeld, SaysStoreFailed}
+use Rattle.qs_session.specs.declared.status.Status.{Status}
+use Rattle.qs_session.specs.declared.status.Status.TheVariants.{Done, Words, StoreFailed, NoMemory}
+use Rattle.qs_session.specs.declared.status.WordsFault.TheVariants.{SameName}
+use Rattle.qs_session.specs.declared.status.FileKind.TheVariants as kinds
+use Rattle.qs_session.proofs.rooms.Follows.{not_risen, not_untouched}
 use Rattle.qs_driver.specs.Certified.{CertifyWords, CertifiedSource, ReadsCertified, LacksCertified, HoldsRight, IsOfCertified, RefusesCertified}
 use Rattle.qs_driver.specs.Certified as certified
-use Rattle.qs_driver.specs.Source as source
-use Rattle.qs_driver.specs.Promises.{StoreHeld, SaysStoreFailed}
-use Rattle.qs_driver.specs.declared.status.Status.{Status}
-use Rattle.qs_driver.specs.declared.status.Status.TheVariants.{Done, Words, StoreFailed, NoMemory}
-use Rattle.qs_driver.specs.declared.status.WordsFault.TheVariants.{SameName}
-use Rattle.qs_driver.specs.declared.status.FileKind.TheVariants as kinds
 use Rattle.qs_driver.proofs.CertifiedFollows.{certified_own, certified_shows, certified_no_right}
 use Rattle.qs_driver.proofs.CertifiedRefusals.{CertifiedEnds, certified_ends, was_right, refuses_certified, done_is_no_refusal}
-use Rattle.qs_driver.proofs.rooms.Follows.{not_risen, not_untouched}
 
 -- How it ends. Its words may name one file twice.
 pub data WritingEnds (c : CertifyWords) (Twice : Type 0) (v w : StoreView) (status : Status) : Type 0 where

@@ -4,19 +4,19 @@ use Rattle.qs_assert.specs.declared.define.Amount.{Amount}
 use Rattle.qs_ports.specs.StoreView.{StoreView}
 use Rattle.qs_image.specs.Image.{Image, FunctionRecord}
 use Rattle.qs_report.specs.Lines.{bound_line}
-use Rattle.qs_driver.specs.Names.{Names, no_names, or_empty, name_in}
-use Rattle.qs_driver.specs.Faults.{shown_of}
-use Rattle.qs_driver.specs.Lines.{cost_lines}
-use Rattle.qs_driver.specs.Steps.{on_out}
-use Rattle.qs_driver.specs.Due.{Due, refusal, IsRefusal}
-use Rattle.qs_driver.specs.Files.{IsUntouched}
+use Rattle.qs_session.specs.Names.{Names, no_names, or_empty, name_in}
+use Rattle.qs_session.specs.Faults.{shown_of}
+use Rattle.qs_session.specs.Lines.{cost_lines}
+use Rattle.qs_session.specs.Steps.{on_out}
+use Rattle.qs_session.specs.Due.{Due, refusal, IsRefusal}
+use Rattle.qs_session.specs.Files.{IsUntouched}
+use Rattle.qs_session.specs.Task.{Task}
+use Rattle.qs_session.specs.declared.status.Status.{Status}
+use Rattle.qs_session.specs.declared.status.Status.TheVariants.{Done}
 use Rattle.qs_driver.specs.Certified.{certify_words}
 use Rattle.qs_driver.specs.Made.{MakeWords, make_words, IsMade, CannotMake, FitsMain, IsOfMade, RefusesMade}
-use Rattle.qs_driver.specs.Task.{Task}
 use Rattle.qs_driver.specs.declared.commands.bound.BoundOrder.{BoundOrder}
 use Rattle.qs_driver.specs.declared.made.Made.{Made}
-use Rattle.qs_driver.specs.declared.status.Status.{Status}
-use Rattle.qs_driver.specs.declared.status.Status.TheVariants.{Done}
 
 -- ---- the words
 

@@ -3,16 +3,16 @@ use Rattle.std.specs.Prelude.{◌≡◌, ◌-◌, length, IsTrue, Result}
 use Rattle.qs_ports.specs.StoreView.{StoreView}
 use Rattle.qs_report.specs.declared.fault_texts.Count.{Count}
 use Rattle.qs_report.specs.declared.fault_texts.Count.TheVariants.{Checked}
-use Rattle.qs_driver.specs.Names.{Names, no_names, or_empty}
-use Rattle.qs_driver.specs.Due.{Due, IsRefusal}
-use Rattle.qs_driver.specs.Counts.{counted, counted_or_refused}
-use Rattle.qs_driver.specs.Files.{IsUntouched}
+use Rattle.qs_session.specs.Names.{Names, no_names, or_empty}
+use Rattle.qs_session.specs.Due.{Due, IsRefusal}
+use Rattle.qs_session.specs.Counts.{counted, counted_or_refused}
+use Rattle.qs_session.specs.Files.{IsUntouched}
+use Rattle.qs_session.specs.Task.{Task}
+use Rattle.qs_session.specs.declared.status.Status.{Status}
+use Rattle.qs_session.specs.declared.status.Status.TheVariants.{Done}
 use Rattle.qs_driver.specs.Certified.{CertifyWords, words_in, CertifiedSource, ReadsCertified, LacksCertified, HoldsRight, IsOfCertified, RefusesCertified}
 use Rattle.qs_driver.specs.Bounds.{IsBounded}
-use Rattle.qs_driver.specs.Task.{Task}
 use Rattle.qs_driver.specs.declared.certified.CertifyOrder.{CertifyOrder}
-use Rattle.qs_driver.specs.declared.status.Status.{Status}
-use Rattle.qs_driver.specs.declared.status.Status.TheVariants.{Done}
 
 -- its words are those that name what is certified
 abbrev pub names_of : CertifyWords → Names

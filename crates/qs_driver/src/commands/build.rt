@@ -1,21 +1,19 @@
 // `build`: from the source and its proof file in the store to the image in the store.
 ghost use Rattle.std.specs.Prelude.{◌≡◌, ◌≢◌, Some, false, true};
+ghost use Rattle.qs_session.specs.Due.{IsWrittenOn};
+ghost use Rattle.qs_session.specs.Names.{names_in};
+ghost use Rattle.qs_session.specs.Task.{AnswersOn};
 ghost use Rattle.qs_driver.specs.Certified as meant;
-ghost use Rattle.qs_driver.specs.Due.{IsWrittenOn};
-ghost use Rattle.qs_driver.specs.Names.{names_in};
-ghost use Rattle.qs_driver.specs.Task.{AnswersOn};
 ghost use Rattle.qs_driver.specs.commands.Build.{due_to, inputs, names_of, to_do, words_in, Builds};
 ghost use Rattle.qs_driver.specs.commands.Build.{NamesDiffer, NamesOneTwice};
 
 use crate::certified::{CertifyOrder, read_certified};
-use crate::devices::{Devices, Streams};
-use crate::due::{refuse, status_after};
-use crate::lines::put_costs;
-use crate::names::{FileNames, nameless};
-use crate::{Status, WordsFault};
 use qs_compile::compile_unit;
 use qs_image::{Image, write};
 use qs_ports::{Sink, Store, write_whole};
+use qs_session::{
+    Devices, FileNames, Status, Streams, WordsFault, nameless, put_costs, refuse, status_after,
+};
 use std::alloc::Global;
 
 /// The words of `build`.

@@ -1,18 +1,14 @@
 // `outline`: from the source in the store to the outline of its core on standard output.
 ghost use Rattle.std.specs.Prelude.{◌≡◌};
-ghost use Rattle.qs_driver.specs.Due.{IsWrittenOn};
-ghost use Rattle.qs_driver.specs.Names.{names_in};
-ghost use Rattle.qs_driver.specs.Task.{AnswersOn};
+ghost use Rattle.qs_session.specs.Due.{IsWrittenOn};
+ghost use Rattle.qs_session.specs.Names.{names_in};
+ghost use Rattle.qs_session.specs.Task.{AnswersOn};
 ghost use Rattle.qs_driver.specs.commands.Outline.{due_to, names_of, to_do, words_in, Outlines};
 
-use crate::Status;
-use crate::devices::{Devices, Streams};
-use crate::due::{refuse, status_after};
-use crate::names::{FileNames, nameless};
-use crate::source::read_unit;
 use qs_core::print_outline;
 use qs_elaborate::elaborate;
 use qs_ports::{Sink, Store, put_all};
+use qs_session::{Devices, FileNames, Status, Streams, nameless, read_unit, refuse, status_after};
 use std::alloc::Global;
 
 /// The words of `outline`.

@@ -3,32 +3,27 @@
 ghost use Rattle.std.specs.Prelude.{◌≡◌, List, length, ℕ};
 ghost use Rattle.qs_ports.specs.SinkView.{PutsOn};
 ghost use Rattle.qs_machine.specs.Standing.{taken_of};
-ghost use Rattle.qs_driver.specs.Due.{IsWrittenOn};
-ghost use Rattle.qs_driver.specs.Names.{name_in, names_in};
-ghost use Rattle.qs_driver.specs.Task.{AnswersOn};
+ghost use Rattle.qs_session.specs.Due.{IsWrittenOn};
+ghost use Rattle.qs_session.specs.Names.{name_in, names_in};
+ghost use Rattle.qs_session.specs.Task.{AnswersOn};
+ghost use Rattle.qs_session.specs.Starting as run_meant;
 ghost use Rattle.qs_driver.specs.SampleLaws.{IsSampleCount};
-ghost use Rattle.qs_driver.specs.Starting as run_meant;
 ghost use Rattle.qs_driver.specs.commands.Exec.{as_run};
 ghost use Rattle.qs_driver.specs.commands.Sample.{as_exec, due_to, lines_of, names_of, to_do};
 ghost use Rattle.qs_driver.specs.commands.Sample.{words_in, RunsCounted, Samples, StartsText};
 ghost use Rattle.qs_driver.specs.commands.Sample.{WritesText};
 
 use crate::certified::certify_typed;
-use crate::devices::{Devices, Streams};
-use crate::due::{refuse, status_after};
-use crate::kept_output::KeptOutput;
-use crate::limits::SOURCE_LIMIT;
 use crate::made::make_certified;
-use crate::names::{FileNames, nameless};
-use crate::sample_source::sample_text;
-use crate::source::typed_text;
-use crate::starting::{RunOrder, loaded, stack_of};
-use crate::{FileKind, SourceFault, Status};
 use qs_cli::DEFAULT_STEPS;
 use qs_image::Image;
 use qs_machine::{Machine, RunEnd};
 use qs_ports::{Sink, SinkFault, Store, write_whole};
 use qs_report::{Count, Shown, put_bound, put_count, put_end};
+use qs_session::{
+    Devices, FileKind, FileNames, KeptOutput, RunOrder, SOURCE_LIMIT, SourceFault, Status, Streams,
+    loaded, nameless, refuse, sample_text, stack_of, status_after, typed_text,
+};
 use std::alloc::Global;
 
 /// The words of `sample`.

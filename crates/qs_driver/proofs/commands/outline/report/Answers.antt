@@ -1,5 +1,5 @@
+use Rattle.qs_session.proofs.StepsLaws.{ends_with}
 use Rattle.qs_driver.specs.commands.Outline.{words_in}
-use Rattle.qs_driver.proofs.StepsLaws.{ends_with}
 use Rattle.qs_driver.proofs.rooms.Outline.{fault_put, text_put}
 use Rattle.qs_driver.proofs.commands.outline.report.Goals as goal
 

@@ -1,5 +1,5 @@
+use Rattle.qs_session.proofs.StepsLaws.{ends_with}
 use Rattle.qs_driver.specs.commands.Sample.{words_in}
-use Rattle.qs_driver.proofs.StepsLaws.{ends_with}
 use Rattle.qs_driver.proofs.rooms.Sample.{lines_put, fault_put}
 use Rattle.qs_driver.proofs.commands.sample.report.Goals as goal
 

@@ -1,0 +1,21 @@
+pub mod FilesLaws
+pub mod LaterLaws
+pub mod ParametersLaws
+pub mod ArgumentsLaws
+pub mod NodeTokens
+pub mod FaultNodes
+pub mod SourceLaws
+pub mod SourceFollows
+mod ToldExamples
+pub mod StepsLaws
+pub mod StartingLaws
+pub mod CountLaws
+pub mod SampleTrees
+pub mod SampleLexed
+pub mod SampleUnits
+pub mod SampleTyped
+pub mod SampleLimits
+pub mod SampleGood
+pub mod SampleBytes
+pub mod SampleMeaning
+pub mod rooms

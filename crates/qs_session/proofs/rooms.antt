@@ -1,0 +1,4 @@
+pub mod Follows
+pub mod Usage
+pub mod Run
+pub mod RunFollows

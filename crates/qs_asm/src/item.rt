@@ -3,7 +3,7 @@
 use qs_isa::{BranchKind, Instr, Register};
 
 /// A piece of code before it has an address. Labels are numbers.
-#[derive(Clone, Copy, PartialEq, Eq)]
+#[derive(Clone, Copy)]
 pub enum Item {
     /// an instruction
     Plain(Instr),

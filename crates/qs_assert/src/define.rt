@@ -12,7 +12,7 @@ pub struct Define {
 }
 
 /// The value of an assertion.
-#[derive(Clone, Copy, PartialEq, Eq)]
+#[derive(Clone, Copy, PartialEq, Eq, Debug)]
 pub enum Amount {
     /// A natural number.
     Finite(u128),

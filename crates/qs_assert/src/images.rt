@@ -23,7 +23,7 @@ pub struct Image {
 }
 
 /// What becomes of the variables that are not in a list of images.
-#[derive(Clone, Copy, PartialEq, Eq)]
+#[derive(Clone, Copy)]
 pub enum Others {
     /// They stay.
     Stay,

@@ -4,7 +4,7 @@ use crate::Var;
 use qs_base::{FnId, Name};
 
 /// The head of a term; the parts of the term follow it.
-#[derive(Clone, Copy, Debug, PartialEq, Eq)]
+#[derive(Clone, Copy, Debug)]
 pub enum TermNode {
     /// A number.
     Number(i64),
@@ -27,7 +27,7 @@ pub enum TermNode {
 }
 
 /// The head of a condition; the parts of the condition follow it.
-#[derive(Clone, Copy, Debug, PartialEq, Eq)]
+#[derive(Clone, Copy, Debug)]
 pub enum CondNode {
     /// One term is at most another.
     Le,

@@ -1,7 +1,7 @@
 // Variables of terms.
 
 /// Which variable a term means.
-#[derive(Clone, Copy, Debug, PartialEq, Eq)]
+#[derive(Clone, Copy, Debug)]
 pub enum VarKind {
     /// The plain variable of this number; parameter i is `Plain(i)`.
     Plain(u32),
@@ -14,7 +14,7 @@ pub enum VarKind {
 }
 
 /// The integer type of a variable.
-#[derive(Clone, Copy, Debug, PartialEq, Eq)]
+#[derive(Clone, Copy, Debug)]
 pub enum NumberType {
     /// -2^31 to 2^31 - 1.
     Int,
@@ -25,7 +25,7 @@ pub enum NumberType {
 }
 
 /// A variable of a term, and its type.
-#[derive(Clone, Copy, Debug, PartialEq, Eq)]
+#[derive(Clone, Copy, Debug)]
 pub struct Var {
     /// Which variable it is.
     pub kind: VarKind,

@@ -3,7 +3,7 @@ ghost use Rattle.std.specs.Prelude.{◌≡◌, ◌≤◌, ◌<◌, ◌^◌, leng
 ghost use Rattle.qs_base.specs.Positions.{column_at, line_at};
 
 /// A place in a text: its line and its column in bytes, both from 1. Each byte 0x0A ends a line.
-#[derive(Clone, Copy, PartialEq, Eq, Debug)]
+#[derive(Clone, Copy, Debug)]
 pub struct Pos {
     /// The line, from 1.
     pub line: u32,

@@ -3,7 +3,7 @@
 use qs_memory::Scalar;
 
 /// Where a call puts the argument for a parameter (C11 6.5.2.2p4).
-#[derive(Clone, Copy, PartialEq, Eq)]
+#[derive(Clone, Copy)]
 pub enum Parameter {
     /// into the variable with this number
     Plain(u32),

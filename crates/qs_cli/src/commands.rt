@@ -7,7 +7,7 @@ use std::alloc::{AllocError, AllocFailed};
 use thiserror::Error;
 
 /// What the tool is asked to do. Files are named as in the words.
-#[derive(Debug, PartialEq, Eq, Drop)]
+#[derive(Debug, Drop)]
 pub enum Command {
     /// Compile a source file into an image.
     Build {
@@ -60,7 +60,7 @@ pub enum Command {
 }
 
 /// Why no command was read.
-#[derive(Clone, Copy, Debug, PartialEq, Eq, Error)]
+#[derive(Clone, Copy, Debug, Error)]
 pub enum CliFault {
     /// The words mean no command.
     #[error("the words mean no command")]

@@ -1,7 +1,7 @@
 // What core names by numbers.
 
 /// A block whose address is taken.
-#[derive(Clone, Copy, PartialEq, Eq)]
+#[derive(Clone, Copy)]
 pub enum BlockId {
     /// the block with this number among those that the call makes
     Local(u32),
@@ -10,7 +10,7 @@ pub enum BlockId {
 }
 
 /// What an assignment gives a value.
-#[derive(Clone, Copy, PartialEq, Eq)]
+#[derive(Clone, Copy)]
 pub enum Target {
     /// the variable with this number
     Variable(u32),

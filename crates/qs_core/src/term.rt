@@ -3,7 +3,7 @@
 use qs_memory::{Scalar, Signedness};
 
 /// What combines two terms.
-#[derive(Clone, Copy, PartialEq, Eq)]
+#[derive(Clone, Copy)]
 pub enum TermOperation {
     /// the sum
     Add,
@@ -14,7 +14,7 @@ pub enum TermOperation {
 }
 
 /// How two terms compare.
-#[derive(Clone, Copy, PartialEq, Eq)]
+#[derive(Clone, Copy)]
 pub enum TermComparison {
     /// the first is at most the second
     LessOrEqual,

@@ -17,7 +17,7 @@ use qs_typed_trees::Conversion;
 use std::alloc::Global;
 
 /// The value of a literal.
-#[derive(Clone, Copy, PartialEq, Eq)]
+#[derive(Clone, Copy)]
 pub enum Literal {
     /// an integer, as its 32 bits
     Integer(u32),

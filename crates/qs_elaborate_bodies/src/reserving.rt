@@ -12,7 +12,7 @@ use qs_core::{CoreExpr, CoreStmt, type_of};
 use qs_memory::Scalar;
 
 /// A temporary, and the statement that will give it a value.
-#[derive(Clone, Copy, PartialEq, Eq)]
+#[derive(Clone, Copy)]
 pub struct Reserved {
     /// the place of the statement
     pub place: usize,

@@ -9,7 +9,7 @@ use qs_base::NoMemory;
 use std::alloc::AllocFailed;
 
 /// Why the walk stops; its path tells where.
-#[derive(Clone, Copy, PartialEq, Eq)]
+#[derive(Clone, Copy)]
 pub enum Failed {
     /// No memory was found.
     NoMemory,

@@ -4,7 +4,7 @@ use qs_base::NoMemory;
 use thiserror::Error;
 
 /// The rule of a node of a certificate.
-#[derive(Clone, Copy, Debug, PartialEq, Eq)]
+#[derive(Clone, Copy, Debug)]
 pub enum Rule {
     /// The two are the same tree.
     Same,

@@ -4,7 +4,7 @@ use qs_poly::PolyFault;
 use std::alloc::{AllocError, AllocFailed};
 
 /// A limit of polynomials.
-#[derive(Clone, Copy, Debug, PartialEq, Eq)]
+#[derive(Clone, Copy, Debug)]
 pub enum Limit {
     /// Coefficients are from -2^56 to 2^56.
     Coefficient,
@@ -31,7 +31,7 @@ impl Limit {
 }
 
 /// Why a step gives nothing.
-#[derive(Clone, Copy, PartialEq, Eq)]
+#[derive(Clone, Copy)]
 pub enum Stop {
     /// No memory was found.
     NoMemory,

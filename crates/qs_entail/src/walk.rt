@@ -22,7 +22,7 @@ use qs_assert::{AssertionView, CondView, Define};
 use std::alloc::Global;
 
 /// How many conditions and polynomials were known.
-#[derive(Clone, Copy, PartialEq, Eq)]
+#[derive(Clone, Copy)]
 pub struct Mark {
     pub conditions: usize,
     pub polynomials: usize,

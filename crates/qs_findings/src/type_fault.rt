@@ -5,7 +5,7 @@ use thiserror::Error;
 
 /// Why a unit is refused, in this order: a limit of nodes, functions or parameters, a rule, no
 /// main, a function without a body, a limit of globals or locals.
-#[derive(Clone, Copy, PartialEq, Eq, Debug, Error)]
+#[derive(Clone, Copy, Debug, Error)]
 pub enum TypeFault {
     /// The node with this number breaks this rule: no node before it breaks one, nor it one before
     /// this.

@@ -1,7 +1,7 @@
 // Frames.
 
 /// The frame of a function's call. Offsets are from x2, in bytes.
-#[derive(Clone, Copy, PartialEq, Eq)]
+#[derive(Clone, Copy)]
 pub struct Frame {
     /// its bytes, a positive multiple of 16
     pub cost: u32,

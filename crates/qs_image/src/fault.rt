@@ -2,7 +2,7 @@
 use thiserror::Error;
 
 /// A word of the header that has a range.
-#[derive(Clone, Copy, Debug, PartialEq, Eq)]
+#[derive(Clone, Copy, Debug)]
 pub enum HeaderWord {
     /// How many words of code there are.
     CodeCount,
@@ -39,7 +39,7 @@ impl HeaderWord {
 
 /// Why bytes are no image: the first test that they fail. The tests come in this order: `Short` for
 /// the header, `Magic`, `Count`, `Short` for the rest, `Trailing`, `Names`, `Entry`, `Cost`.
-#[derive(Clone, Copy, Debug, PartialEq, Eq, Error)]
+#[derive(Clone, Copy, Debug, Error)]
 pub enum ImageFault {
     /// There are fewer than 32 bytes, or fewer than the counts ask for.
     #[error("short")]

@@ -5,7 +5,7 @@ ghost use Rattle.qs_isa.specs.Ranges.{IsSigned, IsUpper, IsOffset};
 use std::marker::Model;
 
 /// A signed immediate of 12 bits, -2048 to 2047, seen as the word with its sign extended.
-#[derive(Clone, Copy, Debug, PartialEq, Eq)]
+#[derive(Clone, Copy, Debug)]
 pub struct Immediate {
     word: u32,
 }
@@ -39,7 +39,7 @@ impl Immediate {
 }
 
 /// An upper immediate: a word whose low 12 bits are 0.
-#[derive(Clone, Copy, Debug, PartialEq, Eq)]
+#[derive(Clone, Copy, Debug)]
 pub struct UpperImmediate {
     word: u32,
 }
@@ -73,7 +73,7 @@ impl UpperImmediate {
 }
 
 /// The distance of a branch in bytes: even, -4096 to 4094, seen as the word with its sign extended.
-#[derive(Clone, Copy, Debug, PartialEq, Eq)]
+#[derive(Clone, Copy, Debug)]
 pub struct BranchOffset {
     word: u32,
 }
@@ -108,7 +108,7 @@ impl BranchOffset {
 
 /// The distance of a jump in bytes: even, -1048576 to 1048574, seen as the word with its sign
 /// extended.
-#[derive(Clone, Copy, Debug, PartialEq, Eq)]
+#[derive(Clone, Copy, Debug)]
 pub struct JumpOffset {
     word: u32,
 }
@@ -142,7 +142,7 @@ impl JumpOffset {
 }
 
 /// The amount of a shift, 0 to 31 bits.
-#[derive(Clone, Copy, Debug, PartialEq, Eq)]
+#[derive(Clone, Copy, Debug)]
 pub struct ShiftAmount {
     bits: u8,
 }

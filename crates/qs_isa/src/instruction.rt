@@ -2,7 +2,7 @@
 use crate::{BranchOffset, Immediate, JumpOffset, Register, ShiftAmount, UpperImmediate};
 
 /// The conditional branches (section 2.5).
-#[derive(Clone, Copy, Debug, PartialEq, Eq)]
+#[derive(Clone, Copy, Debug)]
 pub enum BranchKind {
     Beq,
     Bne,
@@ -13,7 +13,7 @@ pub enum BranchKind {
 }
 
 /// The loads (section 2.6).
-#[derive(Clone, Copy, Debug, PartialEq, Eq)]
+#[derive(Clone, Copy, Debug)]
 pub enum LoadKind {
     Lb,
     Lh,
@@ -23,7 +23,7 @@ pub enum LoadKind {
 }
 
 /// The stores (section 2.6).
-#[derive(Clone, Copy, Debug, PartialEq, Eq)]
+#[derive(Clone, Copy, Debug)]
 pub enum StoreKind {
     Sb,
     Sh,
@@ -31,7 +31,7 @@ pub enum StoreKind {
 }
 
 /// The operations on a register and an immediate, but for the shifts (section 2.4).
-#[derive(Clone, Copy, Debug, PartialEq, Eq)]
+#[derive(Clone, Copy, Debug)]
 pub enum OpImmKind {
     Addi,
     Slti,
@@ -42,7 +42,7 @@ pub enum OpImmKind {
 }
 
 /// The shifts by a fixed amount (section 2.4).
-#[derive(Clone, Copy, Debug, PartialEq, Eq)]
+#[derive(Clone, Copy, Debug)]
 pub enum ShiftImmKind {
     Slli,
     Srli,
@@ -50,7 +50,7 @@ pub enum ShiftImmKind {
 }
 
 /// The operations on two registers (sections 2.4, 7.1 and 7.2).
-#[derive(Clone, Copy, Debug, PartialEq, Eq)]
+#[derive(Clone, Copy, Debug)]
 pub enum OpKind {
     Add,
     Sub,
@@ -74,7 +74,7 @@ pub enum OpKind {
 
 /// An instruction of RV32IM (chapter 24). `rd` is the register that is written, `rs1` and `rs2` are
 /// read.
-#[derive(Clone, Copy, Debug, PartialEq, Eq)]
+#[derive(Clone, Copy, Debug)]
 pub enum Instr {
     /// `rd` becomes the immediate.
     Lui {

@@ -8,7 +8,7 @@ use std::alloc::{AllocError, AllocFailed};
 use thiserror::Error;
 
 /// What is wrong where the text goes on neither with white space nor with a token.
-#[derive(Clone, Copy, PartialEq, Eq)]
+#[derive(Clone, Copy)]
 pub enum FaultKind {
     /// A byte that begins nothing.
     BadByte,
@@ -26,7 +26,7 @@ pub enum FaultKind {
 }
 
 /// Why a text has no tokens: the first fault, with the number of the byte that it begins at.
-#[derive(Clone, Copy, PartialEq, Eq, Debug, Error)]
+#[derive(Clone, Copy, Debug, Error)]
 pub enum LexFault {
     /// No memory was found.
     #[error("out of memory")]

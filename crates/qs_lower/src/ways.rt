@@ -7,7 +7,7 @@ ghost use Rattle.qs_lower.specs.Ways.{way_tree, option_way, falls_tree, exits_tr
 use qs_lower_expressions::Exit;
 
 /// Where a statement goes that does nothing else.
-#[derive(Clone, Copy, PartialEq, Eq)]
+#[derive(Clone, Copy)]
 pub enum Way {
     /// to what is next
     Next,
@@ -18,7 +18,7 @@ pub enum Way {
 }
 
 /// Which of a statement's exits come next.
-#[derive(Clone, Copy, PartialEq, Eq)]
+#[derive(Clone, Copy)]
 pub struct Falls {
     /// what is next
     pub next: bool,
@@ -29,7 +29,7 @@ pub struct Falls {
 }
 
 /// Where a statement goes on, after a break, and after a continue.
-#[derive(Clone, Copy, PartialEq, Eq)]
+#[derive(Clone, Copy)]
 pub struct Exits {
     /// what is next
     pub next: Exit,

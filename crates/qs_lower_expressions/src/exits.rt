@@ -11,7 +11,7 @@ use qs_memory::Comparison;
 use qs_tac::{Condition, Instruction, Operand};
 
 /// The index of an instruction where code goes on.
-#[derive(Clone, Copy, PartialEq, Eq)]
+#[derive(Clone, Copy)]
 pub enum Exit {
     /// it comes next, behind the code
     Falls(u32),

@@ -1,7 +1,7 @@
 // What a step and a run answer.
 
 /// Why a step is not taken. A trap leaves the state as it was.
-#[derive(Clone, Copy, Debug, PartialEq, Eq)]
+#[derive(Clone, Copy, Debug)]
 pub enum Cause {
     /// x2 would leave the stack; its base and its top are inside.
     Overflow,
@@ -26,7 +26,7 @@ pub enum Cause {
 }
 
 /// What a step did.
-#[derive(Clone, Copy, PartialEq, Eq)]
+#[derive(Clone, Copy)]
 pub enum StepResult {
     /// It goes on.
     Going,
@@ -39,7 +39,7 @@ pub enum StepResult {
 }
 
 /// How a run ended.
-#[derive(Clone, Copy, PartialEq, Eq)]
+#[derive(Clone, Copy)]
 pub enum RunEnd {
     /// The program has exited with this status.
     Exited(u8),
@@ -52,7 +52,7 @@ pub enum RunEnd {
 }
 
 /// How the machine ended.
-#[derive(Clone, Copy, Debug, PartialEq, Eq)]
+#[derive(Clone, Copy, Debug)]
 pub enum End {
     Exited(u8),
     Trapped(Cause, u32),

@@ -5,7 +5,7 @@ ghost use Rattle.qs_memory.specs.Operations.{integer_type};
 use crate::scalar::Scalar;
 
 /// Whether an integer of 32 bits is an `int` or an `unsigned`.
-#[derive(Clone, Copy, PartialEq, Eq, Debug)]
+#[derive(Clone, Copy, Debug)]
 pub enum Signedness {
     /// `int`
     Signed,
@@ -14,7 +14,7 @@ pub enum Signedness {
 }
 
 /// An operation on a value (C11 6.5.3.3).
-#[derive(Clone, Copy, PartialEq, Eq, Debug)]
+#[derive(Clone, Copy, Debug)]
 pub enum UnaryOperation {
     /// `+` on an integer of this type
     Plus(Signedness),
@@ -30,7 +30,7 @@ pub enum UnaryOperation {
 
 /// An operation on two integers of one type that gives one of that type (C11 6.5.5 to 6.5.7, 6.5.10 to
 /// 6.5.12). A shift's type is that of its left operand.
-#[derive(Clone, Copy, PartialEq, Eq, Debug)]
+#[derive(Clone, Copy, Debug)]
 pub enum Arithmetic {
     /// `+`
     Add,
@@ -55,7 +55,7 @@ pub enum Arithmetic {
 }
 
 /// A comparison (C11 6.5.8, 6.5.9).
-#[derive(Clone, Copy, PartialEq, Eq, Debug)]
+#[derive(Clone, Copy, Debug)]
 pub enum Comparison {
     /// `<`
     Less,
@@ -72,7 +72,7 @@ pub enum Comparison {
 }
 
 /// The way in which an integer moves a pointer (C11 6.5.6p8).
-#[derive(Clone, Copy, PartialEq, Eq)]
+#[derive(Clone, Copy)]
 pub enum Direction {
     /// `+`
     Up,
@@ -81,7 +81,7 @@ pub enum Direction {
 }
 
 /// An operation on two values.
-#[derive(Clone, Copy, PartialEq, Eq)]
+#[derive(Clone, Copy)]
 pub enum BinaryOperation {
     /// on two integers of this type, but that the right operand of a shift may have the other type
     Arithmetic(Arithmetic, Signedness),

@@ -18,7 +18,7 @@ use qs_vocabulary::BinaryOperator;
 
 /// The operation, what its operands are converted to before it, the scalar type of its result, and
 /// the order in which it takes its operands.
-#[derive(Clone, Copy, PartialEq, Eq)]
+#[derive(Clone, Copy)]
 pub struct Operated {
     /// the operation
     pub operation: BinaryOperation,

@@ -6,7 +6,7 @@ use thiserror::Error;
 
 /// Why tokens have no reading of height at most 128, with the number of a token; the number of all
 /// tokens stands for their end.
-#[derive(Clone, Copy, Debug, PartialEq, Eq, Error)]
+#[derive(Clone, Copy, Debug, Error)]
 pub enum SyntaxFault {
     /// No memory was found.
     #[error("out of memory")]

@@ -4,7 +4,7 @@ ghost use Rattle.qs_ports.specs.SinkView.{SinkView, Puts, PutsAll};
 use thiserror::Error;
 
 /// The sink failed, and took nothing.
-#[derive(Clone, Copy, Debug, PartialEq, Eq, Error)]
+#[derive(Clone, Copy, Debug, Error)]
 #[error("the sink failed")]
 pub struct SinkFault;
 

@@ -5,7 +5,7 @@ ghost use Rattle.qs_ports.specs.StoreView.{StoreView, Opens, Reads, Creates, Wri
 use thiserror::Error;
 
 /// Why a call on a store didn't do its work.
-#[derive(Clone, Copy, Debug, PartialEq, Eq, Error)]
+#[derive(Clone, Copy, Debug, Error)]
 pub enum StoreFault {
     /// There is no file of this name. It comes from `open` alone.
     #[error("no such file")]

@@ -45,7 +45,7 @@ impl From<NoMemory> for ReadFault {
 }
 
 /// A file wasn't made, or not filled, since the store failed.
-#[derive(Clone, Copy, Debug, PartialEq, Eq, Error)]
+#[derive(Clone, Copy, Debug, Error)]
 #[error("the store failed")]
 pub struct WriteFault;
 

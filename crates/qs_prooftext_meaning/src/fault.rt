@@ -8,7 +8,7 @@ use thiserror::Error;
 
 /// Why a text is no proofs of a unit: the first fault, with the number of the byte where it stands.
 /// A fault of lists and atoms anywhere in the text comes before all others.
-#[derive(Clone, Copy, PartialEq, Eq, Debug, Error)]
+#[derive(Clone, Copy, Debug, Error)]
 pub enum TextFault {
     /// No memory was found.
     #[error("out of memory")]

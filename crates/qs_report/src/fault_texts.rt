@@ -7,7 +7,7 @@ use qs_machine::Cause;
 use qs_types::{LimitKind, Rule};
 
 /// A bound on the stack.
-#[derive(Clone, Copy, PartialEq, Eq)]
+#[derive(Clone, Copy)]
 pub enum Shown {
     /// So many bytes.
     Number(u128),
@@ -18,7 +18,7 @@ pub enum Shown {
 }
 
 /// How much was done.
-#[derive(Clone, Copy, PartialEq, Eq)]
+#[derive(Clone, Copy)]
 pub enum Count {
     /// Functions with an entry in the proof file, and functions whose entry was filled in.
     Checked(usize, usize),
@@ -66,7 +66,7 @@ pub enum ProofText {
 }
 
 /// What is wrong with the text of a proof file.
-#[derive(Clone, Copy, PartialEq, Eq)]
+#[derive(Clone, Copy)]
 pub enum ProofFileText {
     /// A byte begins nothing, or does not fit its symbol.
     BadByte,

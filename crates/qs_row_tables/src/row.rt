@@ -6,7 +6,7 @@ use qs_ports::StoreCall;
 use std::alloc::{AllocError, Global};
 
 /// What a row asks for.
-#[derive(Clone, Copy, PartialEq, Eq, Debug)]
+#[derive(Clone, Copy, Debug)]
 pub enum Act {
     /// A call of the tool.
     Call,
@@ -23,7 +23,7 @@ pub enum Act {
 }
 
 /// Where content is added.
-#[derive(Clone, Copy, PartialEq, Eq, Debug)]
+#[derive(Clone, Copy, Debug)]
 enum Target {
     File,
     Out,

@@ -16,7 +16,7 @@ use qs_isa::{Immediate, Register};
 use qs_tac::{Address, Index, Operand, is_constant};
 
 /// Where an address is: an immediate behind a register.
-#[derive(Clone, Copy, PartialEq, Eq)]
+#[derive(Clone, Copy)]
 pub struct Reach {
     pub register: Register,
     pub immediate: Immediate,

@@ -18,7 +18,7 @@ use std::alloc::AllocFailed;
 use thiserror::Error;
 
 /// A file that the words name.
-#[derive(Clone, Copy, Debug, PartialEq, Eq)]
+#[derive(Clone, Copy, Debug)]
 pub enum FileKind {
     /// The C source.
     Source,
@@ -33,7 +33,7 @@ pub enum FileKind {
 }
 
 /// Where a token of a source stands, or where its tokens end.
-#[derive(Clone, Copy, Debug, PartialEq, Eq)]
+#[derive(Clone, Copy, Debug)]
 pub enum TokenPlace {
     /// A token begins here.
     At(Pos),
@@ -42,7 +42,7 @@ pub enum TokenPlace {
 }
 
 /// What is wrong with a source, or with the length of any file.
-#[derive(Clone, Copy, Debug, PartialEq, Eq, Error)]
+#[derive(Clone, Copy, Debug, Error)]
 pub enum SourceFault {
     /// The file has more bytes than its limit.
     #[error("too long")]
@@ -81,7 +81,7 @@ pub enum ProofFault {
 }
 
 /// What is wrong with the words of the command line.
-#[derive(Clone, Copy, Debug, PartialEq, Eq, Error)]
+#[derive(Clone, Copy, Debug, Error)]
 pub enum WordsFault {
     /// They mean no command.
     #[error("usage: qsc COMMAND FILE OPTIONS")]

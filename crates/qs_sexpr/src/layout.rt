@@ -5,7 +5,7 @@ ghost use Rattle.qs_sexpr.specs.Gaps.{gap_view};
 ghost use Rattle.qs_sexpr.specs.Marks.{line_end};
 
 /// How a list that is open goes on.
-#[derive(Clone, Copy, PartialEq, Eq)]
+#[derive(Clone, Copy)]
 pub enum Layer {
     /// No list is open.
     Top,

@@ -5,7 +5,7 @@ ghost use Rattle.qs_syntax.specs.Numbering.{numbered};
 use qs_base::NoMemory;
 
 /// The number and the place of a node.
-#[derive(Clone, Copy, PartialEq, Eq)]
+#[derive(Clone, Copy)]
 pub struct Node {
     /// The number of the node.
     pub id: u32,

@@ -5,7 +5,7 @@ ghost use Rattle.qs_tac.specs.Operands.{is_constant};
 use qs_memory::{Comparison, Signedness};
 
 /// A value that an instruction takes as it stands.
-#[derive(Clone, Copy, PartialEq, Eq)]
+#[derive(Clone, Copy)]
 pub enum Operand {
     /// the value of the temporary with this number
     Temporary(u32),
@@ -26,7 +26,7 @@ pub enum Operand {
 }
 
 /// How many elements an address stands behind another (C11 6.5.6p8), and which member it is there.
-#[derive(Clone, Copy, PartialEq, Eq)]
+#[derive(Clone, Copy)]
 pub struct Index {
     /// how many
     pub count: Operand,
@@ -41,7 +41,7 @@ pub struct Index {
 /// Where an access begins: a pointer, a member of what it points to (C11 6.5.2.3), and an element
 /// there (C11 6.5.2.1). Where a member or an element is taken, the pointer has to be into a live
 /// object.
-#[derive(Clone, Copy, PartialEq, Eq)]
+#[derive(Clone, Copy)]
 pub struct Address {
     /// the pointer
     pub base: Operand,
@@ -52,7 +52,7 @@ pub struct Address {
 }
 
 /// When a branch is taken.
-#[derive(Clone, Copy, PartialEq, Eq)]
+#[derive(Clone, Copy)]
 pub enum Condition {
     /// the scalar differs from 0
     NotZero(Operand),

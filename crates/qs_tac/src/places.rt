@@ -1,7 +1,7 @@
 // Where the values of a function stand.
 
 /// Where a value stands.
-#[derive(Clone, Copy, PartialEq, Eq, Debug)]
+#[derive(Clone, Copy, Debug)]
 pub enum Place {
     /// in the slot with this number of the function's frame
     Slot(u32),

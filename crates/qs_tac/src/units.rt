@@ -17,7 +17,7 @@ pub struct TacFunction {
 }
 
 /// A block of data: a file-scope variable, or a string literal.
-#[derive(Clone, Copy, PartialEq, Eq)]
+#[derive(Clone, Copy)]
 pub struct TacData {
     /// its bytes
     pub size: u32,

@@ -16,7 +16,7 @@ use qs_memory::{Scalar, is_integer};
 use std::alloc::Global;
 
 /// Where an assertion stands.
-#[derive(Clone, Copy, PartialEq, Eq)]
+#[derive(Clone, Copy)]
 pub enum Standing {
     /// It is a precondition.
     Before,

@@ -12,7 +12,7 @@ use qs_memory::{BinaryOperation, Blank, Scalar, UnaryOperation};
 use qs_types::CType;
 
 /// What happens to a value before it is used (C11 6.3.1, 6.3.2.3).
-#[derive(Clone, Copy, PartialEq, Eq)]
+#[derive(Clone, Copy)]
 pub enum Conversion {
     /// nothing
     Unchanged,
@@ -22,7 +22,7 @@ pub enum Conversion {
 
 /// Whether an operation takes its operands as they are written, or a pointer that stands on the
 /// right first (C11 6.5.6p2).
-#[derive(Clone, Copy, PartialEq, Eq)]
+#[derive(Clone, Copy)]
 pub enum Order {
     /// the left operand is the first
     AsWritten,
@@ -31,7 +31,7 @@ pub enum Order {
 }
 
 /// The object that a name or a text stands for.
-#[derive(Clone, Copy, PartialEq, Eq)]
+#[derive(Clone, Copy)]
 pub enum Object {
     /// a placed local or parameter, by its place among those of the function
     Local(u32),

@@ -1,7 +1,7 @@
 // What a type takes in memory.
 
 /// The size and the alignment of a type in bytes (C11 6.5.3.4, 6.2.8).
-#[derive(Clone, Copy, PartialEq, Eq)]
+#[derive(Clone, Copy)]
 pub struct Extent {
     /// How many bytes an object takes.
     pub size: u32,

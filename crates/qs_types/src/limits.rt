@@ -1,7 +1,7 @@
 // The counts of a source that have limits.
 
 /// A count of a source that has a limit.
-#[derive(Clone, Copy, Debug, PartialEq, Eq)]
+#[derive(Clone, Copy, Debug)]
 pub enum LimitKind {
     /// Nodes.
     Nodes,

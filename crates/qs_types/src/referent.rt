@@ -1,7 +1,7 @@
 // What names stand for (C11 6.2.1, 6.2.3).
 
 /// What a name stands for, apart from its type: a declaration, by the number of its node.
-#[derive(Clone, Copy, PartialEq, Eq)]
+#[derive(Clone, Copy)]
 pub enum Referent {
     /// A variable or parameter of a function.
     Local(u32),

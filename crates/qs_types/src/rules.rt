@@ -3,7 +3,7 @@ ghost use Rattle.std.specs.Prelude.{◌≡◌};
 ghost use Rattle.qs_types.specs.Rules.{rule_number};
 
 /// A rule that a program keeps, in the order of their numbers.
-#[derive(Clone, Copy, PartialEq, Eq, Debug)]
+#[derive(Clone, Copy, Debug)]
 pub enum Rule {
     /// In one scope a name is declared once (C11 6.7p3).
     DeclaredTwice,

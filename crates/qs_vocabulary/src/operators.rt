@@ -9,7 +9,7 @@ ghost use Rattle.qs_vocabulary.specs.Operators.{unary_of, weakest};
 use crate::punctuator::Punctuator;
 
 /// A unary operator (C11 6.5.3).
-#[derive(Clone, Copy, PartialEq, Eq)]
+#[derive(Clone, Copy)]
 pub enum UnaryOperator {
     /// `&`
     Address,
@@ -61,7 +61,7 @@ impl UnaryOperator {
 }
 
 /// An operator that steps by one, and where it stands (C11 6.5.2.4, 6.5.3.1).
-#[derive(Clone, Copy, PartialEq, Eq)]
+#[derive(Clone, Copy)]
 pub enum StepOperator {
     /// `++a`
     IncrementBefore,
@@ -102,7 +102,7 @@ impl StepOperator {
 }
 
 /// An operator between two operands that groups to the left (C11 6.5.5 to 6.5.14).
-#[derive(Clone, Copy, PartialEq, Eq)]
+#[derive(Clone, Copy)]
 pub enum BinaryOperator {
     /// `*`
     Multiply,
@@ -230,7 +230,7 @@ impl BinaryOperator {
 }
 
 /// An assignment operator (C11 6.5.16).
-#[derive(Clone, Copy, PartialEq, Eq)]
+#[derive(Clone, Copy)]
 pub enum AssignmentOperator {
     /// `=`
     Plain,
@@ -302,7 +302,7 @@ impl AssignmentOperator {
 }
 
 /// How a member is reached (C11 6.5.2.3).
-#[derive(Clone, Copy, PartialEq, Eq)]
+#[derive(Clone, Copy)]
 pub enum Access {
     /// `.`, in a struct
     Dot,

@@ -3,7 +3,7 @@ use crate::punctuator::Punctuator;
 use qs_base::Keyword;
 
 /// A token: what it is, and the bytes `start` to before `end` of the text that it stands at.
-#[derive(Clone, Copy, PartialEq, Eq)]
+#[derive(Clone, Copy)]
 pub struct Token {
     /// What it is.
     pub kind: TokenKind,
@@ -14,7 +14,7 @@ pub struct Token {
 }
 
 /// What a token is.
-#[derive(Clone, Copy, PartialEq, Eq, Debug)]
+#[derive(Clone, Copy, Debug)]
 pub enum TokenKind {
     /// A name (C11 6.4.2.1), which is none of the keywords. Its bytes are those of the text.
     Name,

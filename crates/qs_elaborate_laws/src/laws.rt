@@ -1,5 +1,5 @@
-// That core runs as the source does, that it fits, and that its values and words are few. Each law is
-// the contract of an empty function.
+// That core runs as the source does, that it fits, and that its values and words are few. Each law
+// is the contract of an empty function.
 ghost use Rattle.qs_elaborate_bodies.specs.Laws.{ActsExactly, CoreFollows, MainFollows};
 ghost use Rattle.qs_elaborate_laws.specs.FitLaws.{CoreFits, ReadUnitsHaveNames, UnitsHaveCores};
 ghost use Rattle.qs_elaborate_laws.specs.SizeLaws.{ValuesAreFew, WordsAreFew, UnitWordsAreFew};

@@ -23,7 +23,6 @@ ghost use Rattle.qs_findings.specs.PartsOf.{option_type, type_by};
 use crate::assignments::judge_assign;
 use crate::context::Context;
 use crate::entity::Entity;
-use qs_types::Referent;
 use crate::found::Found;
 use crate::judged::{Judged, violates, with_tests};
 use crate::members::judge_member;
@@ -37,7 +36,7 @@ use crate::positions::{
 use crate::types::copied;
 use qs_base::{Name, NoMemory};
 use qs_syntax::{Expr, Shape};
-use qs_types::{CType, Rule};
+use qs_types::{CType, Referent, Rule};
 use qs_vocabulary::{Access, AssignmentOperator, BinaryOperator, Text, UnaryOperator};
 use std::alloc::Global;
 

@@ -8,10 +8,9 @@ ghost use Rattle.qs_findings.specs.Founding.{NotesAddressed, NotesTests, Opens};
 ghost use Rattle.qs_findings.specs.JudgedOf.{test_tree};
 ghost use Rattle.qs_findings.specs.Walk.{filled};
 
-use qs_types::Referent;
 use crate::judged::Test;
 use qs_base::NoMemory;
-use qs_types::{CType, Rule};
+use qs_types::{CType, Referent, Rule};
 use std::alloc::Global;
 
 /// A node, and a rule that it breaks.

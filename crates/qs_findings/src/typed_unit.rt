@@ -15,12 +15,11 @@ ghost use Rattle.qs_findings.specs.TypeSets.{blocks_prop, structs_prop, texts_pr
 
 mod methods;
 
-use qs_types::Referent;
 use crate::noted::{Block, TextBlock};
 use indexmap::IndexSet;
 use qs_base::Name;
 use qs_syntax::Unit;
-use qs_types::{CType, Env};
+use qs_types::{CType, Env, Referent};
 
 /// A unit that keeps the rules and is within the limits, with the type of each expression at the
 /// number of its node and what each name and call stands for, the declarations whose names are

@@ -19,11 +19,11 @@ use crate::places::{
 use indexmap::{IndexMap, IndexSet};
 use qs_base::{FnId, Name, NoMemory, count};
 use qs_calls::Callee;
-use qs_types::{CType, Env, Referent};
 use qs_forms::{Form, size_in};
 use qs_memory::Scalar;
 use qs_syntax::{Base, Expr, TypeName};
 use qs_typed_trees::{Expression, Lvalue};
+use qs_types::{CType, Env, Referent};
 use std::alloc::Global;
 
 /// What is known.

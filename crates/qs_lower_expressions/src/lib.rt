@@ -1,5 +1,5 @@
-//! From expressions of core to linear code: what each becomes, that it does what it did, and how tests
-//! jump to the exits that they are given.
+//! From expressions of core to linear code: what each becomes, that it does what it did, and how
+//! tests jump to the exits that they are given.
 #![tactic(auto)]
 
 mod addresses;

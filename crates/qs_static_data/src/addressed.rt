@@ -12,9 +12,9 @@ ghost use Rattle.qs_static_data.specs.AddressedOf.{initialisers_operands, operan
 ghost use Rattle.qs_forms.specs.Results.{Adds};
 
 use qs_base::NoMemory;
-use qs_types::Referent;
 use qs_known::referent_in;
 use qs_syntax::{Expr, Initialiser, Shape, Start, Stmt, Variable};
+use qs_types::Referent;
 use qs_vocabulary::UnaryOperator;
 
 // ---- expressions

@@ -21,11 +21,11 @@ use crate::cells::{Cell, push_bytes, push_pointer};
 use crate::contents::Target;
 use crate::tables::Tables;
 use qs_base::NoMemory;
-use qs_types::{CType, Referent, is_null_constant, is_pointer};
 use qs_known::{Statics, file_variable_object, referent_in, text_object, text_of};
 use qs_memory::Scalar;
 use qs_syntax::{Expr, Shape};
 use qs_typed_trees::{Object, scalar_of};
+use qs_types::{CType, Referent, is_null_constant, is_pointer};
 use qs_vocabulary::UnaryOperator;
 use std::alloc::Global;
 

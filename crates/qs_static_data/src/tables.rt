@@ -10,10 +10,10 @@ ghost use Rattle.qs_static_data.specs.TablesOf.{defined_name};
 use crate::places::insert;
 use indexmap::{IndexMap, IndexSet};
 use qs_base::{Name, NoMemory};
-use qs_types::{CType, Env, Referent};
 use qs_known::Statics;
 use qs_memory::Scalar;
 use qs_syntax::{Decl, Function, Variable};
+use qs_types::{CType, Env, Referent};
 use std::alloc::Global;
 
 /// What is known of all functions of a unit.

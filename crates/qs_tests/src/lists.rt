@@ -62,4 +62,3 @@ fn a_text_at_its_limits(rt: HostRuntime) -> Result<(), Fail> {
     );
     Ok(())
 }
-

@@ -1,8 +1,8 @@
 // What no clause says: that memory is found for the store and the sink that never fail.
 use qs_base::NoMemory;
 use qs_ports::{
-    CleanSink, CleanStore, FILE_ROOM, ReadFault, Sink, SinkFault, Store,
-    put_all, read_whole, write_whole,
+    CleanSink, CleanStore, FILE_ROOM, ReadFault, Sink, SinkFault, Store, put_all, read_whole,
+    write_whole,
 };
 use std::alloc::Global;
 use std::test::Fail;
@@ -55,4 +55,3 @@ fn clean_forms_take_all(rt: HostRuntime) -> Result<(), Fail> {
     assert_eq!(rt; sink.written(), TEXT);
     Ok(())
 }
-

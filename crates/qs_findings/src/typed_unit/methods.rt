@@ -20,13 +20,12 @@ ghost use Rattle.qs_findings.specs.WalkOf.{walk_tree};
 
 use super::TypedUnit;
 use crate::context::Context;
-use qs_types::Referent;
 use crate::noted::{Block, TextBlock};
 use crate::walk::Walk;
 use indexmap::IndexSet;
 use qs_base::Name;
 use qs_syntax::Unit;
-use qs_types::{CType, Env};
+use qs_types::{CType, Env, Referent};
 
 impl TypedUnit {
     /// A unit that is accepted, with what was found in it and what is known behind it.

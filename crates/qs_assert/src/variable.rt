@@ -14,7 +14,7 @@ pub enum VarKind {
 }
 
 /// The integer type of a variable.
-#[derive(Clone, Copy, Debug)]
+#[derive(Clone, Copy, Debug, PartialEq, Eq)]
 pub enum NumberType {
     /// -2^31 to 2^31 - 1.
     Int,

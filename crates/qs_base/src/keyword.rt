@@ -3,7 +3,7 @@ ghost use Rattle.std.specs.Prelude.{◌≡◌};
 ghost use Rattle.qs_base.specs.Keywords.{keyword_of, keyword_spelling};
 
 /// The keywords (C11 6.4.1), in the standard's order.
-#[derive(Clone, Copy, Debug)]
+#[derive(Clone, Copy, Debug, PartialEq, Eq)]
 pub enum Keyword {
     /// `auto`
     Auto,

@@ -4,7 +4,7 @@ ghost use Rattle.qs_memory.specs.Scalars.{is_integer};
 
 /// A scalar type. `char` and `unsigned char` are one type of 8 bits without a sign, and pointers to
 /// all types are one.
-#[derive(Clone, Copy, Debug)]
+#[derive(Clone, Copy, Debug, PartialEq, Eq)]
 pub enum Scalar {
     /// 8 bits, without a sign
     Char,

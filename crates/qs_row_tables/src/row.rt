@@ -6,7 +6,7 @@ use qs_ports::StoreCall;
 use std::alloc::{AllocError, Global};
 
 /// What a row asks for.
-#[derive(Clone, Copy, Debug)]
+#[derive(Clone, Copy, Debug, PartialEq, Eq)]
 pub enum Act {
     /// A call of the tool.
     Call,

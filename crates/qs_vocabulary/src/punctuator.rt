@@ -3,7 +3,7 @@ ghost use Rattle.std.specs.Prelude.{◌≡◌};
 ghost use Rattle.qs_vocabulary.specs.Punctuators.{punctuator_of, punctuator_spelling};
 
 /// The punctuators (C11 6.4.6): all but `...`, `#`, `##` and the digraphs.
-#[derive(Clone, Copy, Debug)]
+#[derive(Clone, Copy, Debug, PartialEq, Eq)]
 pub enum Punctuator {
     /// `[`
     OpenBracket,

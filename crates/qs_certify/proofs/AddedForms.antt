@@ -16,7 +16,7 @@ use Rattle.qs_core.specs.Fits.{unit_fits}
 use Rattle.qs_core.specs.Trees.{CoreStmtTree, skip, seq, assign, store, copy, fill, call, branch, loop, break, continue, return, CoreStmts, no_stmts, stmt_and, CoreFunctionTree, CoreUnitTree}
 use Rattle.qs_core.specs.FunctionNames.{function_name, name_in}
 use Rattle.qs_core.proofs.FitLaws.{function_at_fits}
-use Rattle.qs_nesting.specs.Nesting.{nesting, nesting_in_all, functions_nesting, unit_nesting}
+use Rattle.qs_core.specs.Nesting.{nesting, nesting_in_all, functions_nesting, unit_nesting}
 use Rattle.qs_sexpr.specs.Bytes.{is_symbol_byte, starts_symbol}
 use Rattle.qs_sexpr.specs.Writing.{Form, is_symbol, IsWritable, AreWritable}
 use Rattle.qs_triples.specs.Filled.{for_call, for_calls, open_definition}

@@ -13,7 +13,7 @@ use Rattle.qs_core.specs.CallGraph.{called_by, no_call, is_member}
 use Rattle.qs_core.specs.Fits.{differ, unit_fits}
 use Rattle.qs_core.specs.Trees.{CoreStmtTree, skip, seq, assign, store, copy, fill, call, branch, loop, break, continue, return, CoreStmts, no_stmts, stmt_and, CoreFunctionTree, CoreUnitTree}
 use Rattle.qs_core.specs.FunctionNames.{function_name}
-use Rattle.qs_nesting.specs.Nesting.{unit_nesting}
+use Rattle.qs_core.specs.Nesting.{unit_nesting}
 use Rattle.qs_triples.specs.Derivations.{EntryTree, ProofsTree, is_entry_of}
 use Rattle.qs_triples.specs.Entries.{has_entry}
 use Rattle.qs_triples.specs.Filled.{for_call, for_calls, open_definition, path_pre}

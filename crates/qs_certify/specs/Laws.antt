@@ -7,7 +7,7 @@ use Rattle.qs_core.specs.CallGraph.{IsCycle, IsWithoutRecursion}
 use Rattle.qs_core.specs.Fits.{unit_fits}
 use Rattle.qs_core.specs.Trees.{CoreUnitTree}
 use Rattle.qs_core.specs.Units.{main_run}
-use Rattle.qs_nesting.specs.Nesting.{unit_nesting}
+use Rattle.qs_core.specs.Nesting.{unit_nesting}
 use Rattle.qs_sexpr.specs.Reading.{depth_limit}
 use Rattle.qs_prooftext_meaning.specs.Reading.{Fault}
 use Rattle.qs_prooftext_meaning.specs.Writable.{IsWritable}

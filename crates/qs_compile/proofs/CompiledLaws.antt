@@ -22,10 +22,10 @@ use Rattle.qs_meaning.specs.Runs.{main_run, source_run}
 use Rattle.qs_elaborate_laws.specs.FitLaws.{HasCore}
 use Rattle.qs_elaborate_bodies.specs.Units.{core_of}
 use Rattle.qs_elaborate_laws.proofs.FitCore.{units_have_cores}
-use Rattle.qs_limits.specs.Caps.{caps, needed, frame_size, EachBelow}
-use Rattle.qs_limits.specs.Measures.{bytes_in_words}
-use Rattle.qs_limits.proofs.FrameCaps.{caps_are_kept}
-use Rattle.qs_limits.proofs.MainReturns.{main_returns}
+use Rattle.qs_elaborate_limits.specs.Caps.{caps, needed, frame_size, EachBelow}
+use Rattle.qs_elaborate_limits.specs.Measures.{bytes_in_words}
+use Rattle.qs_elaborate_limits.proofs.FrameCaps.{caps_are_kept}
+use Rattle.qs_elaborate_limits.proofs.MainReturns.{main_returns}
 use Rattle.qs_tac.specs.Trees.{TacFunctionTree, TacUnitTree}
 use Rattle.qs_tac.specs.Places.{PlacesTree, Accepted, all_slots, no_places}
 use Rattle.qs_lower.specs.WordLaws.{lowered_function}
@@ -38,14 +38,14 @@ use Rattle.qs_machine.specs.Run.{machine, least_stack_pointer}
 use Rattle.qs_emit.specs.Agree.{Agree, Accounts}
 use Rattle.qs_emit.specs.Relation.{cost_at}
 use Rattle.std.proofs.lemmas.List.{length-map}
-use Rattle.qs_findings.specs.TypedOf.{typed_tree}
-use Rattle.qs_findings.specs.declared.typed_unit.TypedUnit.{TypedUnit}
-use Rattle.qs_findings.proofs.TypedLaws.{is_read}
-use Rattle.qs_build.proofs.FitLaws.{function_found}
-use Rattle.qs_build.proofs.SmallUnits.{slots_at}
-use Rattle.qs_build.specs.Agrees.{values_of, HasStack, DoesAsCore}
-use Rattle.qs_build.specs.Built.{IsBuiltFrom}
-use Rattle.qs_build.specs.Units.{linear, own_slots, MainReturns}
+use Rattle.qs_typing_findings.specs.TypedOf.{typed_tree}
+use Rattle.qs_typing_findings.specs.declared.typed_unit.TypedUnit.{TypedUnit}
+use Rattle.qs_typing_findings.proofs.TypedLaws.{is_read}
+use Rattle.qs_compile.proofs.FitLaws.{function_found}
+use Rattle.qs_compile.proofs.SmallUnits.{slots_at}
+use Rattle.qs_compile.specs.AgreesWithCore.{values_of, HasStack, DoesAsCore}
+use Rattle.qs_compile.specs.Built.{IsBuiltFrom}
+use Rattle.qs_compile.specs.Units.{linear, own_slots, MainReturns}
 use Rattle.qs_compile.specs.Compiled.{SourceHasStack, DoesAsSource, IsCompiled, IsImageOfSource, BuiltImagesAreCompiled, UnitsPassNoSize}
 use Rattle.qs_compile.proofs.UnitSizes.{words_total, passes_none}
 

@@ -15,8 +15,8 @@ use Rattle.qs_meaning.specs.Typed.{Function, TypedProgram}
 use Rattle.qs_meaning.specs.Units.{placed_among, variables_among, locals_of, parameters_in, scalars_of, sizes_of, parameters_typed, in_body, function_with, function_typed, file_variables_typed, declaration_typed, declarations_typed, name_with_body, functions_in, start_scope, typed_of}
 use Rattle.qs_elaborate_bodies.specs.Names.{FunctionNames, names_in}
 use Rattle.qs_elaborate_bodies.specs.Units.{functions_core, core_of}
-use Rattle.qs_limits.proofs.CoreUnits.{made, functions_are}
-use Rattle.qs_build.specs.Limits.{bytes_of_names, name_bytes}
+use Rattle.qs_elaborate_limits.proofs.CoreUnits.{made, functions_are}
+use Rattle.qs_compile.specs.Limits.{bytes_of_names, name_bytes}
 use Rattle.qs_compile.specs.Names.{name_bytes_in}
 use Rattle.qs_compile.proofs.SourceNames.{own_names, own_and_others}
 

@@ -12,14 +12,14 @@ use Rattle.qs_core.specs.Trees.{CoreFunctionTree, CoreUnitTree}
 use Rattle.qs_core.specs.Fits.{unit_fits}
 use Rattle.qs_core.specs.Sizes.{values, held_in_all}
 use Rattle.qs_elaborate_bodies.specs.Units.{core_of}
-use Rattle.qs_limits.specs.Measures.{bytes_in_words, data_end, data_size}
-use Rattle.qs_limits.proofs.CoreUnits.{functions_are_few, parameters_are_few, code_is_small, held_values_are_few}
-use Rattle.qs_limits.proofs.CoreBytes.{placed_bytes_are_few, data_bytes_are_few}
-use Rattle.qs_limits.proofs.ValueLimits.{values_are_limited}
+use Rattle.qs_elaborate_limits.specs.Measures.{bytes_in_words, data_end, data_size}
+use Rattle.qs_elaborate_limits.proofs.CoreUnits.{functions_are_few, parameters_are_few, code_is_small, held_values_are_few}
+use Rattle.qs_elaborate_limits.proofs.CoreBytes.{placed_bytes_are_few, data_bytes_are_few}
+use Rattle.qs_elaborate_limits.proofs.ValueLimits.{values_are_limited}
 use Rattle.qs_lower.specs.WordLaws.{IsInReach}
 use Rattle.qs_frames.specs.Layout.{rounded, total}
-use Rattle.qs_build.specs.Small.{most_block_bytes, most_values, IsSmall}
-use Rattle.qs_build.proofs.SmallUnits.{small_units_pass_no_size}
+use Rattle.qs_compile.specs.Small.{most_block_bytes, most_values, IsSmall}
+use Rattle.qs_compile.proofs.SmallUnits.{small_units_pass_no_size}
 use Rattle.qs_compile.specs.Compiled.{UnitsPassNoSize}
 use Rattle.qs_compile.specs.Names.{HasRoomForNames}
 use Rattle.qs_compile.proofs.CoreNames.{core_name_bytes}

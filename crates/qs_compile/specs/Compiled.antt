@@ -11,7 +11,7 @@ use Rattle.qs_meaning.specs.Typed.{TypedProgram}
 use Rattle.qs_meaning.specs.Units.{typed_of}
 use Rattle.qs_meaning.specs.Runs.{main_run, source_run}
 use Rattle.qs_elaborate_bodies.specs.Units.{core_of}
-use Rattle.qs_limits.specs.Caps.{caps, EachBelow}
+use Rattle.qs_elaborate_limits.specs.Caps.{caps, EachBelow}
 use Rattle.qs_image.specs.Image.{Image}
 use Rattle.qs_machine.specs.Arguments.{AreArguments, words_of}
 use Rattle.qs_machine.specs.State.{stack_limit}
@@ -19,12 +19,12 @@ use Rattle.qs_machine.specs.Run.{machine, least_stack_pointer}
 use Rattle.qs_emit.specs.Agree.{Agree, Accounts}
 use Rattle.qs_emit.specs.Emitted.{Emitted}
 use Rattle.qs_emit.specs.Images.{AreCosts}
-use Rattle.qs_build.specs.Agrees.{values_of, DoesAsCore}
-use Rattle.qs_build.specs.Built.{IsBuiltFrom}
-use Rattle.qs_build.specs.Limits.{Passes}
-use Rattle.qs_build.specs.Units.{linear, MainReturns}
-use Rattle.qs_build.specs.declared.fault.BuildFault.{BuildFault}
-use Rattle.qs_build.specs.declared.fault.BuildFault.TheVariants.{NoMemory}
+use Rattle.qs_compile.specs.AgreesWithCore.{values_of, DoesAsCore}
+use Rattle.qs_compile.specs.Built.{IsBuiltFrom}
+use Rattle.qs_compile.specs.Limits.{Passes}
+use Rattle.qs_compile.specs.Units.{linear, MainReturns}
+use Rattle.qs_compile.specs.declared.fault.BuildFault.{BuildFault}
+use Rattle.qs_compile.specs.declared.fault.BuildFault.TheVariants.{NoMemory}
 use Rattle.qs_compile.specs.Names.{HasRoomForNames}
 
 -- ---- agreement

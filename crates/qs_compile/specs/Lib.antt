@@ -1,3 +1,16 @@
+pub mod Follows
+pub mod Units
+pub mod Built
+pub mod Bytes
+pub mod AgreesWithCore
+pub mod Records
+pub mod Code
+pub mod Faults
+pub mod Limits
+pub mod Parts
+pub mod Program
+pub mod Laws
+pub mod Small
 pub mod Agree
 pub mod Names
 pub mod Compiled

@@ -3,11 +3,11 @@ use Rattle.std.specs.Prelude.{ℕ, ◌≤◌, List, length, sum_by}
 use Rattle.qs_syntax.specs.Numbering.{numbered_unit}
 use Rattle.qs_syntax.specs.ReadsUnits.{ReadsUnit}
 use Rattle.qs_syntax.specs.Trees.{UnitTree}
-use Rattle.qs_vocabulary.specs.declared.tokens.Token.{Token}
+use Rattle.qs_syntax_vocabulary.specs.declared.tokens.Token.{Token}
 use Rattle.qs_lexer.specs.Terminals.{terminals}
 use Rattle.qs_lexer.specs.Tokens.{Tokens}
 use Rattle.qs_meaning.specs.Units.{functions_in}
-use Rattle.qs_build.specs.Limits.{most_name_bytes}
+use Rattle.qs_compile.specs.Limits.{most_name_bytes}
 
 -- the bytes that the names of the functions with a body have together
 abbrev pub name_bytes_in : UnitTree → ℕ

@@ -1,13 +1,13 @@
 // The image of a source.
 ghost use Rattle.std.specs.Prelude.{IfOk};
-ghost use Rattle.qs_findings.specs.TypedOf.{typed_tree};
+ghost use Rattle.qs_typing_findings.specs.TypedOf.{typed_tree};
 ghost use Rattle.qs_compile.specs.Compiled.{IsImageOfSource};
 
+use crate::building::build_image;
 use qs_base::NoMemory;
-use qs_build::build_image;
 use qs_elaborate::elaborate;
-use qs_findings::TypedUnit;
 use qs_image::Image;
+use qs_typing_findings::TypedUnit;
 use std::alloc::Global;
 
 /// The image of a source that is typed: of its core, in linear code, each value in a slot of its

@@ -4,6 +4,7 @@ pub mod TypeLaws
 pub mod RangeLaws
 pub mod InitialLaws
 pub mod OutlineLaws
+pub mod JoinedLaws
 mod FitExamples
 mod TermExamples
 mod OutlineExamples

@@ -18,4 +18,5 @@ pub mod Sizes
 pub mod Fits
 pub mod Ranges
 pub mod UnitTrees
+pub mod Nesting
 pub mod Laws

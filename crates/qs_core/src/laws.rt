@@ -1,5 +1,6 @@
 // The laws of core. Each is the contract of an empty function.
 ghost use Rattle.qs_core.specs.Laws.{CoreGrows, CallsAlone};
+ghost use Rattle.qs_core.specs.Nesting.{JoinedNest};
 ghost use Rattle.qs_core.specs.Ranges.{BodiesStayInRange, CallsStayInRange, ExpressionsHaveTypes};
 ghost use Rattle.qs_core.specs.Ranges.{InitialMemoryIsReady, RunsLeaveSound};
 
@@ -38,4 +39,10 @@ pub fn runs_leave_sound()
 /// The memory that main starts from is sound, and its blocks are the unit's data.
 pub fn initial_memory_is_ready()
     ensures { InitialMemoryIsReady }
+{}
+
+/// Statements one list after the other nest as deep as those of one of them.
+#[tactic(auto, using(crate::proofs::JoinedLaws::joined_nest))]
+pub fn joined_nest()
+    ensures { JoinedNest }
 {}

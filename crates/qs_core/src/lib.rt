@@ -23,7 +23,7 @@ pub use expressions::{CoreExpr, Operands};
 pub use function_names::name_of;
 pub use laws::{
     bodies_stay_in_range, calls_alone, calls_stay_in_range, core_grows, expressions_have_types,
-    initial_memory_is_ready, runs_leave_sound,
+    initial_memory_is_ready, joined_nest, runs_leave_sound,
 };
 pub use numbers::{BlockId, Target};
 pub use outline::print_outline;

@@ -26,15 +26,15 @@ use Rattle.qs_lower.proofs.LoweringLaws.{lowering_follows}
 use Rattle.qs_image.specs.Image.{Image, FunctionRecord}
 use Rattle.qs_machine.specs.Arguments.{AreArguments, first_misfit}
 use Rattle.qs_emit.specs.Images.{AreCosts, no_record}
-use Rattle.qs_build.specs.Agrees.{values_of}
-use Rattle.qs_build.specs.Built.{IsBuiltFrom}
-use Rattle.qs_build.specs.Units.{linear, start_of}
+use Rattle.qs_compile.specs.AgreesWithCore.{values_of}
+use Rattle.qs_compile.specs.Built.{IsBuiltFrom}
+use Rattle.qs_compile.specs.Units.{linear, start_of}
 use Rattle.qs_certify.specs.Bound as certify
 use Rattle.qs_certify.proofs.MainLaws.{BoundsMain, main_bounds_runs, entry_bounds_runs}
 use Rattle.qs_compile.specs.Agree.{AgreesFrom, IsInput}
 use Rattle.qs_compile.specs.Compiled.{IsCompiled, IsImageOfSource, SourceHasStack}
 use Rattle.qs_ports.specs.StoreView.{StoreView}
-use Rattle.qs_session.specs.Lines.{record_line, cost_lines}
+use Rattle.qs_driver_session.specs.Lines.{record_line, cost_lines}
 use Rattle.qs_driver.specs.Bounds.{bound_by, bytes_by, costs_in, if_finite, linear_runs, main_runs, seen_runs, IsBounded, IsBoundedByMain, IsImageOf, WeighsWithin}
 use Rattle.qs_report.specs.Lines.{cost_line}
 use Rattle.qs_driver.specs.Misfits.{IsMisfit}

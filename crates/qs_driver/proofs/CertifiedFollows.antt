@@ -9,19 +9,19 @@ use Rattle.qs_certify.specs.declared.fault.CertifyFault.{CertifyFault}
 use Rattle.qs_certify.specs.declared.fault.CertifyFault.TheVariants as faults
 use Rattle.qs_certify.proofs.RefusalLaws.{right_proofs_are_certified, units_without_recursion_are_certified}
 use Rattle.qs_ports.specs.StoreView.{StoreView, Files}
-use Rattle.qs_session.specs.Limits.{source_limit, proof_limit}
-use Rattle.qs_session.specs.Files.{HoldsContent, HoldsWith}
-use Rattle.qs_session.specs.Files as files
-use Rattle.qs_session.specs.Source.{IsTypedUnit}
-use Rattle.qs_session.specs.Promises.{StoreHeld, SaysStoreFailed}
-use Rattle.qs_session.specs.declared.status.ProofFault.{ProofFault}
-use Rattle.qs_session.specs.declared.status.Status.{Status}
-use Rattle.qs_session.specs.declared.status.Status.TheVariants.{NoMemory}
-use Rattle.qs_session.specs.declared.status.FileKind.TheVariants as kinds
-use Rattle.qs_session.proofs.FilesLaws.{held_content, held_long}
-use Rattle.qs_session.proofs.SourceFollows.{not_absent, not_long, one_content, source_own, source_no_unit}
-use Rattle.qs_session.proofs.SourceLaws.{same_trees}
-use Rattle.qs_session.proofs.rooms.Follows.{not_untouched, source_shows, unread_shows}
+use Rattle.qs_driver_session.specs.Limits.{source_limit, proof_limit}
+use Rattle.qs_driver_session.specs.Files.{HoldsContent, HoldsWith}
+use Rattle.qs_driver_session.specs.Files as files
+use Rattle.qs_driver_session.specs.Source.{IsTypedUnit}
+use Rattle.qs_driver_session.specs.Promises.{StoreHeld, SaysStoreFailed}
+use Rattle.qs_driver_session.specs.declared.status.ProofFault.{ProofFault}
+use Rattle.qs_driver_session.specs.declared.status.Status.{Status}
+use Rattle.qs_driver_session.specs.declared.status.Status.TheVariants.{NoMemory}
+use Rattle.qs_driver_session.specs.declared.status.FileKind.TheVariants as kinds
+use Rattle.qs_driver_session.proofs.FilesLaws.{held_content, held_long}
+use Rattle.qs_driver_session.proofs.SourceFollows.{not_absent, not_long, one_content, source_own, source_no_unit}
+use Rattle.qs_driver_session.proofs.SourceLaws.{same_trees}
+use Rattle.qs_driver_session.proofs.rooms.Follows.{not_untouched, source_shows, unread_shows}
 use Rattle.qs_driver.specs.Certified.{CertifyWords, LacksCertified, HoldsRight, HoldsRightProofs, HasWrongProofs, ReadsWrong, WasReadProof, Tells, IsOfCertified, of_source, missing_proof, long_proof, wrong_proof}
 use Rattle.qs_driver.specs.Certified as meant
 

@@ -14,12 +14,12 @@ use Rattle.qs_triples.specs.TreeOf.{proofs_tree}
 use Rattle.qs_certify.specs.Certification.{CannotCertify}
 use Rattle.qs_certify.specs.declared.fault.CertifyFault.{CertifyFault}
 use Rattle.qs_ports.specs.StoreView.{StoreView}
-use Rattle.qs_session.specs.Limits.{proof_limit}
-use Rattle.qs_session.specs.Files.{IsUntouched}
-use Rattle.qs_session.specs.Source.{HasUnit, IsTypedAs, LacksSource}
-use Rattle.qs_session.specs.declared.status.Status.{Status}
-use Rattle.qs_session.specs.declared.status.FileKind.TheVariants as kinds
-use Rattle.qs_session.proofs.LaterLaws.{both_untouched, unread_later, was_read_before}
+use Rattle.qs_driver_session.specs.Limits.{proof_limit}
+use Rattle.qs_driver_session.specs.Files.{IsUntouched}
+use Rattle.qs_driver_session.specs.Source.{HasUnit, IsTypedAs, LacksSource}
+use Rattle.qs_driver_session.specs.declared.status.Status.{Status}
+use Rattle.qs_driver_session.specs.declared.status.FileKind.TheVariants as kinds
+use Rattle.qs_driver_session.proofs.LaterLaws.{both_untouched, unread_later, was_read_before}
 use Rattle.qs_driver.specs.Certified.{CertifyWords, CertifiedSource, IsCertifiedAs, Certifies, WasReadProof, ReadsProof, TellsFault, file_of, IsCertifiedUnit, CertifiesTyped, LacksCertified, ReadsAll}
 use Rattle.qs_driver.specs.Certified as meant
 use Rattle.qs_driver.specs.declared.certified.CertifiedUnit.{CertifiedUnit}

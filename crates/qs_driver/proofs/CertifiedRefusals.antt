@@ -22,22 +22,22 @@ use Rattle.qs_certify.specs.declared.fault.CertifyFault.TheVariants as faults
 use Rattle.qs_certify.proofs.OneLaws.{order_is_told, entry_faults_are_told}
 use Rattle.qs_certify.proofs.RefusalLaws.{text_faults_are_told, cycles_are_told}
 use Rattle.qs_ports.specs.StoreView.{StoreView, Files}
-use Rattle.qs_session.specs.Limits.{source_limit, proof_limit}
-use Rattle.qs_session.specs.Files.{HoldsWith, IsTooLong}
-use Rattle.qs_session.specs.Files as files
-use Rattle.qs_session.specs.Source.{IsPlaceOf, IsTypedUnit}
-use Rattle.qs_session.specs.Told.{EntryPlace, place_of, fault_place, fault_text}
-use Rattle.qs_session.specs.Promises.{StoreHeld}
-use Rattle.qs_session.specs.declared.status.ProofFault.{ProofFault}
-use Rattle.qs_session.specs.declared.status.ProofFault.TheVariants.{Text, Cycle, Order, Entry}
-use Rattle.qs_session.specs.declared.status.Status.{Status}
-use Rattle.qs_session.specs.declared.status.Status.TheVariants.{Done, Source, Proof, Missing, NoMemory}
-use Rattle.qs_session.specs.declared.status.SourceFault.TheVariants.{TooLong}
-use Rattle.qs_session.specs.declared.status.FileKind.TheVariants as kinds
-use Rattle.qs_session.proofs.FilesLaws.{held_content, held_long}
-use Rattle.qs_session.proofs.SourceFollows.{IsNoRefusal, SourceEnds, good, source_ends, source_no_unit, refuses_source, done_is_none, not_absent, not_long, one_content, same_content}
-use Rattle.qs_session.proofs.SourceFollows as source
-use Rattle.qs_session.proofs.SourceLaws.{same_pos}
+use Rattle.qs_driver_session.specs.Limits.{source_limit, proof_limit}
+use Rattle.qs_driver_session.specs.Files.{HoldsWith, IsTooLong}
+use Rattle.qs_driver_session.specs.Files as files
+use Rattle.qs_driver_session.specs.Source.{IsPlaceOf, IsTypedUnit}
+use Rattle.qs_driver_session.specs.Told.{EntryPlace, place_of, fault_place, fault_text}
+use Rattle.qs_driver_session.specs.Promises.{StoreHeld}
+use Rattle.qs_driver_session.specs.declared.status.ProofFault.{ProofFault}
+use Rattle.qs_driver_session.specs.declared.status.ProofFault.TheVariants.{Text, Cycle, Order, Entry}
+use Rattle.qs_driver_session.specs.declared.status.Status.{Status}
+use Rattle.qs_driver_session.specs.declared.status.Status.TheVariants.{Done, Source, Proof, Missing, NoMemory}
+use Rattle.qs_driver_session.specs.declared.status.SourceFault.TheVariants.{TooLong}
+use Rattle.qs_driver_session.specs.declared.status.FileKind.TheVariants as kinds
+use Rattle.qs_driver_session.proofs.FilesLaws.{held_content, held_long}
+use Rattle.qs_driver_session.proofs.SourceFollows.{IsNoRefusal, SourceEnds, good, source_ends, source_no_unit, refuses_source, done_is_none, not_absent, not_long, one_content, same_content}
+use Rattle.qs_driver_session.proofs.SourceFollows as source
+use Rattle.qs_driver_session.proofs.SourceLaws.{same_pos}
 use Rattle.qs_driver.specs.Certified.{CertifyWords, CertifiedSource, LacksCertified, ReadsCertified, WasReadProof, HoldsProof, HoldsBoth, HoldsUnit, OfProof, Tells, IsTextPlace, HasTextFaultAt, LeavesCycle, IsCycleOf, HasFirstFault, LacksDerivation, IsCycleStatus, IsEntryStatus, RefusesCertified}
 use Rattle.qs_driver.specs.Certified as meant
 use Rattle.qs_driver.proofs.CertifiedFollows.{same_cores, tells_none}

@@ -12,20 +12,20 @@ use Rattle.qs_machine.specs.Run.{Outcome, Exited, Trapped, Going, machine, outpu
 use Rattle.qs_machine.specs.declared.answers.Cause.{Cause}
 use Rattle.qs_emit.specs.Agree.{Agree, Begins, IsUndefinedWithin}
 use Rattle.qs_report.specs.Lines.{bound_line}
-use Rattle.qs_session.specs.Devices.{DevicesView, StreamsView, streams_of}
-use Rattle.qs_session.specs.Steps.{on_out, ArePut}
-use Rattle.qs_session.specs.Lines.{cost_lines}
-use Rattle.qs_session.specs.Faults.{shown_of}
-use Rattle.qs_session.specs.Due.{Due}
-use Rattle.qs_session.specs.Files.{CannotRead}
-use Rattle.qs_session.specs.Files as files
-use Rattle.qs_session.specs.Source.{LacksSource}
-use Rattle.qs_session.specs.Source as source
-use Rattle.qs_session.specs.Task.{Task, Answers}
-use Rattle.qs_session.specs.Promises.{Promises, NoneFailed, LacksMemory}
-use Rattle.qs_session.specs.declared.status.FileKind.{FileKind}
-use Rattle.qs_session.specs.declared.status.Status.{Status}
-use Rattle.qs_session.specs.declared.status.Status.TheVariants.{Done, SinkFailed, NoMemory}
+use Rattle.qs_driver_session.specs.Devices.{DevicesView, StreamsView, streams_of}
+use Rattle.qs_driver_session.specs.Steps.{on_out, ArePut}
+use Rattle.qs_driver_session.specs.Lines.{cost_lines}
+use Rattle.qs_driver_session.specs.Faults.{shown_of}
+use Rattle.qs_driver_session.specs.Due.{Due}
+use Rattle.qs_driver_session.specs.Files.{CannotRead}
+use Rattle.qs_driver_session.specs.Files as files
+use Rattle.qs_driver_session.specs.Source.{LacksSource}
+use Rattle.qs_driver_session.specs.Source as source
+use Rattle.qs_driver_session.specs.Task.{Task, Answers}
+use Rattle.qs_driver_session.specs.Promises.{Promises, NoneFailed, LacksMemory}
+use Rattle.qs_driver_session.specs.declared.status.FileKind.{FileKind}
+use Rattle.qs_driver_session.specs.declared.status.Status.{Status}
+use Rattle.qs_driver_session.specs.declared.status.Status.TheVariants.{Done, SinkFailed, NoMemory}
 use Rattle.qs_driver.specs.Bounds.{bound_by, costs_in, seen_runs, IsImageOf}
 use Rattle.qs_driver.specs.Certified.{CertifyWords, CertifiedSource, AreAsBefore, LacksCertified, HoldsRightProofs}
 use Rattle.qs_driver.specs.Certified as certified

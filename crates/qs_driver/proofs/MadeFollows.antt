@@ -18,21 +18,21 @@ use Rattle.qs_certify.specs.Laws.{AreRightProofs}
 use Rattle.qs_certify.proofs.OneLaws.{certified_is_right}
 use Rattle.qs_ports.specs.StoreView.{StoreView}
 use Rattle.qs_image.specs.Image.{Image}
-use Rattle.qs_session.specs.Limits.{source_limit}
-use Rattle.qs_session.specs.Source.{IsTypedAs, IsOfSource, missing_source, long_source, ill_spelled, no_reading, ill_typed}
-use Rattle.qs_session.specs.Promises.{StoreHeld, SaysStoreFailed}
-use Rattle.qs_session.specs.declared.status.Status.{Status}
-use Rattle.qs_session.specs.declared.status.Status.TheVariants.{Done, Source, Proof, Words, Missing, StoreFailed, Image as NotAnImage, Trapped, StepLimit, NoBound, StackTooLarge, SinkFailed, NoMemory}
-use Rattle.qs_session.specs.declared.status.SourceFault.{SourceFault}
-use Rattle.qs_session.specs.declared.status.SourceFault.TheVariants.{TooLong, Lex, Syntax, Typing}
-use Rattle.qs_session.specs.declared.status.WordsFault.{WordsFault}
-use Rattle.qs_session.specs.declared.status.WordsFault.TheVariants.{ArgCount, ArgRange}
-use Rattle.qs_session.specs.declared.status.FileKind.{FileKind}
-use Rattle.qs_session.specs.declared.status.FileKind.TheVariants as kinds
-use Rattle.qs_session.proofs.FilesLaws.{held_content}
-use Rattle.qs_session.proofs.SourceFollows.{one_content}
-use Rattle.qs_session.proofs.SourceLaws.{same_trees}
-use Rattle.qs_session.proofs.rooms.Follows.{not_untouched}
+use Rattle.qs_driver_session.specs.Limits.{source_limit}
+use Rattle.qs_driver_session.specs.Source.{IsTypedAs, IsOfSource, missing_source, long_source, ill_spelled, no_reading, ill_typed}
+use Rattle.qs_driver_session.specs.Promises.{StoreHeld, SaysStoreFailed}
+use Rattle.qs_driver_session.specs.declared.status.Status.{Status}
+use Rattle.qs_driver_session.specs.declared.status.Status.TheVariants.{Done, Source, Proof, Words, Missing, StoreFailed, Image as NotAnImage, Trapped, StepLimit, NoBound, StackTooLarge, SinkFailed, NoMemory}
+use Rattle.qs_driver_session.specs.declared.status.SourceFault.{SourceFault}
+use Rattle.qs_driver_session.specs.declared.status.SourceFault.TheVariants.{TooLong, Lex, Syntax, Typing}
+use Rattle.qs_driver_session.specs.declared.status.WordsFault.{WordsFault}
+use Rattle.qs_driver_session.specs.declared.status.WordsFault.TheVariants.{ArgCount, ArgRange}
+use Rattle.qs_driver_session.specs.declared.status.FileKind.{FileKind}
+use Rattle.qs_driver_session.specs.declared.status.FileKind.TheVariants as kinds
+use Rattle.qs_driver_session.proofs.FilesLaws.{held_content}
+use Rattle.qs_driver_session.proofs.SourceFollows.{one_content}
+use Rattle.qs_driver_session.proofs.SourceLaws.{same_trees}
+use Rattle.qs_driver_session.proofs.rooms.Follows.{not_untouched}
 use Rattle.qs_driver.specs.Bounds.{bound_by, costs_in}
 use Rattle.qs_driver.specs.Certified.{CertifyWords, CertifiedSource, ReadsCertified, WasReadProof, IsRightFile, HoldsRight, HoldsRightProofs, IsOfCertified, of_source, missing_proof, long_proof, wrong_proof}
 use Rattle.qs_driver.specs.Misfits.{CountDiffers, IsMisfit}

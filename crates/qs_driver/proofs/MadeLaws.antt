@@ -1,7 +1,7 @@
 -- How an image and main's bound are made of a source.
 use Rattle.std.proofs.Common.{◌≡◌, ◌∙◌, ℕ, List, Result, Ok, Err, refl, ap, subst}
 use Rattle.qs_syntax.specs.Trees.{UnitTree}
-use Rattle.qs_findings.specs.TypedOf.{typed_tree}
+use Rattle.qs_typing_findings.specs.TypedOf.{typed_tree}
 use Rattle.qs_core.specs.Trees.{CoreUnitTree}
 use Rattle.qs_core.specs.UnitTrees.{unit_tree}
 use Rattle.qs_triples.specs.Derivations.{ProofsTree}
@@ -11,9 +11,9 @@ use Rattle.qs_image.specs.Image.{Image}
 use Rattle.qs_machine.specs.Arguments.{AreArguments}
 use Rattle.qs_compile.specs.Compiled.{IsImageOfSource}
 use Rattle.qs_certify.specs.Bound.{main_bound}
-use Rattle.qs_session.specs.Arguments.{LacksWords}
-use Rattle.qs_session.specs.Arguments as arguments
-use Rattle.qs_session.specs.declared.status.Status.{Status}
+use Rattle.qs_driver_session.specs.Arguments.{LacksWords}
+use Rattle.qs_driver_session.specs.Arguments as arguments
+use Rattle.qs_driver_session.specs.declared.status.Status.{Status}
 use Rattle.qs_driver.specs.Bounds.{costs_in}
 use Rattle.qs_driver.specs.Certified.{LacksCertified, HasCertified}
 use Rattle.qs_driver.specs.Made.{MakeWords, ComesToImage, Makes, MakesCertified}

@@ -13,7 +13,7 @@ use Rattle.qs_core.proofs.FitLaws.{both, unit_parts}
 use Rattle.qs_image.specs.Image.{Image}
 use Rattle.qs_machine.specs.Arguments.{is_unsigned, is_between, fits_parameter, first_misfit}
 use Rattle.qs_machine.specs.Arguments as image_arguments
-use Rattle.qs_build.specs.Built.{IsBuiltFrom}
+use Rattle.qs_compile.specs.Built.{IsBuiltFrom}
 use Rattle.qs_certify.specs.Bound.{IsNumberOf, AreNumbersOf}
 use Rattle.qs_certify.specs.Bound as certify
 use Rattle.qs_driver.specs.Misfits.{IsFirstUnfit, IsMisfit}

@@ -9,11 +9,11 @@ use Rattle.qs_certify.specs.Certification.{IsCertified}
 use Rattle.qs_certify.proofs.OneLaws.{one_certified}
 use Rattle.qs_ports.specs.StoreView.{StoreView, Files}
 use Rattle.qs_image.specs.Image.{Image}
-use Rattle.qs_session.specs.Limits.{source_limit, proof_limit}
-use Rattle.qs_session.specs.Files.{HoldsContent}
-use Rattle.qs_session.proofs.FilesLaws.{held_content}
-use Rattle.qs_session.proofs.SourceFollows.{one_content}
-use Rattle.qs_session.proofs.SourceLaws.{same_trees}
+use Rattle.qs_driver_session.specs.Limits.{source_limit, proof_limit}
+use Rattle.qs_driver_session.specs.Files.{HoldsContent}
+use Rattle.qs_driver_session.proofs.FilesLaws.{held_content}
+use Rattle.qs_driver_session.proofs.SourceFollows.{one_content}
+use Rattle.qs_driver_session.proofs.SourceLaws.{same_trees}
 use Rattle.qs_driver.specs.Bounds.{IsImageOf}
 use Rattle.qs_driver.specs.Certified.{CertifyWords, CertifiedSource, IsCertifiedAs, AreAsBefore, ReadsCertified, HoldsProof}
 use Rattle.qs_driver.proofs.BoundsLaws.{AreAlike, core_is, images_alike}

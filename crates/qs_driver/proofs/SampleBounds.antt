@@ -7,13 +7,13 @@ use Rattle.qs_events.specs.Weights.{Costs}
 use Rattle.qs_types.specs.Contexts.{Context}
 use Rattle.qs_types.specs.UnitRules.{after_declaration}
 use Rattle.qs_meaning.specs.Typed.{Function}
-use Rattle.qs_limits.specs.Caps.{cap, caps_from, EachBelow}
+use Rattle.qs_elaborate_limits.specs.Caps.{cap, caps_from, EachBelow}
 use Rattle.qs_elaborate_bodies.specs.Names.{FunctionNames}
 use Rattle.qs_elaborate_bodies.specs.Units.{functions_core}
 use Rattle.qs_analyse.specs.Paths.{IsChainFrom, total_cost, IsLongestPath}
 use Rattle.qs_machine.specs.State.{stack_limit}
-use Rattle.qs_session.proofs.SampleTrees.{function_name, next, IsValue, the_next, a_call, returning, function_of, main_of, main_body, IsTail, the_main, a_function}
-use Rattle.qs_session.proofs.SampleMeaning.{typed_tail}
+use Rattle.qs_driver_session.proofs.SampleTrees.{function_name, next, IsValue, the_next, a_call, returning, function_of, main_of, main_body, IsTail, the_main, a_function}
+use Rattle.qs_driver_session.proofs.SampleMeaning.{typed_tail}
 use Rattle.qs_driver.proofs.SampleCore.{core_by, calls_the_one_before}
 
 -- ---- costs

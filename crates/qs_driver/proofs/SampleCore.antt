@@ -10,8 +10,8 @@ use Rattle.qs_meaning.specs.Typed.{Function, TypedProgram}
 use Rattle.qs_meaning.specs.Runs.{main_from}
 use Rattle.qs_elaborate_bodies.specs.Names.{FunctionNames, names_in}
 use Rattle.qs_elaborate_bodies.specs.Units.{body_core, end_of_body, functions_core, unit_core, core_of}
-use Rattle.qs_session.proofs.SampleTrees.{IsTail}
-use Rattle.qs_session.proofs.SampleMeaning.{typed_tail, sample_typed, unit_is_typed}
+use Rattle.qs_driver_session.proofs.SampleTrees.{IsTail}
+use Rattle.qs_driver_session.proofs.SampleMeaning.{typed_tail, sample_typed, unit_is_typed}
 
 -- ---- the core
 

@@ -11,11 +11,11 @@ use Rattle.qs_elaborate_bodies.specs.Names.{names_in}
 use Rattle.qs_elaborate_bodies.specs.Units.{core_of}
 use Rattle.qs_elaborate_laws.proofs.FitCore.{units_have_cores}
 use Rattle.qs_syntax.specs.Trees.{UnitTree}
-use Rattle.qs_session.specs.SampleSource.{sample_text}
-use Rattle.qs_session.specs.Source.{IsUnit}
-use Rattle.qs_session.proofs.SampleBytes.{sample_length, sample_bytes}
-use Rattle.qs_session.proofs.SampleTrees.{IsTail}
-use Rattle.qs_session.proofs.SampleGood.{IsTypedSample, sample_is_typed}
+use Rattle.qs_driver_session.specs.SampleSource.{sample_text}
+use Rattle.qs_driver_session.specs.Source.{IsUnit}
+use Rattle.qs_driver_session.proofs.SampleBytes.{sample_length, sample_bytes}
+use Rattle.qs_driver_session.proofs.SampleTrees.{IsTail}
+use Rattle.qs_driver_session.proofs.SampleGood.{IsTypedSample, sample_is_typed}
 use Rattle.qs_driver.specs.SampleLaws.{SamplesAreGood}
 use Rattle.qs_driver.proofs.SampleCore.{core_by, core_is, is_without_recursion}
 

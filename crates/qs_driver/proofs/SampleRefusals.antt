@@ -11,11 +11,11 @@ use Rattle.qs_machine.specs.State.{stack_limit}
 use Rattle.qs_certify.specs.Certification.{CannotCertify}
 use Rattle.qs_certify.specs.declared.fault.CertifyFault.{CertifyFault}
 use Rattle.qs_certify.proofs.RefusalLaws.{units_without_recursion_are_certified}
-use Rattle.qs_session.specs.Source.{IsTypedAs, RefusesText, has_lex_fault, has_syntax_fault, has_type_fault, lacks_memory}
-use Rattle.qs_session.specs.Starting.{IsStackOf}
-use Rattle.qs_session.specs.declared.status.Status.{Status}
-use Rattle.qs_session.specs.declared.status.Status.TheVariants.{NoMemory}
-use Rattle.qs_session.proofs.SourceLaws.{no_unit, syntax_no_unit, lex_or_unit, ill_typed_or_typed, same_trees}
+use Rattle.qs_driver_session.specs.Source.{IsTypedAs, RefusesText, has_lex_fault, has_syntax_fault, has_type_fault, lacks_memory}
+use Rattle.qs_driver_session.specs.Starting.{IsStackOf}
+use Rattle.qs_driver_session.specs.declared.status.Status.{Status}
+use Rattle.qs_driver_session.specs.declared.status.Status.TheVariants.{NoMemory}
+use Rattle.qs_driver_session.proofs.SourceLaws.{no_unit, syntax_no_unit, lex_or_unit, ill_typed_or_typed, same_trees}
 use Rattle.qs_driver.specs.Certified.{TellsFault}
 use Rattle.qs_driver.specs.SampleLaws.{IsGoodSource}
 use Rattle.qs_driver.proofs.CertifiedFollows.{tells_none}

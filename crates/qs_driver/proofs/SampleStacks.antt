@@ -7,7 +7,7 @@ use Rattle.qs_core.specs.Trees.{CoreUnitTree}
 use Rattle.qs_core.specs.Interfaces.{types_of_main, main_types}
 use Rattle.qs_elaborate_bodies.specs.Names.{FunctionNames, names_in}
 use Rattle.qs_elaborate_bodies.specs.Units.{functions_core}
-use Rattle.qs_limits.specs.Caps.{caps}
+use Rattle.qs_elaborate_limits.specs.Caps.{caps}
 use Rattle.qs_analyse.specs.Paths.{IsLongestPath}
 use Rattle.qs_assert.specs.declared.define.Amount.TheVariants.{Finite}
 use Rattle.qs_image.specs.Image.{Image}
@@ -15,11 +15,11 @@ use Rattle.qs_machine.specs.Arguments.{AreArguments}
 use Rattle.qs_certify.specs.Bound.{costs_of}
 use Rattle.qs_certify.specs.Laws.{HasLongestBound}
 use Rattle.qs_certify.proofs.LongestLaws.{bounds_are_longest_paths}
-use Rattle.qs_session.specs.SampleSource.{sample_text}
-use Rattle.qs_session.proofs.SourceLaws.{same_trees}
-use Rattle.qs_session.proofs.SampleTrees.{IsTail}
-use Rattle.qs_session.proofs.SampleMeaning.{typed_tail}
-use Rattle.qs_session.proofs.SampleGood.{IsTypedSample, sample_is_typed}
+use Rattle.qs_driver_session.specs.SampleSource.{sample_text}
+use Rattle.qs_driver_session.proofs.SourceLaws.{same_trees}
+use Rattle.qs_driver_session.proofs.SampleTrees.{IsTail}
+use Rattle.qs_driver_session.proofs.SampleMeaning.{typed_tail}
+use Rattle.qs_driver_session.proofs.SampleGood.{IsTypedSample, sample_is_typed}
 use Rattle.qs_driver.specs.Bounds.{IsImageOf, bound_by, costs_in}
 use Rattle.qs_driver.specs.Certified.{CertifiedSource, IsCertifiedAs}
 use Rattle.qs_driver.specs.SampleLaws.{HasSmallBound, SamplesHaveStacks}

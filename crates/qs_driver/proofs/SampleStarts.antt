@@ -3,12 +3,12 @@ use Rattle.std.proofs.Common.{◌≡◌, ◌∙◌, inl, inr, ℕ, List, [], Non
 use Rattle.qs_syntax.specs.Trees.{DeclTree}
 use Rattle.qs_syntax.specs.Units.{IsRead}
 use Rattle.qs_image.specs.Image.{Image}
-use Rattle.qs_session.specs.SampleSource.{sample_text}
-use Rattle.qs_session.specs.Source.{IsTypedAs, RefusesText}
-use Rattle.qs_session.specs.Starting.{RunWords, IsStackOf, LoadsImage}
-use Rattle.qs_session.specs.declared.status.Status.{Status}
-use Rattle.qs_session.specs.declared.status.Status.TheVariants.{NoMemory}
-use Rattle.qs_session.proofs.StartingLaws.{lacks_none, no_load}
+use Rattle.qs_driver_session.specs.SampleSource.{sample_text}
+use Rattle.qs_driver_session.specs.Source.{IsTypedAs, RefusesText}
+use Rattle.qs_driver_session.specs.Starting.{RunWords, IsStackOf, LoadsImage}
+use Rattle.qs_driver_session.specs.declared.status.Status.{Status}
+use Rattle.qs_driver_session.specs.declared.status.Status.TheVariants.{NoMemory}
+use Rattle.qs_driver_session.proofs.StartingLaws.{lacks_none, no_load}
 use Rattle.qs_driver.specs.Bounds.{IsImageOf}
 use Rattle.qs_driver.specs.Certified.{IsCertifiedUnit, LacksCertificate, cannot_certify, lacks_memory}
 use Rattle.qs_driver.specs.Made.{IsMadeOf, CannotMakeOf}

@@ -1,11 +1,11 @@
 -- What the law on sizes says of samples: there are sources of which it speaks.
 use Rattle.std.proofs.Common.{◌≡◌, ℕ, ◌≤◌, ◌<◌, refl, arith}
-use Rattle.qs_build.specs.Limits.{Passes}
-use Rattle.qs_build.specs.declared.fault.BuildFault.{BuildFault}
-use Rattle.qs_build.specs.declared.fault.BuildFault.TheVariants.{NoMemory}
+use Rattle.qs_compile.specs.Limits.{Passes}
+use Rattle.qs_compile.specs.declared.fault.BuildFault.{BuildFault}
+use Rattle.qs_compile.specs.declared.fault.BuildFault.TheVariants.{NoMemory}
 use Rattle.qs_cli.specs.Numbers.{most_sample_functions}
-use Rattle.qs_session.specs.SampleSource.{sample_text}
-use Rattle.qs_session.proofs.SampleBytes.{sample_bytes}
+use Rattle.qs_driver_session.specs.SampleSource.{sample_text}
+use Rattle.qs_driver_session.proofs.SampleBytes.{sample_bytes}
 use Rattle.qs_driver.specs.SampleLaws.{IsGoodSource}
 use Rattle.qs_driver.proofs.SampleLaws.{samples_are_good}
 use Rattle.qs_driver.proofs.SizesLaws.{sources_pass_no_size}

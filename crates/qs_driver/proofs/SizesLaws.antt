@@ -3,7 +3,7 @@ use Rattle.std.proofs.Common.{◌≡◌, ℕ, ◌≤◌, true, List, length, sym
 use Rattle.std.specs.List.{list_all}
 use Rattle.qs_syntax.specs.Trees.{UnitTree}
 use Rattle.qs_syntax.specs.Units.{IsRead}
-use Rattle.qs_vocabulary.specs.WellFormed.{is_byte}
+use Rattle.qs_syntax_vocabulary.specs.WellFormed.{is_byte}
 use Rattle.qs_lexer.proofs.TerminalLaws.{are_well_formed}
 use Rattle.qs_lexer.specs.Terminals.{terminals}
 use Rattle.qs_types.specs.Limits.{IsWithinLimits}
@@ -11,8 +11,8 @@ use Rattle.qs_types.specs.WellTyped.{WellTyped}
 use Rattle.qs_compile.specs.Names.{HasRoomForNames}
 use Rattle.qs_compile.proofs.CompiledLaws.{units_pass_no_size}
 use Rattle.qs_compile.proofs.SourceNames.{names_are_of_the_text}
-use Rattle.qs_session.specs.Limits.{source_limit}
-use Rattle.qs_session.specs.Source.{IsTypedAs}
+use Rattle.qs_driver_session.specs.Limits.{source_limit}
+use Rattle.qs_driver_session.specs.Source.{IsTypedAs}
 use Rattle.qs_driver.specs.Sizes.{SourcesPassNoSize}
 
 -- a source that is no longer than its limit

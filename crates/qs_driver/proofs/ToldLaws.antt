@@ -20,9 +20,9 @@ use Rattle.qs_report.specs.declared.fault_texts.Spot.{Spot}
 use Rattle.qs_report.specs.declared.fault_texts.Spot.TheVariants as spots
 use Rattle.qs_report.specs.declared.fault_texts.ProofText.{ProofText}
 use Rattle.qs_report.specs.declared.fault_texts.ProofText.TheVariants as wrongs
-use Rattle.qs_session.specs.declared.status.ProofFault.{ProofFault}
-use Rattle.qs_session.specs.declared.status.ProofFault.TheVariants.{Cycle, Entry}
-use Rattle.qs_session.specs.declared.status.Status.TheVariants.{Proof}
+use Rattle.qs_driver_session.specs.declared.status.ProofFault.{ProofFault}
+use Rattle.qs_driver_session.specs.declared.status.ProofFault.TheVariants.{Cycle, Entry}
+use Rattle.qs_driver_session.specs.declared.status.Status.TheVariants.{Proof}
 use Rattle.qs_driver.specs.Certified.{path_is, IsCertificateTold, IsEntryTold, IsMentionPlace, IsToldAs, TellsFault}
 
 -- the path is these steps

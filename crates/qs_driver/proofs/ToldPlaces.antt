@@ -19,7 +19,7 @@ use Rattle.qs_triples.specs.declared.fault.Place.TheVariants as places
 use Rattle.qs_report.specs.declared.fault_texts.Spot.{Spot}
 use Rattle.qs_report.specs.declared.fault_texts.ProofText.{ProofText}
 use Rattle.qs_report.specs.declared.fault_texts.ProofText.TheVariants as wrongs
-use Rattle.qs_session.specs.Told.{at_entry, at_body, at_certificate, place_of, mention_place, inner_path, fault_place, passed_text, certificate_text, fault_text}
+use Rattle.qs_driver_session.specs.Told.{at_entry, at_body, at_certificate, place_of, mention_place, inner_path, fault_place, passed_text, certificate_text, fault_text}
 use Rattle.qs_driver.specs.Certified.{path_in, IsWrongThere, IsMentionPlace, IsToldAs}
 
 -- the line tells this fault of the entry of this function

@@ -16,8 +16,8 @@ use Rattle.qs_triples.specs.Derivations.{EntryTree, entry_of}
 use Rattle.qs_triples.specs.Valuations.{value_at_entry}
 use Rattle.qs_image.specs.Image.{Image, FunctionRecord}
 use Rattle.qs_machine.specs.Arguments.{AreArguments}
-use Rattle.qs_build.specs.Agrees.{values_of}
-use Rattle.qs_build.specs.Units.{linear, start_of}
+use Rattle.qs_compile.specs.AgreesWithCore.{values_of}
+use Rattle.qs_compile.specs.Units.{linear, start_of}
 use Rattle.qs_certify.specs.Bound as certify
 use Rattle.qs_compile.specs.Agree.{Bound, Runs, AgreesFrom, IsInput}
 use Rattle.qs_compile.specs.Compiled.{IsCompiled}

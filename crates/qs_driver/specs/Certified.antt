@@ -4,7 +4,7 @@ use Rattle.std.specs.declared.alloc.Global.{Global}
 use Rattle.qs_base.specs.declared.function.FnId.{FnId}
 use Rattle.qs_base.specs.declared.places.Pos.{Pos}
 use Rattle.qs_syntax.specs.Trees.{UnitTree}
-use Rattle.qs_findings.specs.TypedOf.{typed_tree}
+use Rattle.qs_typing_findings.specs.TypedOf.{typed_tree}
 use Rattle.qs_core.specs.CallGraph.{IsCycle, IsWithoutRecursion, is_member}
 use Rattle.qs_core.specs.Trees.{CoreUnitTree}
 use Rattle.qs_core.specs.UnitTrees.{unit_tree}
@@ -43,17 +43,17 @@ use Rattle.qs_report.specs.declared.fault_texts.Spot.TheVariants as spots
 use Rattle.qs_report.specs.declared.fault_texts.ProofText.{ProofText}
 use Rattle.qs_report.specs.declared.fault_texts.ProofText.TheVariants as wrongs
 use Rattle.qs_ports.specs.StoreView.{StoreView, Files}
-use Rattle.qs_session.specs.Limits.{source_limit, proof_limit}
-use Rattle.qs_session.specs.Names.{name_in}
-use Rattle.qs_session.specs.Files.{IsUntouched, HoldsContent, HoldsWith, IsTooLong, WasReadAs, CannotRead, ReadsFile}
-use Rattle.qs_session.specs.Source.{HoldsText, IsPlaceOf, IsTypedAs, IsTypedUnit, IsOfSource, LacksSource, RefusesSource}
-use Rattle.qs_session.specs.Told.{EntryPlace, place_of, fault_place, owner_of, fault_text}
-use Rattle.qs_session.specs.declared.status.Status.{Status}
-use Rattle.qs_session.specs.declared.status.Status.TheVariants.{Source, Proof, Missing, NoMemory}
-use Rattle.qs_session.specs.declared.status.SourceFault.TheVariants.{TooLong}
-use Rattle.qs_session.specs.declared.status.ProofFault.{ProofFault}
-use Rattle.qs_session.specs.declared.status.ProofFault.TheVariants.{Text, Cycle, Order, Entry}
-use Rattle.qs_session.specs.declared.status.FileKind.TheVariants as kinds
+use Rattle.qs_driver_session.specs.Limits.{source_limit, proof_limit}
+use Rattle.qs_driver_session.specs.Names.{name_in}
+use Rattle.qs_driver_session.specs.Files.{IsUntouched, HoldsContent, HoldsWith, IsTooLong, WasReadAs, CannotRead, ReadsFile}
+use Rattle.qs_driver_session.specs.Source.{HoldsText, IsPlaceOf, IsTypedAs, IsTypedUnit, IsOfSource, LacksSource, RefusesSource}
+use Rattle.qs_driver_session.specs.Told.{EntryPlace, place_of, fault_place, owner_of, fault_text}
+use Rattle.qs_driver_session.specs.declared.status.Status.{Status}
+use Rattle.qs_driver_session.specs.declared.status.Status.TheVariants.{Source, Proof, Missing, NoMemory}
+use Rattle.qs_driver_session.specs.declared.status.SourceFault.TheVariants.{TooLong}
+use Rattle.qs_driver_session.specs.declared.status.ProofFault.{ProofFault}
+use Rattle.qs_driver_session.specs.declared.status.ProofFault.TheVariants.{Text, Cycle, Order, Entry}
+use Rattle.qs_driver_session.specs.declared.status.FileKind.TheVariants as kinds
 use Rattle.qs_driver.specs.declared.certified.CertifyOrder.{CertifyOrder}
 use Rattle.qs_driver.specs.declared.certified.CertifiedUnit.{CertifiedUnit}
 use Rattle.qs_driver.specs.declared.told.Wrong.{Wrong}

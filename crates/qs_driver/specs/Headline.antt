@@ -16,15 +16,15 @@ use Rattle.qs_certify.specs.Bound.{AreArguments}
 use Rattle.qs_compile.specs.Agree.{IsInput}
 use Rattle.qs_compile.specs.Compiled.{IsCompiled}
 use Rattle.qs_report.specs.Lines.{bound_line}
-use Rattle.qs_session.specs.Limits.{source_limit}
-use Rattle.qs_session.specs.Lines.{cost_lines}
-use Rattle.qs_session.specs.Faults.{shown_of}
-use Rattle.qs_session.specs.Files.{HoldsContent}
-use Rattle.qs_session.specs.Source.{IsTypedUnit}
-use Rattle.qs_session.specs.Devices.{DevicesView}
-use Rattle.qs_session.specs.Promises.{Promises, NoneFailed}
-use Rattle.qs_session.specs.declared.status.Status.{Status}
-use Rattle.qs_session.specs.declared.status.Status.TheVariants.{Done, NoMemory}
+use Rattle.qs_driver_session.specs.Limits.{source_limit}
+use Rattle.qs_driver_session.specs.Lines.{cost_lines}
+use Rattle.qs_driver_session.specs.Faults.{shown_of}
+use Rattle.qs_driver_session.specs.Files.{HoldsContent}
+use Rattle.qs_driver_session.specs.Source.{IsTypedUnit}
+use Rattle.qs_driver_session.specs.Devices.{DevicesView}
+use Rattle.qs_driver_session.specs.Promises.{Promises, NoneFailed}
+use Rattle.qs_driver_session.specs.declared.status.Status.{Status}
+use Rattle.qs_driver_session.specs.declared.status.Status.TheVariants.{Done, NoMemory}
 use Rattle.qs_driver.specs.Bounds.{bound_by, bytes_by, costs_in, seen_runs}
 use Rattle.qs_driver.specs.Certified.{CertifyWords, CertifiedSource, AreAsBefore, ReadsCertified, OfCore}
 use Rattle.qs_driver.specs.Tool.{task}

@@ -1,7 +1,7 @@
 -- What is made of a source that is certified: its image, which isn't written, and main's bound at some arguments.
 use Rattle.std.specs.Prelude.{◌≡◌, ◌↔◌, ℕ, ℤ, List, length, Some, Result, Ok, Err}
 use Rattle.qs_memory.specs.declared.scalar.Scalar.{Scalar}
-use Rattle.qs_findings.specs.TypedOf.{typed_tree}
+use Rattle.qs_typing_findings.specs.TypedOf.{typed_tree}
 use Rattle.qs_assert.specs.declared.define.Amount.{Amount}
 use Rattle.qs_core.specs.Interfaces.{main_types}
 use Rattle.qs_core.specs.Trees.{CoreUnitTree}
@@ -13,11 +13,11 @@ use Rattle.qs_triples.specs.TreeOf.{proofs_tree}
 use Rattle.qs_compile.specs.Compiled.{IsImageOfSource}
 use Rattle.qs_image.specs.Image.{Image}
 use Rattle.qs_machine.specs.Arguments as machine
-use Rattle.qs_session.specs.Arguments.{LacksWords}
-use Rattle.qs_session.specs.Files.{IsUntouched}
-use Rattle.qs_session.specs.declared.status.Status.{Status}
-use Rattle.qs_session.specs.declared.status.Status.TheVariants.{Words, NoMemory}
-use Rattle.qs_session.specs.declared.status.WordsFault.TheVariants.{ArgCount, ArgRange}
+use Rattle.qs_driver_session.specs.Arguments.{LacksWords}
+use Rattle.qs_driver_session.specs.Files.{IsUntouched}
+use Rattle.qs_driver_session.specs.declared.status.Status.{Status}
+use Rattle.qs_driver_session.specs.declared.status.Status.TheVariants.{Words, NoMemory}
+use Rattle.qs_driver_session.specs.declared.status.WordsFault.TheVariants.{ArgCount, ArgRange}
 use Rattle.qs_driver.specs.Misfits.{CountDiffers, IsMisfit}
 use Rattle.qs_driver.specs.Certified.{CertifyWords, CertifiedSource, ReadsCertified, LacksCertified, HoldsRight, IsOfCertified, RefusesCertified}
 use Rattle.qs_driver.specs.Bounds.{IsImageOf, bound_by, costs_in}

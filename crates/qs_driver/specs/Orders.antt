@@ -3,7 +3,7 @@ use Rattle.std.specs.Prelude.{ℕ, ℤ, Option, Vec, string_bytes}
 use Rattle.std.specs.declared.alloc.Global.{Global}
 use Rattle.std.specs.declared.string.String.{String}
 use Rattle.qs_cli.specs.Reading.{text_of}
-use Rattle.qs_session.specs.Starting.{RunWords, run_words}
+use Rattle.qs_driver_session.specs.Starting.{RunWords, run_words}
 use Rattle.qs_driver.specs.Certified.{CertifyWords, certify_words}
 use Rattle.qs_driver.specs.commands.Bound.{BoundWords, bound_words}
 use Rattle.qs_driver.specs.commands.Build.{BuildWords, build_words}

@@ -7,9 +7,9 @@ use Rattle.qs_elaborate_laws.specs.FitLaws.{HasCore}
 use Rattle.qs_image.specs.Image.{Image}
 use Rattle.qs_machine.specs.Arguments.{AreArguments}
 use Rattle.qs_machine.specs.State.{stack_limit}
-use Rattle.qs_session.specs.Limits.{source_limit}
-use Rattle.qs_session.specs.Source.{IsTypedUnit}
-use Rattle.qs_session.specs.SampleSource.{sample_text}
+use Rattle.qs_driver_session.specs.Limits.{source_limit}
+use Rattle.qs_driver_session.specs.Source.{IsTypedUnit}
+use Rattle.qs_driver_session.specs.SampleSource.{sample_text}
 use Rattle.qs_driver.specs.Certified.{CertifiedSource, IsCertifiedAs}
 use Rattle.qs_driver.specs.Bounds.{IsImageOf, bound_by, costs_in}
 

@@ -5,10 +5,10 @@ use Rattle.std.specs.declared.string.String.{String}
 use Rattle.qs_cli.specs.Reading.{command_of}
 use Rattle.qs_cli.specs.declared.commands.Command as code
 use Rattle.qs_cli.specs.Commands.{Command, meaning, Build, Check, Bound, Derive, Outline, Run, Exec, Sample}
-use Rattle.qs_session.specs.Task.{Task}
-use Rattle.qs_session.specs.commands.Usage.{none}
-use Rattle.qs_session.specs.Starting.{run_words}
-use Rattle.qs_session.specs.commands.Run.{run}
+use Rattle.qs_driver_session.specs.Task.{Task}
+use Rattle.qs_driver_session.specs.commands.Usage.{none}
+use Rattle.qs_driver_session.specs.Starting.{run_words}
+use Rattle.qs_driver_session.specs.commands.Run.{run}
 use Rattle.qs_driver.specs.Certified.{certify_words}
 use Rattle.qs_driver.specs.commands.Build.{build, build_words}
 use Rattle.qs_driver.specs.commands.Bound.{bound, bound_words}

@@ -6,8 +6,8 @@ ghost use Rattle.qs_core.specs.UnitTrees.{unit_tree};
 ghost use Rattle.qs_certify.specs.Certification.{ToldOfFunctions};
 ghost use Rattle.qs_certify.specs.Given.{text_of, IsShort};
 ghost use Rattle.qs_certify.specs.declared.fault.CertifyFault.TheVariants as faults;
-ghost use Rattle.qs_findings.specs.TypedOf.{typed_tree};
-ghost use Rattle.qs_session.specs.Names.{name_in};
+ghost use Rattle.qs_typing_findings.specs.TypedOf.{typed_tree};
+ghost use Rattle.qs_driver_session.specs.Names.{name_in};
 ghost use Rattle.qs_driver.specs.Certified.{byte_of, file_of, names_of, words_in, AreFunctionsOf};
 ghost use Rattle.qs_driver.specs.Certified.{CertifiesTyped, ReadsAll, ReadsProof, TellsFault};
 ghost use Rattle.qs_driver.specs.Certified.{TellsOfAnyFile};
@@ -16,11 +16,11 @@ use crate::told::entry_told;
 use qs_base::{FnId, Name, NoMemory};
 use qs_certify::{Certified, CertifyFault, certify};
 use qs_core::{CoreUnit, name_of};
+use qs_driver_session::{FileKind, PROOF_LIMIT, ProofFault, Status, place, read_file, read_unit};
 use qs_elaborate::elaborate;
-use qs_findings::TypedUnit;
 use qs_ports::Store;
 use qs_prooftext_meaning::TextFault;
-use qs_session::{FileKind, PROOF_LIMIT, ProofFault, Status, place, read_file, read_unit};
+use qs_typing_findings::TypedUnit;
 use std::alloc::Global;
 
 /// The words that name a source and its proof file.

@@ -12,5 +12,7 @@ mod tool;
 pub use laws::{
     accepted_sources_are_built_right, samples_are_good, samples_have_stacks, sources_pass_no_size,
 };
-pub use qs_session::{Devices, FileKind, ProofFault, SourceFault, Status, TokenPlace, WordsFault};
+pub use qs_driver_session::{
+    Devices, FileKind, ProofFault, SourceFault, Status, TokenPlace, WordsFault,
+};
 pub use tool::run_tool;

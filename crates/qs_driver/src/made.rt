@@ -10,9 +10,9 @@ use qs_assert::Amount;
 use qs_base::NoMemory;
 use qs_certify::bound_of_main;
 use qs_compile::compile_unit;
+use qs_driver_session::{Status, image_words};
 use qs_image::{FunctionRecord, Image};
 use qs_ports::Store;
-use qs_session::{Status, image_words};
 use std::alloc::Global;
 
 /// The image of a source, and what main needs of the stack at the arguments.

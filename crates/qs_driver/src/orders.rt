@@ -1,8 +1,8 @@
 // The words of each command, as the command takes them.
 ghost use Rattle.std.specs.Prelude.{◌≡◌};
 ghost use Rattle.qs_cli.specs.Reading.{text_of};
-ghost use Rattle.qs_session.specs.Names.{name_in};
-ghost use Rattle.qs_session.specs.Starting as run;
+ghost use Rattle.qs_driver_session.specs.Names.{name_in};
+ghost use Rattle.qs_driver_session.specs.Starting as run;
 ghost use Rattle.qs_driver.specs.Certified as certified;
 ghost use Rattle.qs_driver.specs.Orders.{to_bound, to_build, to_check, to_derive, to_exec};
 ghost use Rattle.qs_driver.specs.Orders.{to_outline, to_run, to_sample};
@@ -20,7 +20,7 @@ use crate::commands::derive::DeriveOrder;
 use crate::commands::exec::ExecOrder;
 use crate::commands::outline::OutlineOrder;
 use crate::commands::sample::SampleOrder;
-use qs_session::RunOrder;
+use qs_driver_session::RunOrder;
 
 fn name_in(name: &Option<String>) -> Option<&str>
     ensures { name_in result ≡ text_of name.now }

@@ -2,7 +2,7 @@
 ghost use Rattle.std.specs.Prelude.{◌≡◌, ◌<◌, IfOk, length, ℕ};
 ghost use Rattle.qs_core.specs.Trees.{CoreUnitTree};
 ghost use Rattle.qs_core.specs.UnitTrees.{unit_tree};
-ghost use Rattle.qs_session.specs.Told.{owner_of};
+ghost use Rattle.qs_driver_session.specs.Told.{owner_of};
 ghost use Rattle.qs_driver.specs.Certified.{IsCertificateTold, IsEntryTold, IsMentionPlace};
 ghost use Rattle.qs_driver.specs.Certified.{IsWrong, TellsOfAnyFile, TellsWrong};
 ghost use Rattle.qs_certify.specs.Entries.{IsMet};
@@ -13,10 +13,10 @@ ghost use Rattle.qs_triples.specs.declared.fault.DerivFault.TheVariants as entri
 use qs_assert::Var;
 use qs_base::{FnId, NoMemory};
 use qs_core::{CoreUnit, name_of};
+use qs_driver_session::{ProofFault, Status};
 use qs_entail::CertFault;
 use qs_prooftext_writing::variable_text;
 use qs_report::{Path, ProofText, Spot};
-use qs_session::{ProofFault, Status};
 use qs_triples::{DerivFault, Place};
 use std::alloc::Global;
 

@@ -1,7 +1,7 @@
 // The top call: reads the words, and hands the devices to their command.
 ghost use Rattle.qs_cli.specs.Reading.{command_of};
-ghost use Rattle.qs_session.specs.Promises.{LacksMemoryOn, PromiseOn};
-ghost use Rattle.qs_session.specs.Task.{AnswersOn};
+ghost use Rattle.qs_driver_session.specs.Promises.{LacksMemoryOn, PromiseOn};
+ghost use Rattle.qs_driver_session.specs.Task.{AnswersOn};
 ghost use Rattle.qs_driver.specs.Tool.{task_in, to_do, IsMeant};
 
 use crate::commands::bound::bound;
@@ -15,8 +15,8 @@ use crate::orders::{
     to_bound, to_build, to_check, to_derive, to_exec, to_outline, to_run, to_sample,
 };
 use qs_cli::{CliFault, Command, read_words};
+use qs_driver_session::{Devices, Status, nameless, refuse, run, usage};
 use qs_ports::{Sink, Store};
-use qs_session::{Devices, Status, nameless, refuse, run, usage};
 use std::alloc::Global;
 
 // A row for each command. That words mean it, tells what is known of the count of a sample.

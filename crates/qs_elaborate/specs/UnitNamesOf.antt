@@ -7,7 +7,7 @@ use Rattle.qs_syntax.specs.declared.declarations.Parameter.{Parameter}
 use Rattle.qs_syntax.specs.declared.statements.Stmt.{Stmt}
 use Rattle.qs_syntax.specs.declared.units.Function.{Function}
 use Rattle.qs_syntax.specs.declared.units.Decl.{Decl}
-use Rattle.qs_static_data.specs.TablesOf.{numbers}
+use Rattle.qs_typed_units.specs.TablesOf.{numbers}
 use Rattle.qs_elaborate_bodies.specs.Names as names
 use Rattle.qs_elaborate.specs.NamesOf.{names_of}
 use Rattle.qs_elaborate.specs.UnitNames as unit_names

@@ -4,11 +4,11 @@ ghost use Rattle.qs_core.specs.Fits.{unit_fits};
 ghost use Rattle.qs_core.specs.UnitTrees.{unit_tree};
 ghost use Rattle.qs_syntax.specs.UnitTrees as source;
 ghost use Rattle.qs_typed_trees.specs.TreeOf.{function_tree, program_tree};
-ghost use Rattle.qs_findings.specs.TypedOf.{typed_tree};
+ghost use Rattle.qs_typing_findings.specs.TypedOf.{typed_tree};
 ghost use Rattle.qs_meaning.specs.Units.{typed_of};
 ghost use Rattle.qs_meaning.specs.Runs.{main_from};
 ghost use Rattle.qs_elaborate_laws.specs.FitLaws.{HasCore};
-ghost use Rattle.qs_static_data.specs.TablesOf.{numbers};
+ghost use Rattle.qs_typed_units.specs.TablesOf.{numbers};
 ghost use Rattle.qs_typed.specs.UnitVariables.{unit_variables};
 ghost use Rattle.qs_elaborate_bodies.specs.Units.{core_of};
 ghost use Rattle.qs_elaborate.specs.FunctionOf.{core_with};
@@ -19,10 +19,10 @@ use crate::names::FunctionNames;
 use crate::unit_names::unit_names;
 use qs_base::{FnId, NoMemory};
 use qs_core::CoreUnit;
-use qs_findings::TypedUnit;
 use qs_syntax::Unit;
 use qs_typed::{typed_program, variable_nodes};
 use qs_typed_trees::{TypedFunction, TypedProgram};
+use qs_typing_findings::TypedUnit;
 use std::alloc::Global;
 
 // The place of main among the functions (C11 5.1.2.2).

@@ -1,7 +1,7 @@
 // The names of the functions of a unit and of their variables.
 ghost use Rattle.std.specs.Prelude.{◌≡◌, [], IfOk, map, slice_index_or};
 ghost use Rattle.qs_syntax.specs.TreeOf.{decl_tree};
-ghost use Rattle.qs_static_data.specs.TablesOf.{numbers};
+ghost use Rattle.qs_typed_units.specs.TablesOf.{numbers};
 ghost use Rattle.qs_elaborate.specs.NamesOf.{names_of};
 ghost use Rattle.qs_elaborate.specs.UnitNames.{declaration_named};
 ghost use Rattle.qs_elaborate.specs.UnitNamesOf.{parameter_names, names_with, function_named};

@@ -1,15 +1,15 @@
 -- The nodes that the typed tree of a form counts are at most those of its parts and one.
 use Rattle.std.proofs.Common.{◌≡◌, ◌≤◌, ℕ, ◌+◌, Bool, true, false, not, ◌&&◌, ◌||◌, List, Some, refl, sym, ap, subst, arith, if◌then◌else◌}
-use Rattle.qs_vocabulary.specs.declared.operators.UnaryOperator.{UnaryOperator}
-use Rattle.qs_vocabulary.specs.declared.operators.UnaryOperator.TheVariants as unaries
-use Rattle.qs_vocabulary.specs.declared.operators.StepOperator.{StepOperator}
-use Rattle.qs_vocabulary.specs.declared.operators.StepOperator.TheVariants as steps
-use Rattle.qs_vocabulary.specs.declared.operators.BinaryOperator.{BinaryOperator}
-use Rattle.qs_vocabulary.specs.declared.operators.BinaryOperator.TheVariants as binaries
-use Rattle.qs_vocabulary.specs.declared.operators.AssignmentOperator.{AssignmentOperator}
-use Rattle.qs_vocabulary.specs.declared.operators.AssignmentOperator.TheVariants as assigns
-use Rattle.qs_vocabulary.specs.declared.operators.Access.{Access}
-use Rattle.qs_vocabulary.specs.declared.operators.Access.TheVariants as accesses
+use Rattle.qs_syntax_vocabulary.specs.declared.operators.UnaryOperator.{UnaryOperator}
+use Rattle.qs_syntax_vocabulary.specs.declared.operators.UnaryOperator.TheVariants as unaries
+use Rattle.qs_syntax_vocabulary.specs.declared.operators.StepOperator.{StepOperator}
+use Rattle.qs_syntax_vocabulary.specs.declared.operators.StepOperator.TheVariants as steps
+use Rattle.qs_syntax_vocabulary.specs.declared.operators.BinaryOperator.{BinaryOperator}
+use Rattle.qs_syntax_vocabulary.specs.declared.operators.BinaryOperator.TheVariants as binaries
+use Rattle.qs_syntax_vocabulary.specs.declared.operators.AssignmentOperator.{AssignmentOperator}
+use Rattle.qs_syntax_vocabulary.specs.declared.operators.AssignmentOperator.TheVariants as assigns
+use Rattle.qs_syntax_vocabulary.specs.declared.operators.Access.{Access}
+use Rattle.qs_syntax_vocabulary.specs.declared.operators.Access.TheVariants as accesses
 use Rattle.qs_syntax.specs.Trees.{ExprTree}
 use Rattle.qs_memory.proofs.Options.{some_same, followed}
 use Rattle.qs_calls.specs.declared.callee.Callee.{Callee}

@@ -3,15 +3,15 @@ use Rattle.std.proofs.Common.{◌≡◌, ℕ, true, List, [], ◌∷◌, ◌++�
 use Rattle.std.specs.List.{list_all}
 use Rattle.std.proofs.lemmas.List.Folds.{list_all-append}
 use Rattle.qs_base.specs.Names.{is_name}
-use Rattle.qs_vocabulary.specs.declared.terminal.Terminal.{Terminal}
-use Rattle.qs_vocabulary.specs.declared.terminal.Terminal.TheVariants.{Name}
+use Rattle.qs_syntax_vocabulary.specs.declared.terminal.Terminal.{Terminal}
+use Rattle.qs_syntax_vocabulary.specs.declared.terminal.Terminal.TheVariants.{Name}
 use Rattle.qs_syntax.specs.Trees.{VariableTree, ParameterTree, StartTree, StmtTree, Stmts, DeclTree, UnitTree, DeclarationTree}
 use Rattle.qs_syntax.specs.Nodes.{variable_count, parameter_count, decl_count}
 use Rattle.qs_syntax.specs.Numbering.{Relabelling, numbered, relabel_all, relabel_variable, relabel_parameter, relabel_start, relabel_stmt, relabel_stmts, relabel_decl, relabel_declaration}
 use Rattle.qs_syntax.specs.ReadsDeclarations.{a_declarator, ReadsVariable, an_unset_variable, a_set_variable, ReadsVariables, a_last_variable, a_variable, ReadsDeclaration, a_declaration, ReadsParameter, a_named_parameter, an_unnamed_parameter, ReadsParameters, a_last_parameter, a_parameter, ReadsHead, no_parameter, a_void_head, some_parameters}
 use Rattle.qs_syntax.specs.ReadsStatements.{ReadsStart, a_start_declaration, a_start_expression, no_start_at_all, ReadsStatement, a_block, an_empty, an_expression, an_if, an_if_with_else, a_while, a_do, a_for, a_break, a_continue, a_return, ReadsItem, a_statement, a_declared, ReadsItems, no_item, an_item}
 use Rattle.qs_syntax.specs.ReadsUnits.{ReadsExternal, a_struct_with_members, a_forward, a_header, a_definition, some_variables, ReadsUnit, a_last_external, an_external}
-use Rattle.qs_vocabulary.specs.WellFormed.{is_well_formed}
+use Rattle.qs_syntax_vocabulary.specs.WellFormed.{is_well_formed}
 use Rattle.qs_core.proofs.FitLaws.{both}
 use Rattle.qs_elaborate_bodies.specs.Names.{Declared, declared_variable, start_declares, statement_declares, statements_declare}
 use Rattle.qs_elaborate_laws.specs.FitLaws.{has_name, parameter_has_name, declaration_has_names, has_names, ReadUnitsHaveNames}

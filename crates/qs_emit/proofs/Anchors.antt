@@ -27,8 +27,8 @@ use Rattle.qs_tac.specs.Fits.{operand_fits, offset_fits, index_fits, address_fit
 use Rattle.qs_tac.specs.Values.{Activation, operand, member_at, indexed, pointer}
 use Rattle.qs_tac.specs.Steps.{Waiting}
 use Rattle.qs_tac.specs.Operands.{is_constant}
-use Rattle.qs_select.specs.Pieces.{lui, addi, add, is_small, is_near, low_part, high_part, product}
-use Rattle.qs_select.specs.Operands.{Context, local_offset, operand_code, operand_register, Anchor, constant_count, index_displacement, behind_frame, at_address, behind_pointer, based, add_elements, add_index, anchor_of, address_into, is_block, has_constant_index, is_word_address, displacement}
+use Rattle.qs_emit_selection.specs.Pieces.{lui, addi, add, is_small, is_near, low_part, high_part, product}
+use Rattle.qs_emit_selection.specs.Operands.{Context, local_offset, operand_code, operand_register, Anchor, constant_count, index_displacement, behind_frame, at_address, behind_pointer, based, add_elements, add_index, anchor_of, address_into, is_block, has_constant_index, is_word_address, displacement}
 use Rattle.qs_emit.specs.Machine.{Watched}
 use Rattle.qs_emit.specs.Lies.{Points, StandsForPointer, StandsFor, SameOwn}
 use Rattle.qs_emit.specs.Surroundings.{Lay, ground}

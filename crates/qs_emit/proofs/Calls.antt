@@ -21,10 +21,10 @@ use Rattle.qs_tac.specs.Places.{place_of}
 use Rattle.qs_tac.specs.Fits.{operand_fits}
 use Rattle.qs_tac.specs.Values.{Activation, operands}
 use Rattle.qs_tac.specs.Steps.{Waiting, waits}
-use Rattle.qs_select.specs.Pieces.{addi}
-use Rattle.qs_select.specs.Operands.{Context}
-use Rattle.qs_select.specs.Emission as emission
-use Rattle.qs_select.specs.Emission.{first_label, take_result}
+use Rattle.qs_emit_selection.specs.Pieces.{addi}
+use Rattle.qs_emit_selection.specs.Operands.{Context}
+use Rattle.qs_emit_selection.specs.Emission as emission
+use Rattle.qs_emit_selection.specs.Emission.{first_label, take_result}
 use Rattle.qs_emit.specs.Machine.{Watched, base, instruction_at}
 use Rattle.qs_emit.specs.Lies.{AreBytes, StandsFor, SameOwn}
 use Rattle.qs_emit.specs.Surroundings.{HasBlocks, Lay, ground}

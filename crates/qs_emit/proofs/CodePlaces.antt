@@ -15,10 +15,10 @@ use Rattle.qs_tac.specs.declared.places.Place.{Place}
 use Rattle.qs_tac.specs.declared.places.Place.TheVariants.{Slot}
 use Rattle.qs_tac.specs.Fits.{instruction_fits, function_fits, parameter_fits}
 use Rattle.qs_frames.specs.Layout.{slot_count, slots_among}
-use Rattle.qs_select.specs.Operands.{Context}
-use Rattle.qs_select.specs.Emission.{Labels, enter, instruction_items, body_items, function_items, first_label, labels_of, functions_items, start_items}
-use Rattle.qs_select.specs.Data.{data_address}
-use Rattle.qs_select.proofs.Sizes.{words_are_kept}
+use Rattle.qs_emit_selection.specs.Operands.{Context}
+use Rattle.qs_emit_selection.specs.Emission.{Labels, enter, instruction_items, body_items, function_items, first_label, labels_of, functions_items, start_items}
+use Rattle.qs_emit_selection.specs.Data.{data_address}
+use Rattle.qs_emit_selection.proofs.Sizes.{words_are_kept}
 use Rattle.qs_emit.specs.Machine.{instruction_at}
 use Rattle.qs_emit.specs.Relation.{no_function, function_at, context, Setup, entry, place, HasPlace}
 use Rattle.qs_emit.proofs.Steps.{HasAt, Fits}

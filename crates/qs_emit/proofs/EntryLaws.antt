@@ -18,10 +18,10 @@ use Rattle.qs_tac.specs.Values.{Activation}
 use Rattle.qs_tac.specs.Steps.{Waiting}
 use Rattle.qs_frames.specs.Layout.{total, used_registers, register_at, kept}
 use Rattle.qs_frames.proofs.FrameLaws.{is_cost}
-use Rattle.qs_select.specs.Pieces as pieces
-use Rattle.qs_select.specs.Pieces.{move_stack}
-use Rattle.qs_select.specs.Operands.{Context}
-use Rattle.qs_select.specs.Emission.{enter, save, take_parameters}
+use Rattle.qs_emit_selection.specs.Pieces as pieces
+use Rattle.qs_emit_selection.specs.Pieces.{move_stack}
+use Rattle.qs_emit_selection.specs.Operands.{Context}
+use Rattle.qs_emit_selection.specs.Emission.{enter, save, take_parameters}
 use Rattle.qs_emit.specs.Machine.{Watched, base, instruction_at}
 use Rattle.qs_emit.specs.Lies.{AreBytes, number_at, StandsFor, IsInReach, IsOwn, SameOwn}
 use Rattle.qs_emit.specs.Surroundings.{HasBlocks, Lay, ground}

@@ -19,9 +19,9 @@ use Rattle.qs_tac.specs.Places.{place_of}
 use Rattle.qs_tac.specs.Fits.{address_fits}
 use Rattle.qs_tac.specs.Values.{Activation, pointer}
 use Rattle.qs_tac.specs.Steps.{Waiting}
-use Rattle.qs_select.specs.Pieces as pieces
-use Rattle.qs_select.specs.Pieces.{load_kind, store_kind}
-use Rattle.qs_select.specs.Operands.{Context, operand_code, operand_register, result_register, result_code, anchor_of}
+use Rattle.qs_emit_selection.specs.Pieces as pieces
+use Rattle.qs_emit_selection.specs.Pieces.{load_kind, store_kind}
+use Rattle.qs_emit_selection.specs.Operands.{Context, operand_code, operand_register, result_register, result_code, anchor_of}
 use Rattle.qs_emit.specs.Machine.{Watched}
 use Rattle.qs_emit.specs.Lies.{number_at, AreBytes, Points, StandsForPointer, HoldAll, IsOwn, SameOwn}
 use Rattle.qs_emit.specs.Surroundings.{Lay, ground}

@@ -19,7 +19,7 @@ use Rattle.qs_tac.specs.Steps.{Waiting}
 use Rattle.qs_isa.specs.declared.instruction.StoreKind.TheVariants.{Sw}
 use Rattle.qs_frames.specs.Layout.{total, slot_count, is_among, used_among, saved_registers, used_registers, kept, register_at}
 use Rattle.qs_frames.proofs.FrameLaws.{is_cost}
-use Rattle.qs_select.specs.Operands.{Context, frame_of, slot_offset}
+use Rattle.qs_emit_selection.specs.Operands.{Context, frame_of, slot_offset}
 use Rattle.qs_emit.specs.Machine.{Room}
 use Rattle.qs_emit.specs.Lies.{number_at, StandsFor, Owner, cell_of, Lies, IsInReach, IsOwn, SameOwn}
 use Rattle.qs_emit.specs.Lies.{frame as of_frame}

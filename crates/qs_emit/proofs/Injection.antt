@@ -14,7 +14,7 @@ use Rattle.qs_isa.specs.declared.instruction.StoreKind.{StoreKind}
 use Rattle.qs_isa.specs.declared.instruction.StoreKind.TheVariants.{Sb, Sh, Sw}
 use Rattle.qs_machine.specs.State.{with_value, store_1, store_4}
 use Rattle.qs_machine.specs.Step.{stored, store_width}
-use Rattle.qs_select.specs.Pieces.{store_kind}
+use Rattle.qs_emit_selection.specs.Pieces.{store_kind}
 use Rattle.qs_emit.specs.Lies.{number_at, StandsForPointer, StandsFor, IsPart, Holds, HoldAll, Owner, Lies}
 
 -- ---- later memories

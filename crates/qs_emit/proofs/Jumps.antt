@@ -33,9 +33,9 @@ use Rattle.qs_tac.specs.Holders.{File}
 use Rattle.qs_tac.specs.Fits.{condition_fits, operand_fits}
 use Rattle.qs_tac.specs.Values.{Activation, operand, holds}
 use Rattle.qs_tac.specs.Steps.{Waiting, going_to}
-use Rattle.qs_select.specs.Operands.{Context, operand_code, operand_register}
-use Rattle.qs_select.specs.Operations.{both}
-use Rattle.qs_select.specs.Emission.{first_label, compare_branch, branch_items}
+use Rattle.qs_emit_selection.specs.Operands.{Context, operand_code, operand_register}
+use Rattle.qs_emit_selection.specs.Operations.{both}
+use Rattle.qs_emit_selection.specs.Emission.{first_label, compare_branch, branch_items}
 use Rattle.qs_emit.specs.Machine.{Watched, instruction_at}
 use Rattle.qs_emit.specs.Lies.{StandsFor, SameOwn}
 use Rattle.qs_emit.specs.Surroundings.{Lay, ground}

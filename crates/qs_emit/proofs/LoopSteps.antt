@@ -11,7 +11,7 @@ use Rattle.qs_machine.specs.State.{State, register, with_value}
 use Rattle.qs_machine.specs.Step as machine
 use Rattle.qs_machine.specs.Step.{Next, Traps, act, is_taken, go_to, write_and_go}
 use Rattle.qs_machine.specs.declared.answers.Cause.TheVariants.{JumpMisaligned}
-use Rattle.qs_select.specs.Pieces.{bne}
+use Rattle.qs_emit_selection.specs.Pieces.{bne}
 use Rattle.qs_emit.specs.Machine.{Watched, instruction_at, keeps_to}
 use Rattle.qs_emit.specs.Lies.{SameOwn}
 use Rattle.qs_emit.specs.Relation.{Setup}

@@ -10,7 +10,7 @@ use Rattle.qs_isa.specs.declared.instruction.StoreKind.TheVariants.{Sw, Sb}
 use Rattle.qs_isa.specs.declared.instruction.OpImmKind.TheVariants.{Addi}
 use Rattle.qs_machine.specs.State.{load_4, store_1}
 use Rattle.qs_machine.specs.Step.{load_width, store_width, loaded, stored}
-use Rattle.qs_select.specs.Pieces as pieces
+use Rattle.qs_emit_selection.specs.Pieces as pieces
 use Rattle.qs_emit.specs.Machine.{Watched}
 use Rattle.qs_emit.specs.Lies.{AreBytes, IsOwn, SameOwn}
 use Rattle.qs_emit.specs.Relation.{Setup}

@@ -12,9 +12,9 @@ use Rattle.qs_machine.specs.Step.{Next, Traps, act, write}
 use Rattle.qs_machine.specs.declared.answers.Cause.TheVariants.{Overflow}
 use Rattle.qs_tac.specs.Holders.{is_saved_register}
 use Rattle.qs_frames.specs.Layout.{register_at}
-use Rattle.qs_select.specs.Pieces as pieces
-use Rattle.qs_select.specs.Pieces.{addi, add, is_small, constant, move_stack}
-use Rattle.qs_select.specs.Emission.{save, restore}
+use Rattle.qs_emit_selection.specs.Pieces as pieces
+use Rattle.qs_emit_selection.specs.Pieces.{addi, add, is_small, constant, move_stack}
+use Rattle.qs_emit_selection.specs.Emission.{save, restore}
 use Rattle.qs_emit.specs.Machine.{Watched, base, instruction_at, keeps_to, is_set}
 use Rattle.qs_emit.specs.Lies.{number_at, IsOwn, SameOwn}
 use Rattle.qs_emit.specs.Relation.{Setup, IsAmong, saved_in}

@@ -12,7 +12,7 @@ use Rattle.qs_tac.specs.Holders.{File, is_saved_register}
 use Rattle.qs_tac.specs.Steps.{Waiting}
 use Rattle.qs_frames.specs.Layout.{rounded, offset}
 use Rattle.qs_frames.proofs.FrameLaws.{is_rounded, offset_inside, offset_aligned}
-use Rattle.qs_select.specs.Operands.{Context, frame_of, local_offset}
+use Rattle.qs_emit_selection.specs.Operands.{Context, frame_of, local_offset}
 use Rattle.qs_emit.specs.Machine.{Room, base}
 use Rattle.qs_emit.specs.Lies.{Owner, cell_of, Holds, IsInReach}
 use Rattle.qs_emit.specs.Lies.{frame as of_frame}

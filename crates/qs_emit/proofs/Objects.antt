@@ -19,9 +19,9 @@ use Rattle.qs_isa.specs.declared.instruction.StoreKind.TheVariants.{Sw, Sb}
 use Rattle.qs_isa.specs.declared.instruction.OpKind.TheVariants.{Add}
 use Rattle.qs_machine.specs.State.{register}
 use Rattle.qs_machine.specs.Step.{stored}
-use Rattle.qs_select.specs.Pieces as pieces
-use Rattle.qs_select.specs.Pieces.{constant, loop_end, copy_loop, fill_loop, zero_bytes}
-use Rattle.qs_select.specs.Emission.{unless_none, fill_code}
+use Rattle.qs_emit_selection.specs.Pieces as pieces
+use Rattle.qs_emit_selection.specs.Pieces.{constant, loop_end, copy_loop, fill_loop, zero_bytes}
+use Rattle.qs_emit_selection.specs.Emission.{unless_none, fill_code}
 use Rattle.qs_emit.specs.Machine.{Watched}
 use Rattle.qs_emit.specs.Lies.{Holds, HoldAll, Lies, IsOwn, SameOwn}
 use Rattle.qs_emit.specs.Surroundings.{Lay}

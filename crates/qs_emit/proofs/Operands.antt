@@ -29,9 +29,9 @@ use Rattle.qs_tac.specs.Steps.{Waiting}
 use Rattle.std.specs.List.{slice_get}
 use Rattle.qs_frames.specs.Layout.{offset, kept}
 use Rattle.qs_frames.proofs.FrameLaws.{offset_inside}
-use Rattle.qs_select.specs.Pieces.{constant}
-use Rattle.qs_select.specs.Operands.{Context, frame_of, slot_offset, local_offset, place_into, byte_into, into as operand_into, register_of, unless_there, operand_code, operand_register, result_register, put_place, result_code}
-use Rattle.qs_select.specs.Data.{data_address}
+use Rattle.qs_emit_selection.specs.Pieces.{constant}
+use Rattle.qs_emit_selection.specs.Operands.{Context, frame_of, slot_offset, local_offset, place_into, byte_into, into as operand_into, register_of, unless_there, operand_code, operand_register, result_register, put_place, result_code}
+use Rattle.qs_emit_selection.specs.Data.{data_address}
 use Rattle.qs_emit.specs.Machine.{Watched}
 use Rattle.qs_emit.specs.Lies.{number_at, StandsFor, SameOwn}
 use Rattle.qs_emit.specs.Surroundings.{Lay, ground}

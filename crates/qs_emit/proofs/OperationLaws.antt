@@ -30,10 +30,10 @@ use Rattle.qs_tac.specs.Holders.{File}
 use Rattle.qs_tac.specs.Fits.{operand_fits}
 use Rattle.qs_tac.specs.Values.{Activation, operand}
 use Rattle.qs_tac.specs.Steps.{Waiting}
-use Rattle.qs_select.specs.Pieces.{constant, shift_among, shift_of, product_by, product}
-use Rattle.qs_select.specs.Pieces as pieces
-use Rattle.qs_select.specs.Operands.{Context, operand_code, operand_register}
-use Rattle.qs_select.specs.Operations.{constant_of, negated, with_constant, or_code, kind_of, both, on_both, arithmetic, less_than, less_than_constant, less, turned, apart, compare, unary_instruction}
+use Rattle.qs_emit_selection.specs.Pieces.{constant, shift_among, shift_of, product_by, product}
+use Rattle.qs_emit_selection.specs.Pieces as pieces
+use Rattle.qs_emit_selection.specs.Operands.{Context, operand_code, operand_register}
+use Rattle.qs_emit_selection.specs.Operations.{constant_of, negated, with_constant, or_code, kind_of, both, on_both, arithmetic, less_than, less_than_constant, less, turned, apart, compare, unary_instruction}
 use Rattle.qs_emit.specs.Machine.{Watched}
 use Rattle.qs_emit.specs.Lies.{StandsFor, SameOwn}
 use Rattle.qs_emit.specs.Surroundings.{Lay}

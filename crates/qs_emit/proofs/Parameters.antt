@@ -31,11 +31,11 @@ use Rattle.qs_tac.specs.Places.{place_of}
 use Rattle.qs_tac.specs.Fits.{operand_fits, parameter_fits}
 use Rattle.qs_tac.specs.Values.{Activation, operand, operands}
 use Rattle.qs_tac.specs.Steps.{Waiting}
-use Rattle.qs_select.specs.Pieces.{store_kind, store_to}
-use Rattle.qs_select.specs.Operands.{Context, local_offset}
-use Rattle.qs_select.specs.Operands.{into as operand_into}
-use Rattle.qs_select.specs.Emission as emission
-use Rattle.qs_select.specs.Emission.{take_parameters}
+use Rattle.qs_emit_selection.specs.Pieces.{store_kind, store_to}
+use Rattle.qs_emit_selection.specs.Operands.{Context, local_offset}
+use Rattle.qs_emit_selection.specs.Operands.{into as operand_into}
+use Rattle.qs_emit_selection.specs.Emission as emission
+use Rattle.qs_emit_selection.specs.Emission.{take_parameters}
 use Rattle.qs_emit.specs.Machine.{Watched}
 use Rattle.qs_emit.specs.Lies.{StandsFor, IsInReach, SameOwn}
 use Rattle.qs_emit.specs.Surroundings.{Lay}

@@ -42,10 +42,10 @@ use Rattle.qs_tac.specs.Places.{place_of}
 use Rattle.qs_tac.specs.Fits.{operand_fits, address_fits, operation_fits}
 use Rattle.qs_tac.specs.Values.{Activation, operand, pointer}
 use Rattle.qs_tac.specs.Steps.{Waiting}
-use Rattle.qs_select.specs.Pieces as pieces
-use Rattle.qs_select.specs.Pieces.{is_small, constant, product}
-use Rattle.qs_select.specs.Operands.{Context, slot_offset, operand_code, operand_register, move_to, result_register, result_code, address_into}
-use Rattle.qs_select.specs.Operations.{constant_of, kind_of, both, directed, step, move_by, move_by_elements, moved, elements_between, binary, unary_instruction, conversion}
+use Rattle.qs_emit_selection.specs.Pieces as pieces
+use Rattle.qs_emit_selection.specs.Pieces.{is_small, constant, product}
+use Rattle.qs_emit_selection.specs.Operands.{Context, slot_offset, operand_code, operand_register, move_to, result_register, result_code, address_into}
+use Rattle.qs_emit_selection.specs.Operations.{constant_of, kind_of, both, directed, step, move_by, move_by_elements, moved, elements_between, binary, unary_instruction, conversion}
 use Rattle.qs_emit.specs.Machine.{Watched}
 use Rattle.qs_emit.specs.Lies.{StandsFor, SameOwn}
 use Rattle.qs_emit.specs.Surroundings.{Lay, ground}

@@ -20,10 +20,10 @@ use Rattle.qs_tac.specs.Values.{Activation}
 use Rattle.qs_tac.specs.Steps.{Waiting}
 use Rattle.qs_frames.specs.Layout.{total, used_registers, register_at, kept}
 use Rattle.qs_frames.proofs.FrameLaws.{is_cost}
-use Rattle.qs_select.specs.Pieces as pieces
-use Rattle.qs_select.specs.Pieces.{jalr, move_stack}
-use Rattle.qs_select.specs.Operands.{Context}
-use Rattle.qs_select.specs.Emission.{restore, leave}
+use Rattle.qs_emit_selection.specs.Pieces as pieces
+use Rattle.qs_emit_selection.specs.Pieces.{jalr, move_stack}
+use Rattle.qs_emit_selection.specs.Operands.{Context}
+use Rattle.qs_emit_selection.specs.Emission.{restore, leave}
 use Rattle.qs_emit.specs.Machine.{Watched, instruction_at}
 use Rattle.qs_emit.specs.Lies.{number_at, StandsFor, Holds, IsOwn, SameOwn}
 use Rattle.qs_emit.specs.Surroundings.{HasBlocks, Lay, ground}

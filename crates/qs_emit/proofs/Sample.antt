@@ -25,9 +25,9 @@ use Rattle.qs_tac.specs.declared.operands.Address.{Address}
 use Rattle.qs_tac.specs.declared.places.Place.TheVariants.{Slot}
 use Rattle.qs_tac.specs.Places.{PlacesTree, Accepted, no_places}
 use Rattle.qs_frames.specs.Layout.{rounded, frame_cost}
-use Rattle.qs_select.specs.Pieces.{is_small, low_part, high_part, is_near}
-use Rattle.qs_select.specs.Laws.{HasFewArguments}
-use Rattle.qs_select.specs.Units.{selected}
+use Rattle.qs_emit_selection.specs.Pieces.{is_small, low_part, high_part, is_near}
+use Rattle.qs_emit_selection.specs.Laws.{HasFewArguments}
+use Rattle.qs_emit_selection.specs.Units.{selected}
 use Rattle.qs_emit.specs.Relation.{cost_at, function_at, IsEmittable}
 use Rattle.qs_emit.specs.Images.{IsFirstMemory, record_at, AreCosts, function_address, IsImageOf, IsWithinLimits}
 use Rattle.qs_emit.specs.Emitted.{start_run, IsInteger, MayStart, FollowsFrom, Emitted}

@@ -14,7 +14,7 @@ use Rattle.qs_frames.specs.Layout.{rounded}
 use Rattle.qs_emit.specs.Machine.{Room, Watched}
 use Rattle.qs_emit.specs.Lies.{AreBytes, cell_of, StandsForPointer, Holds, IsInReach}
 use Rattle.qs_emit.specs.Surroundings.{Surroundings, Lay, ground, HasBlocks}
-use Rattle.qs_select.specs.Data.{data_address}
+use Rattle.qs_emit_selection.specs.Data.{data_address}
 use Rattle.qs_emit.specs.Entries.{IsEntry}
 use Rattle.qs_emit.specs.Images.{record_at}
 use Rattle.qs_emit.specs.Emitted.{AreSurroundings}

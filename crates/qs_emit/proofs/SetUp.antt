@@ -12,9 +12,9 @@ use Rattle.qs_image.specs.Image.{Image}
 use Rattle.qs_machine.specs.State.{is_code}
 use Rattle.qs_tac.specs.Trees.{TacUnitTree}
 use Rattle.qs_tac.specs.Places.{PlacesTree}
-use Rattle.qs_select.specs.Data.{data_address}
-use Rattle.qs_select.specs.Units.{selected}
-use Rattle.qs_select.proofs.Sizes.{units_keep_words}
+use Rattle.qs_emit_selection.specs.Data.{data_address}
+use Rattle.qs_emit_selection.specs.Units.{selected}
+use Rattle.qs_emit_selection.proofs.Sizes.{units_keep_words}
 use Rattle.qs_emit.specs.Machine.{instruction_at}
 use Rattle.qs_emit.specs.Surroundings.{Surroundings}
 use Rattle.qs_emit.specs.Relation.{IsEmittable, data_end, Setup}

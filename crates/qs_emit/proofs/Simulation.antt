@@ -25,7 +25,7 @@ use Rattle.qs_isa.specs.declared.instruction.Instr.{Instr}
 use Rattle.qs_asm.specs.Items.{Lays, plain}
 use Rattle.qs_isa.specs.declared.instruction.Instr.TheVariants as instructions
 use Rattle.qs_asm.specs.declared.item.Item.TheVariants as items
-use Rattle.qs_select.specs.Pieces.{addi}
+use Rattle.qs_emit_selection.specs.Pieces.{addi}
 use Rattle.qs_machine.specs.State.{State, register, with_value}
 use Rattle.qs_machine.specs.Step as machine
 use Rattle.qs_machine.specs.Step.{act}
@@ -38,10 +38,10 @@ use Rattle.qs_tac.specs.Fits.{operand_fits, address_fits, operation_fits, condit
 use Rattle.qs_tac.specs.Values.{Activation, operand, operands, pointer, holds}
 use Rattle.qs_tac.specs.Steps.{Waiting, going_to, onward, written, Next, take_result, begins, enters, ends, waits, step, steps}
 use Rattle.qs_tac.specs.Steps.{instruction_at as linear_at}
-use Rattle.qs_select.specs.Operands.{Context}
-use Rattle.qs_select.specs.Operands.{into as operand_into}
-use Rattle.qs_select.specs.Emission as emission
-use Rattle.qs_select.specs.Emission.{Labels, labels_of, first_label, instruction_items}
+use Rattle.qs_emit_selection.specs.Operands.{Context}
+use Rattle.qs_emit_selection.specs.Operands.{into as operand_into}
+use Rattle.qs_emit_selection.specs.Emission as emission
+use Rattle.qs_emit_selection.specs.Emission.{Labels, labels_of, first_label, instruction_items}
 use Rattle.qs_emit.specs.Machine.{Watched, instruction_at}
 use Rattle.qs_emit.specs.Lies.{AreBytes, number_at, StandsFor}
 use Rattle.qs_emit.specs.Surroundings.{HasBlocks, Lay, ground}

@@ -14,8 +14,8 @@ use Rattle.qs_isa.specs.declared.instruction.OpImmKind.TheVariants.{Addi}
 use Rattle.qs_isa.specs.declared.instruction.OpKind.TheVariants.{Add}
 use Rattle.qs_machine.specs.State.{State, register, with_value, load_1, load_2, load_4}
 use Rattle.qs_machine.specs.Step.{load_width, store_width, loaded, stored}
-use Rattle.qs_select.specs.Pieces as pieces
-use Rattle.qs_select.specs.Pieces.{lui, addi, add, is_small, low_part, high_part, constant, is_near, load_from, store_to, address_in_frame}
+use Rattle.qs_emit_selection.specs.Pieces as pieces
+use Rattle.qs_emit_selection.specs.Pieces.{lui, addi, add, is_small, low_part, high_part, constant, is_near, load_from, store_to, address_in_frame}
 use Rattle.qs_emit.specs.Machine.{Room, Watched, base}
 use Rattle.qs_emit.specs.Lies.{number_at, IsOwn, SameOwn}
 use Rattle.qs_emit.specs.Relation.{Setup}

@@ -27,7 +27,7 @@ use Rattle.qs_frames.proofs.FrameLaws.{offset_aligned}
 use Rattle.qs_emit.specs.Machine.{Room, Watched}
 use Rattle.qs_emit.specs.Lies.{AreBytes, StandsFor, cell_of, Holds, IsInReach}
 use Rattle.qs_emit.specs.Surroundings.{Surroundings, Lay, ground, HasBlocks}
-use Rattle.qs_select.specs.Data.{data_address}
+use Rattle.qs_emit_selection.specs.Data.{data_address}
 use Rattle.qs_emit.specs.Relation.{IsEmittable, Setup, around}
 use Rattle.qs_emit.specs.Started.{IsStart}
 use Rattle.qs_emit.specs.Images.{cell_byte, data_bytes, data_of, IsFirstMemory, AreCosts, IsImageOf, IsWithinLimits}

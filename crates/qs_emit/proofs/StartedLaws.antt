@@ -18,9 +18,9 @@ use Rattle.qs_asm.proofs.LaidLaws.{laid_split}
 use Rattle.qs_machine.specs.State.{State, register, with_value}
 use Rattle.qs_tac.specs.Fits.{function_fits, data_fits}
 use Rattle.std.specs.List.{list_all}
-use Rattle.qs_select.specs.Pieces.{addi}
-use Rattle.qs_select.specs.Emission.{start_items, functions_items}
-use Rattle.qs_select.specs.Data.{data_address}
+use Rattle.qs_emit_selection.specs.Pieces.{addi}
+use Rattle.qs_emit_selection.specs.Emission.{start_items, functions_items}
+use Rattle.qs_emit_selection.specs.Data.{data_address}
 use Rattle.qs_emit.specs.Machine.{Room, Watched, Sight, goes, exits, traps, breaks, instruction_at, is_set, only, watch_on, after, watched}
 use Rattle.qs_emit.specs.Lies.{StandsFor}
 use Rattle.qs_emit.specs.Surroundings.{Lay, ground}

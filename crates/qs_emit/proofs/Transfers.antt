@@ -19,9 +19,9 @@ use Rattle.qs_tac.specs.Holders.{File}
 use Rattle.qs_tac.specs.Fits.{address_fits}
 use Rattle.qs_tac.specs.Values.{Activation, pointer}
 use Rattle.qs_tac.specs.Steps.{Waiting}
-use Rattle.qs_select.specs.Pieces.{copy_loop}
-use Rattle.qs_select.specs.Operands.{Context, address_into, is_word_address}
-use Rattle.qs_select.specs.Emission.{copy_code, fill_code}
+use Rattle.qs_emit_selection.specs.Pieces.{copy_loop}
+use Rattle.qs_emit_selection.specs.Operands.{Context, address_into, is_word_address}
+use Rattle.qs_emit_selection.specs.Emission.{copy_code, fill_code}
 use Rattle.qs_emit.specs.Machine.{Watched}
 use Rattle.qs_emit.specs.Lies.{IsOwn}
 use Rattle.qs_emit.specs.Surroundings.{Lay, ground}

@@ -17,7 +17,7 @@ use Rattle.qs_memory.specs.declared.operation.Comparison.{Comparison}
 use Rattle.qs_memory.specs.declared.operation.Comparison.TheVariants as comparisons
 use Rattle.qs_memory.proofs.Options.{some_same, only_if_value}
 use Rattle.qs_machine.specs.Step.{op_result}
-use Rattle.qs_select.specs.Operations.{kind_of}
+use Rattle.qs_emit_selection.specs.Operations.{kind_of}
 
 abbrev pub of_test : Bool → ℕ
 of_test b = if b then 1 else 0

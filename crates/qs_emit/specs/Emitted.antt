@@ -15,7 +15,7 @@ use Rattle.qs_tac.specs.Units.{tac_run}
 use Rattle.qs_emit.specs.Machine.{Watched}
 use Rattle.qs_emit.specs.Lies.{AreBytes}
 use Rattle.qs_emit.specs.Surroundings.{Surroundings, Lay}
-use Rattle.qs_select.specs.Data.{data_address}
+use Rattle.qs_emit_selection.specs.Data.{data_address}
 use Rattle.qs_emit.specs.Relation.{IsEmittable, function_at}
 use Rattle.qs_emit.specs.Entries.{IsEntry, Follows}
 use Rattle.qs_emit.specs.Agree.{Agree, Accounts}

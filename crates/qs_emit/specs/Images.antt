@@ -13,9 +13,9 @@ use Rattle.qs_tac.specs.Trees.{TacUnitTree}
 use Rattle.qs_tac.specs.Places.{PlacesTree}
 use Rattle.qs_tac.specs.declared.units.TacData.{TacData}
 use Rattle.qs_frames.specs.Layout.{rounded}
-use Rattle.qs_select.specs.Emission.{first_label}
-use Rattle.qs_select.specs.Units.{selected}
-use Rattle.qs_select.specs.Data.{data_address}
+use Rattle.qs_emit_selection.specs.Emission.{first_label}
+use Rattle.qs_emit_selection.specs.Units.{selected}
+use Rattle.qs_emit_selection.specs.Data.{data_address}
 use Rattle.qs_emit.specs.Relation.{function_at, cost_at}
 
 -- ---- data

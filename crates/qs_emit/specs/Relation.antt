@@ -22,11 +22,11 @@ use Rattle.qs_tac.specs.declared.places.Place.TheVariants.{Slot, Register}
 use Rattle.qs_tac.specs.declared.units.TacData.{TacData}
 use Rattle.qs_frames.specs.Layout.{rounded, slot_count, used_registers, register_at}
 use Rattle.qs_emit.specs.Machine.{Room, Watched, base, instruction_at}
-use Rattle.qs_select.specs.Data.{data_address}
-use Rattle.qs_select.specs.Laws.{HasFewArguments}
-use Rattle.qs_select.specs.Limits.{most_arguments}
-use Rattle.qs_select.specs.Operands.{Context, frame_of, slot_offset, local_offset}
-use Rattle.qs_select.specs.Emission.{first_label, unit_items, take_result}
+use Rattle.qs_emit_selection.specs.Data.{data_address}
+use Rattle.qs_emit_selection.specs.Laws.{HasFewArguments}
+use Rattle.qs_emit_selection.specs.Limits.{most_arguments}
+use Rattle.qs_emit_selection.specs.Operands.{Context, frame_of, slot_offset, local_offset}
+use Rattle.qs_emit_selection.specs.Emission.{first_label, unit_items, take_result}
 use Rattle.qs_emit.specs.Lies.{number_at, AreBytes, StandsFor, frame, IsInReach}
 use Rattle.qs_emit.specs.Surroundings.{Surroundings, Ground, Lay, ground, HasBlocks}
 

@@ -5,12 +5,12 @@ use Rattle.qs_lexer.specs.Numbers.{number_of}
 use Rattle.qs_lexer.specs.Pieces.{class_of, is_block_comment, is_line_marker, is_quoted}
 use Rattle.qs_base.specs.Keywords.{keyword_of}
 use Rattle.qs_lexer.specs.Words.{word_of}
-use Rattle.qs_vocabulary.specs.Punctuators.{punctuator_of}
+use Rattle.qs_syntax_vocabulary.specs.Punctuators.{punctuator_of}
 use Rattle.qs_lexer.specs.declared.fault.FaultKind.TheVariants as faults
 use Rattle.qs_lexer.specs.declared.pieces.Class.TheVariants as class
 use Rattle.qs_base.specs.declared.keyword.Keyword.TheVariants as keyword
-use Rattle.qs_vocabulary.specs.declared.punctuator.Punctuator.TheVariants as punctuator
-use Rattle.qs_vocabulary.specs.declared.tokens.TokenKind.TheVariants as kinds
+use Rattle.qs_syntax_vocabulary.specs.declared.punctuator.Punctuator.TheVariants as punctuator
+use Rattle.qs_syntax_vocabulary.specs.declared.tokens.TokenKind.TheVariants as kinds
 
 -- ---- numbers
 

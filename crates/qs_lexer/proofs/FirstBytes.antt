@@ -5,11 +5,11 @@ use Rattle.qs_base.specs.Bytes.{is_digit, is_letter}
 use Rattle.qs_base.specs.Names.{is_word}
 use Rattle.qs_lexer.specs.Bytes.{is_space, starts, starts_with}
 use Rattle.qs_lexer.specs.Pieces.{Longest, class_of, has_form, is_punctuator, is_number, is_quoted, is_token}
-use Rattle.qs_vocabulary.specs.Punctuators.{punctuator_of}
+use Rattle.qs_syntax_vocabulary.specs.Punctuators.{punctuator_of}
 use Rattle.qs_lexer.specs.declared.pieces.Class.{Class}
 use Rattle.qs_lexer.specs.declared.pieces.Class.TheVariants.{End, Space, LineComment, BlockComment, LineMarker, Word, Number, Character, Text, Other}
 use Rattle.qs_lexer.proofs.Fronts.{longest_same}
-use Rattle.qs_vocabulary.proofs.PunctuatorLaws.{no_punctuator}
+use Rattle.qs_syntax_vocabulary.proofs.PunctuatorLaws.{no_punctuator}
 
 -- ---- punctuators begin with no letter, digit or quote
 

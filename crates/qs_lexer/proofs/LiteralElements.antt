@@ -7,8 +7,8 @@ use Rattle.qs_lexer.specs.declared.literals.Element.{Element}
 use Rattle.qs_lexer.specs.declared.literals.Element.TheVariants as item
 use Rattle.qs_lexer.specs.declared.fault.FaultKind.{FaultKind}
 use Rattle.qs_lexer.specs.declared.fault.FaultKind.TheVariants as faults
-use Rattle.qs_vocabulary.specs.declared.tokens.TokenKind.{TokenKind}
-use Rattle.qs_vocabulary.specs.declared.tokens.TokenKind.TheVariants as kinds
+use Rattle.qs_syntax_vocabulary.specs.declared.tokens.TokenKind.{TokenKind}
+use Rattle.qs_syntax_vocabulary.specs.declared.tokens.TokenKind.TheVariants as kinds
 
 pub element_some : (bytes : List ℕ) → 1 ≤ element_length bytes
 element_some [] = omega arith

@@ -13,8 +13,8 @@ use Rattle.qs_lexer.specs.declared.fault.LexFault.TheVariants as faults
 use Rattle.qs_lexer.specs.declared.pieces.Class.{Class}
 use Rattle.qs_lexer.specs.declared.pieces.Piece.{Piece}
 use Rattle.qs_lexer.specs.declared.pieces.Piece.TheVariants as pieces
-use Rattle.qs_vocabulary.specs.declared.tokens.Token.{Token}
-use Rattle.qs_vocabulary.specs.declared.tokens.TokenKind.{TokenKind}
+use Rattle.qs_syntax_vocabulary.specs.declared.tokens.Token.{Token}
+use Rattle.qs_syntax_vocabulary.specs.declared.tokens.TokenKind.{TokenKind}
 use Rattle.qs_lexer.proofs.Fronts.{longest_one, front_or_none}
 
 -- ---- one piece stands first

@@ -7,7 +7,7 @@ use Rattle.qs_lexer.specs.Pieces.{Stands, Next, class_of, has_form, piece_of, pi
 use Rattle.qs_lexer.specs.Results.{SaysFault, fault_at}
 use Rattle.qs_lexer.specs.Tokens.{ReadsTo, start, white_space, token, token_at, LexFaultAt}
 use Rattle.qs_lexer.specs.Words.{punctuator_with, word_of}
-use Rattle.qs_vocabulary.specs.Punctuators.{punctuator_of}
+use Rattle.qs_syntax_vocabulary.specs.Punctuators.{punctuator_of}
 use Rattle.qs_lexer.specs.declared.fault.FaultKind.{FaultKind}
 use Rattle.qs_lexer.specs.declared.fault.FaultKind.TheVariants as kinds
 use Rattle.qs_lexer.specs.declared.fault.LexFault.{LexFault}
@@ -15,8 +15,8 @@ use Rattle.qs_lexer.specs.declared.pieces.Class.{Class}
 use Rattle.qs_lexer.specs.declared.pieces.Class.TheVariants.{End, Space, LineComment, BlockComment, LineMarker, Word, Number, Character, Text, Other}
 use Rattle.qs_lexer.specs.declared.pieces.Piece.{Piece}
 use Rattle.qs_lexer.specs.declared.pieces.Piece.TheVariants as pieces
-use Rattle.qs_vocabulary.specs.declared.tokens.Token.{Token}
-use Rattle.qs_vocabulary.specs.declared.tokens.TokenKind.{TokenKind}
+use Rattle.qs_syntax_vocabulary.specs.declared.tokens.Token.{Token}
+use Rattle.qs_syntax_vocabulary.specs.declared.tokens.TokenKind.{TokenKind}
 use Rattle.qs_lexer.proofs.PieceClasses.{Begun, class_begun}
 
 -- what goes on has k bytes

@@ -13,14 +13,14 @@ use Rattle.qs_lexer.specs.Literals.{character_of, text_of}
 use Rattle.qs_lexer.specs.Numbers.{number_of}
 use Rattle.qs_lexer.specs.Pieces.{Longest, NoFront, Stands, has_form, is_quoted, piece_without, token_or_fault}
 use Rattle.qs_lexer.specs.Words.{punctuator_with, word_of}
-use Rattle.qs_vocabulary.specs.Punctuators.{punctuator_of}
+use Rattle.qs_syntax_vocabulary.specs.Punctuators.{punctuator_of}
 use Rattle.qs_lexer.specs.declared.pieces.Class.TheVariants.{Word, Number, Character, Text, Other}
 use Rattle.qs_lexer.specs.declared.pieces.Piece.{Piece}
 use Rattle.qs_lexer.specs.declared.pieces.Piece.TheVariants as pieces
-use Rattle.qs_vocabulary.specs.declared.punctuator.Punctuator.{Punctuator}
-use Rattle.qs_vocabulary.specs.declared.tokens.TokenKind.TheVariants as kinds
+use Rattle.qs_syntax_vocabulary.specs.declared.punctuator.Punctuator.{Punctuator}
+use Rattle.qs_syntax_vocabulary.specs.declared.tokens.TokenKind.TheVariants as kinds
 use Rattle.qs_lexer.proofs.Fronts.{list_all_take, closes_take, end_within, longest_of_le, longest_of_at, longest_same}
-use Rattle.qs_vocabulary.proofs.PunctuatorLaws.{no_punctuator}
+use Rattle.qs_syntax_vocabulary.proofs.PunctuatorLaws.{no_punctuator}
 use Rattle.qs_lexer.proofs.Conjunctions.{and_true, and_false, cond_true, at_none, at_some}
 
 -- ---- words and numbers: a byte of the one class, and bytes of the other

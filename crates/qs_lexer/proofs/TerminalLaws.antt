@@ -9,11 +9,11 @@ use Rattle.qs_base.specs.Names.{is_name}
 use Rattle.qs_lexer.specs.Laws.{InOrder, IsTokenOf, spelling}
 use Rattle.qs_lexer.specs.Terminals.{terminal, terminal_of, terminals}
 use Rattle.qs_lexer.specs.Tokens.{Tokens}
-use Rattle.qs_vocabulary.specs.WellFormed.{is_byte, is_well_formed}
-use Rattle.qs_vocabulary.specs.declared.terminal.Terminal.{Terminal}
-use Rattle.qs_vocabulary.specs.declared.tokens.Token.{Token}
-use Rattle.qs_vocabulary.specs.declared.tokens.TokenKind.{TokenKind}
-use Rattle.qs_vocabulary.specs.declared.tokens.TokenKind.TheVariants as kinds
+use Rattle.qs_syntax_vocabulary.specs.WellFormed.{is_byte, is_well_formed}
+use Rattle.qs_syntax_vocabulary.specs.declared.terminal.Terminal.{Terminal}
+use Rattle.qs_syntax_vocabulary.specs.declared.tokens.Token.{Token}
+use Rattle.qs_syntax_vocabulary.specs.declared.tokens.TokenKind.{TokenKind}
+use Rattle.qs_syntax_vocabulary.specs.declared.tokens.TokenKind.TheVariants as kinds
 use Rattle.qs_lexer.proofs.TokenLaws.{in_order, tokens_of}
 use Rattle.qs_lexer.proofs.TerminalValues.{all_valued, bytes_drop, bytes_take, is_valued, read_valued, text_low}
 

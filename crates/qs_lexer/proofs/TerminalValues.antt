@@ -9,7 +9,7 @@ use Rattle.qs_lexer.specs.Pieces.{Next, class_of, piece_of, piece_without, token
 use Rattle.qs_lexer.specs.Tokens.{ReadsTo, start, white_space, token, token_at}
 use Rattle.qs_base.specs.Keywords.{keyword_of}
 use Rattle.qs_lexer.specs.Words.{punctuator_with, word_of, word_with}
-use Rattle.qs_vocabulary.specs.Punctuators.{punctuator_of}
+use Rattle.qs_syntax_vocabulary.specs.Punctuators.{punctuator_of}
 use Rattle.qs_lexer.specs.declared.fault.FaultKind.{FaultKind}
 use Rattle.qs_lexer.specs.declared.fault.FaultKind.TheVariants as faults
 use Rattle.qs_lexer.specs.declared.literals.Element.{Element}
@@ -17,12 +17,12 @@ use Rattle.qs_lexer.specs.declared.literals.Element.TheVariants as item
 use Rattle.qs_lexer.specs.declared.pieces.Class.{Class}
 use Rattle.qs_lexer.specs.declared.pieces.Class.TheVariants.{End, Space, LineComment, BlockComment, LineMarker, Word, Number, Character, Text, Other}
 use Rattle.qs_lexer.specs.declared.pieces.Piece.TheVariants as pieces
-use Rattle.qs_vocabulary.specs.WellFormed.{is_byte}
+use Rattle.qs_syntax_vocabulary.specs.WellFormed.{is_byte}
 use Rattle.qs_base.specs.declared.keyword.Keyword.{Keyword}
-use Rattle.qs_vocabulary.specs.declared.punctuator.Punctuator.{Punctuator}
-use Rattle.qs_vocabulary.specs.declared.tokens.Token.{Token}
-use Rattle.qs_vocabulary.specs.declared.tokens.TokenKind.{TokenKind}
-use Rattle.qs_vocabulary.specs.declared.tokens.TokenKind.TheVariants as kinds
+use Rattle.qs_syntax_vocabulary.specs.declared.punctuator.Punctuator.{Punctuator}
+use Rattle.qs_syntax_vocabulary.specs.declared.tokens.Token.{Token}
+use Rattle.qs_syntax_vocabulary.specs.declared.tokens.TokenKind.{TokenKind}
+use Rattle.qs_syntax_vocabulary.specs.declared.tokens.TokenKind.TheVariants as kinds
 use Rattle.qs_lexer.proofs.TokenLaws.{IsPiece, is_piece, is_ok, absent_no_token}
 
 -- the value of a constant is one of its type

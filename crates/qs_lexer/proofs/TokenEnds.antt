@@ -12,7 +12,7 @@ use Rattle.qs_lexer.specs.Pieces.{Next, class_of, token_or_fault}
 use Rattle.qs_lexer.specs.Words.{word_of}
 use Rattle.qs_lexer.specs.declared.pieces.Class.TheVariants.{Word, Number}
 use Rattle.qs_lexer.specs.declared.pieces.Piece.TheVariants as pieces
-use Rattle.qs_vocabulary.specs.declared.tokens.TokenKind.{TokenKind}
+use Rattle.qs_syntax_vocabulary.specs.declared.tokens.TokenKind.{TokenKind}
 use Rattle.qs_lexer.proofs.PieceClasses.{next_is}
 use Rattle.qs_lexer.proofs.Conjunctions.{and_false}
 use Rattle.qs_lexer.proofs.ScanTokens.{number_stands, word_stands}

@@ -12,7 +12,7 @@ use Rattle.qs_lexer.specs.Pieces.{Longest, Next, class_of, has_form, is_token, p
 use Rattle.qs_lexer.specs.Tokens.{ReadsTo, start, white_space, token, token_at, Tokens}
 use Rattle.qs_base.specs.Keywords.{keyword_of}
 use Rattle.qs_lexer.specs.Words.{punctuator_with, word_of, word_with}
-use Rattle.qs_vocabulary.specs.Punctuators.{punctuator_of}
+use Rattle.qs_syntax_vocabulary.specs.Punctuators.{punctuator_of}
 use Rattle.qs_lexer.specs.declared.fault.FaultKind.{FaultKind}
 use Rattle.qs_lexer.specs.declared.fault.FaultKind.TheVariants as faults
 use Rattle.qs_lexer.specs.declared.literals.Element.{Element}
@@ -22,10 +22,10 @@ use Rattle.qs_lexer.specs.declared.pieces.Class.TheVariants.{End, Space, LineCom
 use Rattle.qs_lexer.specs.declared.pieces.Piece.{Piece}
 use Rattle.qs_lexer.specs.declared.pieces.Piece.TheVariants as pieces
 use Rattle.qs_base.specs.declared.keyword.Keyword.{Keyword}
-use Rattle.qs_vocabulary.specs.declared.punctuator.Punctuator.{Punctuator}
-use Rattle.qs_vocabulary.specs.declared.tokens.Token.{Token}
-use Rattle.qs_vocabulary.specs.declared.tokens.TokenKind.{TokenKind}
-use Rattle.qs_vocabulary.specs.declared.tokens.TokenKind.TheVariants as kinds
+use Rattle.qs_syntax_vocabulary.specs.declared.punctuator.Punctuator.{Punctuator}
+use Rattle.qs_syntax_vocabulary.specs.declared.tokens.Token.{Token}
+use Rattle.qs_syntax_vocabulary.specs.declared.tokens.TokenKind.{TokenKind}
+use Rattle.qs_syntax_vocabulary.specs.declared.tokens.TokenKind.TheVariants as kinds
 use Rattle.qs_lexer.proofs.FirstBytes.{is_token_class, longest_token}
 use Rattle.qs_lexer.proofs.ReadingSteps.{next_moves}
 

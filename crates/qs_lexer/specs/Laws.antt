@@ -6,8 +6,8 @@ use Rattle.qs_lexer.specs.Literals.{text_of}
 use Rattle.qs_lexer.specs.Pieces.{Longest, is_quoted, is_token}
 use Rattle.qs_lexer.specs.Tokens.{LexFaultAt, Tokens}
 use Rattle.qs_lexer.specs.declared.fault.FaultKind.{FaultKind}
-use Rattle.qs_vocabulary.specs.declared.tokens.Token.{Token}
-use Rattle.qs_vocabulary.specs.declared.tokens.TokenKind.TheVariants as kinds
+use Rattle.qs_syntax_vocabulary.specs.declared.tokens.Token.{Token}
+use Rattle.qs_syntax_vocabulary.specs.declared.tokens.TokenKind.TheVariants as kinds
 
 -- the bytes of a token: those from its start to its end
 abbrev pub spelling : List ℕ → Token → List ℕ

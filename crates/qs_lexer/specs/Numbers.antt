@@ -6,8 +6,8 @@ use Rattle.qs_lexer.specs.Bytes.{starts_with}
 use Rattle.qs_base.specs.Characters.{digit_zero, lowercase_a, lowercase_f, lowercase_u, lowercase_x, uppercase_a, uppercase_f, uppercase_u, uppercase_x}
 use Rattle.qs_lexer.specs.declared.fault.FaultKind.{FaultKind}
 use Rattle.qs_lexer.specs.declared.fault.FaultKind.TheVariants as faults
-use Rattle.qs_vocabulary.specs.declared.tokens.TokenKind.{TokenKind}
-use Rattle.qs_vocabulary.specs.declared.tokens.TokenKind.TheVariants as kinds
+use Rattle.qs_syntax_vocabulary.specs.declared.tokens.TokenKind.{TokenKind}
+use Rattle.qs_syntax_vocabulary.specs.declared.tokens.TokenKind.TheVariants as kinds
 
 -- the value of a digit, `a` to `f` and `A` to `F` among them; 16, which is the value of none, for another byte
 abbrev pub digit_value : ℕ → ℕ

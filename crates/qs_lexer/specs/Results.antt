@@ -7,7 +7,7 @@ use Rattle.qs_lexer.specs.declared.fault.FaultKind.{FaultKind}
 use Rattle.qs_lexer.specs.declared.fault.FaultKind.TheVariants as kinds
 use Rattle.qs_lexer.specs.declared.fault.LexFault.{LexFault}
 use Rattle.qs_lexer.specs.declared.fault.LexFault.TheVariants as faults
-use Rattle.qs_vocabulary.specs.declared.tokens.Token.{Token}
+use Rattle.qs_syntax_vocabulary.specs.declared.tokens.Token.{Token}
 
 -- the fault of this kind at this place
 abbrev pub fault_at : FaultKind → ℕ → LexFault

@@ -1,8 +1,8 @@
 -- What a list begins with.
 use Rattle.std.specs.Prelude.{◌≡◌, ℕ, true, List, drop, length, take, nat_le, Option, None, if◌then◌else◌}
 use Rattle.qs_lexer.specs.Bytes.{starts_with}
-use Rattle.qs_vocabulary.specs.Punctuators.{punctuator_of}
-use Rattle.qs_vocabulary.specs.declared.punctuator.Punctuator.{Punctuator}
+use Rattle.qs_syntax_vocabulary.specs.Punctuators.{punctuator_of}
+use Rattle.qs_syntax_vocabulary.specs.declared.punctuator.Punctuator.{Punctuator}
 
 -- the first two bytes are these
 pub record Opens (first second : ℕ) (bytes : List ℕ) : Type 0 where

@@ -3,8 +3,8 @@ use Rattle.std.specs.Prelude.{ℕ, ◌+◌, Bool, true, false, List, [], ◌∷�
 use Rattle.qs_lexer.specs.Pieces.{Next}
 use Rattle.qs_lexer.specs.declared.fault.FaultKind.{FaultKind}
 use Rattle.qs_lexer.specs.declared.pieces.Piece.TheVariants as pieces
-use Rattle.qs_vocabulary.specs.declared.tokens.Token.{Token}
-use Rattle.qs_vocabulary.specs.declared.tokens.TokenKind.{TokenKind}
+use Rattle.qs_syntax_vocabulary.specs.declared.tokens.Token.{Token}
+use Rattle.qs_syntax_vocabulary.specs.declared.tokens.TokenKind.{TokenKind}
 
 abbrev pub token_at : ℕ → ℕ → TokenKind → Token
 token_at at n kind = record { kind = kind; start = at; end = at + n }

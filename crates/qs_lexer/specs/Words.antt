@@ -4,9 +4,9 @@ use Rattle.qs_base.specs.Keywords.{keyword_of}
 use Rattle.qs_base.specs.declared.keyword.Keyword.{Keyword}
 use Rattle.qs_lexer.specs.declared.fault.FaultKind.{FaultKind}
 use Rattle.qs_lexer.specs.declared.fault.FaultKind.TheVariants as faults
-use Rattle.qs_vocabulary.specs.declared.punctuator.Punctuator.{Punctuator}
-use Rattle.qs_vocabulary.specs.declared.tokens.TokenKind.{TokenKind}
-use Rattle.qs_vocabulary.specs.declared.tokens.TokenKind.TheVariants as kinds
+use Rattle.qs_syntax_vocabulary.specs.declared.punctuator.Punctuator.{Punctuator}
+use Rattle.qs_syntax_vocabulary.specs.declared.tokens.TokenKind.{TokenKind}
+use Rattle.qs_syntax_vocabulary.specs.declared.tokens.TokenKind.TheVariants as kinds
 
 abbrev pub word_with : Option Keyword → TokenKind
 word_with None = kinds.Name

@@ -13,7 +13,7 @@ use crate::bytes::starts_with;
 use crate::fault::FaultKind;
 use crate::numbers::{digit_value, value_of};
 use qs_base::NoMemory;
-use qs_vocabulary::TokenKind;
+use qs_syntax_vocabulary::TokenKind;
 
 /// An element of a literal (C11 6.4.4.4).
 #[derive(Clone, Copy)]

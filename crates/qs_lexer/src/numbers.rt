@@ -6,7 +6,7 @@ ghost use Rattle.qs_lexer.specs.Numbers.{number_without_suffix, typed, value_of}
 use crate::bytes::starts_with;
 use crate::fault::FaultKind;
 use qs_base::{is_between, is_digit};
-use qs_vocabulary::TokenKind;
+use qs_syntax_vocabulary::TokenKind;
 
 /// The value of a digit, or 16.
 pub fn digit_value(byte: u8) -> u32

@@ -5,7 +5,7 @@ ghost use Rattle.qs_lexer.specs.Pieces.{class_of};
 use crate::bytes::{is_space, starts_with};
 use crate::fault::FaultKind;
 use qs_base::{is_digit, is_letter};
-use qs_vocabulary::TokenKind;
+use qs_syntax_vocabulary::TokenKind;
 
 /// How the rest of a text begins.
 #[derive(Clone, Copy)]

@@ -6,7 +6,7 @@ ghost use Rattle.qs_lexer.specs.Tokens.{EachFault, EachReading};
 use crate::fault::LexFault;
 use crate::pieces::Piece;
 use crate::scan::next;
-use qs_vocabulary::Token;
+use qs_syntax_vocabulary::Token;
 use std::alloc::Global;
 
 /// The length of the longest text: 1,048,576 bytes (1 MiB).

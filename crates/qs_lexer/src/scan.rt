@@ -16,7 +16,7 @@ use crate::numbers::number_of;
 use crate::pieces::{Class, Piece, class_of};
 use crate::words::word_of;
 use qs_base::line_length;
-use qs_vocabulary::{Punctuator, TokenKind};
+use qs_syntax_vocabulary::{Punctuator, TokenKind};
 
 fn token_or_fault(n: usize, kind: Result<TokenKind, FaultKind>) -> Piece
     ensures { result ≡ token_or_fault n kind }

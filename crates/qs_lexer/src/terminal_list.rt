@@ -4,11 +4,11 @@ ghost use Rattle.std.specs.List.{list_all};
 ghost use Rattle.qs_lexer.specs.Terminals.{terminal, terminal_of, terminals};
 ghost use Rattle.qs_lexer.specs.Literals.{elements};
 ghost use Rattle.qs_lexer.specs.Tokens.{Tokens};
-ghost use Rattle.qs_vocabulary.specs.WellFormed.{is_well_formed};
+ghost use Rattle.qs_syntax_vocabulary.specs.WellFormed.{is_well_formed};
 
 use crate::literals::text_bytes;
 use qs_base::{Name, NoMemory};
-use qs_vocabulary::{Terminal, Text, Token, TokenKind};
+use qs_syntax_vocabulary::{Terminal, Text, Token, TokenKind};
 use std::alloc::Global;
 
 /// The text that a literal stands for.

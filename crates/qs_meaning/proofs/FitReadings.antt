@@ -8,9 +8,9 @@ use mathlib.Core.Bool.{Bool-set}
 use Rattle.qs_base.specs.Names.{is_name}
 use Rattle.qs_syntax.specs.declared.nodes.Node.{Node}
 use Rattle.qs_syntax.specs.declared.types.Base.{Base}
-use Rattle.qs_vocabulary.specs.declared.terminal.Terminal.{Terminal}
+use Rattle.qs_syntax_vocabulary.specs.declared.terminal.Terminal.{Terminal}
 use Rattle.qs_syntax.specs.Units.{Reading}
-use Rattle.qs_vocabulary.specs.WellFormed.{is_byte, is_well_formed}
+use Rattle.qs_syntax_vocabulary.specs.WellFormed.{is_byte, is_well_formed}
 use Rattle.qs_syntax.specs.Trees.{ExprTree, Exprs, LengthsTree, DeclaratorTree, InitialiserTree, Initialisers, VariableTree, DeclarationTree, ParameterTree, MembersTree, StartTree, StmtTree, Stmts, FunctionTree, DeclTree, UnitTree}
 use Rattle.qs_syntax.specs.Trees as trees
 use Rattle.qs_syntax.specs.Nodes.{all_count, option_count, start_count, stmt_count, expr_count, declarator_count, variable_count, parameter_count, members_count, decl_count, unit_nodes}

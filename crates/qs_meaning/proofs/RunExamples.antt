@@ -1,8 +1,8 @@
 -- What whole sources do, computed from the definition: order of evaluation, loops, calls, scopes, input and output, bounds.
 use Rattle.std.proofs.Common.{◌≡◌, ℕ, [], ◌∷◌, Some, None, refl}
 use Rattle.qs_syntax.specs.declared.types.Base.TheVariants as bases
-use Rattle.qs_vocabulary.specs.declared.operators.BinaryOperator.TheVariants as binaries
-use Rattle.qs_vocabulary.specs.declared.operators.AssignmentOperator.TheVariants as assigns
+use Rattle.qs_syntax_vocabulary.specs.declared.operators.BinaryOperator.TheVariants as binaries
+use Rattle.qs_syntax_vocabulary.specs.declared.operators.AssignmentOperator.TheVariants as assigns
 use Rattle.qs_syntax.specs.Trees.{unnumbered, no_start, start_declaration, DeclTree}
 use Rattle.qs_syntax.specs.Trees as trees
 use Rattle.qs_events.specs.Events.{Calls, Returns, Takes, TakesEnd, Puts}

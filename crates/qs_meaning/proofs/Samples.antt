@@ -2,13 +2,13 @@
 use Rattle.std.proofs.Common.{ℕ, true, false, List, [], ◌∷◌, Option, Some, None}
 use Rattle.qs_syntax.specs.declared.types.Base.{Base}
 use Rattle.qs_syntax.specs.declared.types.Base.TheVariants as bases
-use Rattle.qs_vocabulary.specs.declared.operators.UnaryOperator.TheVariants as unaries
-use Rattle.qs_vocabulary.specs.declared.operators.StepOperator.TheVariants as steps
-use Rattle.qs_vocabulary.specs.declared.operators.BinaryOperator.{BinaryOperator}
-use Rattle.qs_vocabulary.specs.declared.operators.BinaryOperator.TheVariants as binaries
-use Rattle.qs_vocabulary.specs.declared.operators.AssignmentOperator.{AssignmentOperator}
-use Rattle.qs_vocabulary.specs.declared.operators.AssignmentOperator.TheVariants as assigns
-use Rattle.qs_vocabulary.specs.declared.operators.Access.TheVariants as accesses
+use Rattle.qs_syntax_vocabulary.specs.declared.operators.UnaryOperator.TheVariants as unaries
+use Rattle.qs_syntax_vocabulary.specs.declared.operators.StepOperator.TheVariants as steps
+use Rattle.qs_syntax_vocabulary.specs.declared.operators.BinaryOperator.{BinaryOperator}
+use Rattle.qs_syntax_vocabulary.specs.declared.operators.BinaryOperator.TheVariants as binaries
+use Rattle.qs_syntax_vocabulary.specs.declared.operators.AssignmentOperator.{AssignmentOperator}
+use Rattle.qs_syntax_vocabulary.specs.declared.operators.AssignmentOperator.TheVariants as assigns
+use Rattle.qs_syntax_vocabulary.specs.declared.operators.Access.TheVariants as accesses
 use Rattle.qs_syntax.specs.Trees.{unnumbered, ExprTree, expr, ShapeTree, exprs_of, LengthsTree, DeclaratorTree, InitialiserTree, initialisers_of, ParameterTree, StmtTree, stmts_of, no_else, DeclTree, structure, function, variables}
 use Rattle.qs_syntax.specs.Trees as trees
 

@@ -2,7 +2,7 @@
 -- order of their operands. Each is computed from the definition, from the tree of the source on.
 use Rattle.std.proofs.Common.{◌≡◌, [], ◌∷◌, Some, None, refl}
 use Rattle.qs_syntax.specs.declared.types.Base.TheVariants as bases
-use Rattle.qs_vocabulary.specs.declared.operators.BinaryOperator.TheVariants.{Subtract, Divide, Remainder, ShiftLeft, ShiftRight, Less, Equal}
+use Rattle.qs_syntax_vocabulary.specs.declared.operators.BinaryOperator.TheVariants.{Subtract, Divide, Remainder, ShiftLeft, ShiftRight, Less, Equal}
 use Rattle.qs_syntax.specs.Trees.{ExprTree, DeclTree, UnitTree, StmtTree}
 use Rattle.qs_events.specs.Events.{Calls, Returns}
 use Rattle.qs_events.specs.BoundedRun.{Ended, Undefined}

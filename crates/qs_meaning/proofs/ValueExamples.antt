@@ -1,12 +1,12 @@
 -- What values are on the way, not only modulo 256: conversions, comparisons, operators, results of calls.
 use Rattle.std.proofs.Common.{◌≡◌, ℕ, [], ◌∷◌, Option, Some, None, refl}
 use Rattle.qs_syntax.specs.declared.types.Base.TheVariants as bases
-use Rattle.qs_vocabulary.specs.declared.operators.UnaryOperator.TheVariants as unaries
-use Rattle.qs_vocabulary.specs.declared.operators.StepOperator.TheVariants as steps
-use Rattle.qs_vocabulary.specs.declared.operators.BinaryOperator.{BinaryOperator}
-use Rattle.qs_vocabulary.specs.declared.operators.BinaryOperator.TheVariants as binaries
-use Rattle.qs_vocabulary.specs.declared.operators.AssignmentOperator.{AssignmentOperator}
-use Rattle.qs_vocabulary.specs.declared.operators.AssignmentOperator.TheVariants as assigns
+use Rattle.qs_syntax_vocabulary.specs.declared.operators.UnaryOperator.TheVariants as unaries
+use Rattle.qs_syntax_vocabulary.specs.declared.operators.StepOperator.TheVariants as steps
+use Rattle.qs_syntax_vocabulary.specs.declared.operators.BinaryOperator.{BinaryOperator}
+use Rattle.qs_syntax_vocabulary.specs.declared.operators.BinaryOperator.TheVariants as binaries
+use Rattle.qs_syntax_vocabulary.specs.declared.operators.AssignmentOperator.{AssignmentOperator}
+use Rattle.qs_syntax_vocabulary.specs.declared.operators.AssignmentOperator.TheVariants as assigns
 use Rattle.qs_syntax.specs.Trees.{ExprTree, StmtTree}
 use Rattle.qs_syntax.specs.Trees as trees
 use Rattle.qs_events.specs.Events.{Calls, Returns, TakesEnd, Puts}

@@ -6,7 +6,7 @@ use Rattle.qs_syntax.specs.Trees.{ExprTree, expr, ShapeTree, Exprs, no_exprs, ex
 use Rattle.qs_syntax.specs.Trees as trees
 use Rattle.qs_syntax.specs.Nodes.{unit_nodes}
 use Rattle.qs_syntax.specs.Units.{IsRead}
-use Rattle.qs_vocabulary.specs.WellFormed.{is_byte}
+use Rattle.qs_syntax_vocabulary.specs.WellFormed.{is_byte}
 use Rattle.qs_types.specs.Placed.{is_one_of}
 use Rattle.qs_types.specs.Sites.{Site, unit_sites}
 use Rattle.qs_types.specs.Limits.{IsWithinLimits}

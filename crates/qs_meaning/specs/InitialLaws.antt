@@ -2,7 +2,7 @@
 use Rattle.std.specs.Prelude.{◌≡◌, Bool, true, Some}
 use Rattle.std.specs.List.{list_all}
 use Rattle.qs_syntax.specs.Trees.{UnitTree}
-use Rattle.qs_vocabulary.specs.WellFormed.{is_byte}
+use Rattle.qs_syntax_vocabulary.specs.WellFormed.{is_byte}
 use Rattle.qs_memory.specs.Soundness.{IsSound}
 use Rattle.qs_types.specs.Sites.{Site, unit_sites}
 use Rattle.qs_types.specs.References.{TextBlock, expr_texts}

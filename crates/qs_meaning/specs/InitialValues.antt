@@ -1,8 +1,8 @@
 -- What the blocks of a unit hold when a run begins (C11 5.1.2, 6.4.5p6, 6.7.9): the file-scope variables with their initial values, and the
 -- texts.
 use Rattle.std.specs.Prelude.{ℕ, ◌+◌, true, false, List, [], ◌∷◌, ◌++◌, Option, Some, None, length, map, take, drop, if◌then◌else◌}
-use Rattle.qs_vocabulary.specs.declared.operators.UnaryOperator.{UnaryOperator}
-use Rattle.qs_vocabulary.specs.declared.operators.UnaryOperator.TheVariants as unaries
+use Rattle.qs_syntax_vocabulary.specs.declared.operators.UnaryOperator.{UnaryOperator}
+use Rattle.qs_syntax_vocabulary.specs.declared.operators.UnaryOperator.TheVariants as unaries
 use Rattle.qs_syntax.specs.Trees.{ExprTree, expr, InitialiserTree}
 use Rattle.qs_syntax.specs.Trees as trees
 use Rattle.qs_memory.specs.declared.scalar.Scalar.TheVariants as scalars

@@ -2,14 +2,14 @@
 use Rattle.std.proofs.Common.{◌≡◌, ℕ, zero, suc, ◌+◌, ◌-◌, ◌<◌, ◌≤◌, true, false, cond, List, [], ◌∷◌, ◌++◌, length, Ok, refl, ap, ◌∙◌, arith}
 use Rattle.std.specs.Prelude.{max}
 use Rattle.std.proofs.lemmas.Bool.{ne_eqb}
-use Rattle.qs_vocabulary.specs.declared.terminal.Terminal.{Terminal}
-use Rattle.qs_vocabulary.specs.declared.punctuator.Punctuator.TheVariants as punctuators
+use Rattle.qs_syntax_vocabulary.specs.declared.terminal.Terminal.{Terminal}
+use Rattle.qs_syntax_vocabulary.specs.declared.punctuator.Punctuator.TheVariants as punctuators
 use Rattle.qs_syntax.specs.Trees.{unnumbered, ExprTree, InitialiserTree, value, list, initialisers_of, VariableTree, DeclaratorTree, MembersTree, ParameterTree}
 use Rattle.qs_syntax.specs.Reads.{Conditional, Assignment, place}
-use Rattle.qs_grammar.specs.Heads.{starts}
+use Rattle.qs_parser_grammar.specs.Heads.{starts}
 use Rattle.qs_parser_expressions.proofs.CodeExpressions.{map_more}
-use Rattle.qs_grammar.specs.Parse.{Parse, read_on, unexpected, deep, deeper, expect, part}
-use Rattle.qs_grammar.specs.ParseDeclarations.{given_lengths, after_initialiser, initialisers, begins_initialiser, initialiser, after_variable, variable, variables, declaration, declaration_within, declarator, after_member, declarators, members, groups, after_parameter, parameter, parameters}
+use Rattle.qs_parser_grammar.specs.Parse.{Parse, read_on, unexpected, deep, deeper, expect, part}
+use Rattle.qs_parser_grammar.specs.ParseDeclarations.{given_lengths, after_initialiser, initialisers, begins_initialiser, initialiser, after_variable, variable, variables, declaration, declaration_within, declarator, after_member, declarators, members, groups, after_parameter, parameter, parameters}
 
 left_turns : (n i : ℕ) → i < n → n - i ≡ suc (n - (i + 1))
 left_turns n i h = omega arith

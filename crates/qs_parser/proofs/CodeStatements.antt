@@ -1,17 +1,17 @@
 -- Turns of the loops that read statements and units.
 use Rattle.std.proofs.Common.{◌≡◌, ℕ, zero, suc, ◌+◌, ◌-◌, ◌<◌, ◌≤◌, cond, List, [], ◌∷◌, ◌++◌, Result, Ok, Err, Option, refl, ap, ◌∙◌, arith, Some, None, Box, Global, sym}
 use Rattle.std.specs.Prelude.{max}
-use Rattle.qs_vocabulary.specs.declared.terminal.Terminal.{Terminal}
-use Rattle.qs_vocabulary.specs.declared.punctuator.Punctuator.TheVariants as punctuators
+use Rattle.qs_syntax_vocabulary.specs.declared.terminal.Terminal.{Terminal}
+use Rattle.qs_syntax_vocabulary.specs.declared.punctuator.Punctuator.TheVariants as punctuators
 use Rattle.qs_syntax.specs.Trees.{unnumbered, ExprTree, StartTree, StmtTree, for_loop, DeclTree, branch, no_else, else_by}
-use Rattle.qs_grammar.specs.Heads.{starts}
+use Rattle.qs_parser_grammar.specs.Heads.{starts}
 use Rattle.qs_parser_expressions.specs.View.{Fails}
 use Rattle.qs_parser.specs.Turns.{TurnTree, step_and_body, turn_of}
 use Rattle.qs_parser_expressions.specs.declared.halt.Halt.{Halt}
 use Rattle.qs_parser_expressions.specs.declared.halt.Halt.TheVariants as halts
 use Rattle.qs_parser_expressions.proofs.CodeExpressions.{map_more}
-use Rattle.qs_grammar.specs.Parse.{Parse, Stop, read_on, unexpected, deep, expect}
-use Rattle.qs_grammar.specs.ParseStatements.{S, optional, start_of, begins_statement, after_for, item, items, statement_at, statement, external, is_empty, externals}
+use Rattle.qs_parser_grammar.specs.Parse.{Parse, Stop, read_on, unexpected, deep, expect}
+use Rattle.qs_parser_grammar.specs.ParseStatements.{S, optional, start_of, begins_statement, after_for, item, items, statement_at, statement, external, is_empty, externals}
 use Rattle.qs_syntax.specs.TreeOf.{expr_tree, stmt_tree, else_tree, stmt_step}
 use Rattle.qs_syntax.specs.declared.expressions.Expr.{Expr}
 use Rattle.qs_syntax.specs.declared.nodes.Node.{Node}

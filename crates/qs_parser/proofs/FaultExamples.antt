@@ -1,12 +1,12 @@
 -- Small lists with a fault, and which number it has.
 use Rattle.std.proofs.Common.{List, [], ◌∷◌, ◌++◌, refl, arith}
-use Rattle.qs_vocabulary.specs.declared.terminal.Terminal.{Terminal}
-use Rattle.qs_vocabulary.specs.declared.terminal.Terminal.TheVariants.{Keyword, Punctuator}
+use Rattle.qs_syntax_vocabulary.specs.declared.terminal.Terminal.{Terminal}
+use Rattle.qs_syntax_vocabulary.specs.declared.terminal.Terminal.TheVariants.{Keyword, Punctuator}
 use Rattle.qs_base.specs.declared.keyword.Keyword.TheVariants as keywords
-use Rattle.qs_vocabulary.specs.declared.punctuator.Punctuator.TheVariants as punctuators
+use Rattle.qs_syntax_vocabulary.specs.declared.punctuator.Punctuator.TheVariants as punctuators
 use Rattle.qs_syntax.specs.Begins.{BeginsUnit, BeginsLowUnit}
 use Rattle.qs_parser.specs.Answers.{IsUnexpected, IsTooDeep}
-use Rattle.qs_grammar.proofs.BeginsExamples.{an_int_token, a_name, a_semicolon, a_parenthesis, a_declaration, parenthesis_is_unexpected, name_is_unexpected, nested, nested_is_deep, an_if, an_if_reads, else_is_unexpected}
+use Rattle.qs_parser_grammar.proofs.BeginsExamples.{an_int_token, a_name, a_semicolon, a_parenthesis, a_declaration, parenthesis_is_unexpected, name_is_unexpected, nested, nested_is_deep, an_if, an_if_reads, else_is_unexpected}
 use Rattle.qs_parser.proofs.Top.{is_unexpected, is_too_deep}
 
 -- `int x )`: the parenthesis is unexpected, and the name is not

@@ -4,25 +4,25 @@ use Rattle.std.specs.Prelude.{take, drop, Result}
 use Rattle.std.proofs.lemmas.Bool.{cases_order, cases_lt}
 use Rattle.std.proofs.lemmas.List.{take_at}
 use Rattle.std.specs.List.{list_all}
-use Rattle.qs_vocabulary.specs.declared.terminal.Terminal.{Terminal}
+use Rattle.qs_syntax_vocabulary.specs.declared.terminal.Terminal.{Terminal}
 use Rattle.qs_syntax.specs.Trees.{DeclTree}
 use Rattle.qs_syntax.specs.Numbering.{numbered_unit}
 use Rattle.qs_syntax.specs.Nodes.{unit_count}
 use Rattle.qs_syntax.specs.Units.{IsRead}
-use Rattle.qs_vocabulary.specs.WellFormed.{is_well_formed}
+use Rattle.qs_syntax_vocabulary.specs.WellFormed.{is_well_formed}
 use Rattle.qs_syntax.specs.ReadsUnits.{ReadsUnit}
 use Rattle.qs_syntax.specs.declared.unit.Unit as unit_type
 use Rattle.qs_syntax.specs.UnitTrees.{unit_tree}
 use Rattle.qs_syntax.specs.Begins.{BeginsUnit, BeginsLowUnit}
-use Rattle.qs_grammar.specs.Parse.{Unexpected, Deep}
-use Rattle.qs_grammar.specs.ParseStatements.{unit}
+use Rattle.qs_parser_grammar.specs.Parse.{Unexpected, Deep}
+use Rattle.qs_parser_grammar.specs.ParseStatements.{unit}
 use Rattle.qs_parser.specs.Answers.{ReadsAs, HasNoReading, IsUnexpected, IsTooDeep, HasFault, Answers, IsDecision}
 use Rattle.qs_parser.specs.declared.syntax_fault.SyntaxFault.{SyntaxFault}
 use Rattle.qs_parser.specs.declared.syntax_fault.SyntaxFault.TheVariants as faults
-use Rattle.qs_grammar.proofs.NodeCounts.{counted_unit}
-use Rattle.qs_grammar.proofs.UnitsSound.{reads_whole}
-use Rattle.qs_grammar.proofs.UnitsComplete.{one_reading}
-use Rattle.qs_grammar.proofs.FaultPlaces.{no_unit_at_all, Before, UpTo, unexpected_place, deep_place, front_begins, front_begins_low, low_begins}
+use Rattle.qs_parser_grammar.proofs.NodeCounts.{counted_unit}
+use Rattle.qs_parser_grammar.proofs.UnitsSound.{reads_whole}
+use Rattle.qs_parser_grammar.proofs.UnitsComplete.{one_reading}
+use Rattle.qs_parser_grammar.proofs.FaultPlaces.{no_unit_at_all, Before, UpTo, unexpected_place, deep_place, front_begins, front_begins_low, low_begins}
 
 abbrev Gave : List Terminal → List DeclTree → ℕ → Type 0
 Gave ts ds h = unit 126 ts ≡ Ok ((ds, h), [])

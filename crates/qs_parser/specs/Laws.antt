@@ -1,6 +1,6 @@
 -- What is promised of tokens.
 use Rattle.std.specs.Prelude.{◌≡◌, ◌≢◌, ℕ, List}
-use Rattle.qs_vocabulary.specs.declared.terminal.Terminal.{Terminal}
+use Rattle.qs_syntax_vocabulary.specs.declared.terminal.Terminal.{Terminal}
 use Rattle.qs_syntax.specs.Trees.{DeclTree}
 use Rattle.qs_syntax.specs.ReadsUnits.{ReadsUnit}
 use Rattle.qs_parser.specs.Answers.{HasFault}

@@ -3,11 +3,11 @@ use Rattle.std.specs.Prelude.{ℕ, max, Option, Ok, Box}
 use Rattle.std.specs.declared.alloc.Global.{Global}
 use Rattle.qs_syntax.specs.declared.expressions.Expr.{Expr}
 use Rattle.qs_syntax.specs.declared.statements.Stmt.{Stmt}
-use Rattle.qs_vocabulary.specs.declared.punctuator.Punctuator.TheVariants as punctuators
+use Rattle.qs_syntax_vocabulary.specs.declared.punctuator.Punctuator.TheVariants as punctuators
 use Rattle.qs_syntax.specs.Trees.{ExprTree, StmtTree}
 use Rattle.qs_syntax.specs.TreeOf.{option_tree, stmt_tree}
-use Rattle.qs_grammar.specs.Parse.{Parse, read_on}
-use Rattle.qs_grammar.specs.ParseStatements.{S, optional}
+use Rattle.qs_parser_grammar.specs.Parse.{Parse, read_on}
+use Rattle.qs_parser_grammar.specs.ParseStatements.{S, optional}
 use Rattle.qs_parser.specs.declared.statements.Turn.{Turn}
 
 pub record TurnTree : Type 0 where

@@ -1,16 +1,16 @@
 -- The grammar's readers of declarations, statements and units, with the room that a context leaves for the parts. What the code's functions are given
 -- stands in their order; `initialisers` has the turns, the items and the height besides, as the reader of a list.
 use Rattle.std.specs.Prelude.{ℕ, List, [], Option, Bool, length}
-use Rattle.qs_vocabulary.specs.declared.terminal.Terminal.{Terminal}
+use Rattle.qs_syntax_vocabulary.specs.declared.terminal.Terminal.{Terminal}
 use Rattle.qs_syntax.specs.declared.types.Base.{Base}
 use Rattle.qs_syntax.specs.declared.declarations.Declarator.{Declarator}
-use Rattle.qs_vocabulary.specs.Operators.{number_of}
+use Rattle.qs_syntax_vocabulary.specs.Operators.{number_of}
 use Rattle.qs_syntax.specs.Trees.{LengthsTree, InitialiserTree, VariableTree, ParameterTree, DeclTree}
 use Rattle.qs_syntax.specs.TreeOf.{declarator_tree}
-use Rattle.qs_grammar.specs.Parse.{Parse}
-use Rattle.qs_grammar.specs.ParseDeclarations as declarations
-use Rattle.qs_grammar.specs.ParseStatements as statements
-use Rattle.qs_grammar.specs.ParseStatements.{S, statement}
+use Rattle.qs_parser_grammar.specs.Parse.{Parse}
+use Rattle.qs_parser_grammar.specs.ParseDeclarations as declarations
+use Rattle.qs_parser_grammar.specs.ParseStatements as statements
+use Rattle.qs_parser_grammar.specs.ParseStatements.{S, statement}
 use Rattle.qs_parser_expressions.specs.declared.context.Context.{Context}
 use Rattle.qs_parser.specs.declared.units.Header.{Header}
 use Rattle.qs_parser.specs.UnitView.{parameters_of}

@@ -3,7 +3,7 @@ use Rattle.std.specs.Prelude.{ℕ, List, [], Option, Result, option_map, Box}
 use Rattle.std.specs.Borrow.{Bor}
 use Rattle.std.specs.declared.alloc.Global.{Global}
 use Rattle.std.specs.declared.vec.Vec.{Vec}
-use Rattle.qs_vocabulary.specs.declared.terminal.Terminal.{Terminal}
+use Rattle.qs_syntax_vocabulary.specs.declared.terminal.Terminal.{Terminal}
 use Rattle.qs_syntax.specs.declared.statements.Stmt.{Stmt}
 use Rattle.qs_syntax.specs.declared.units.Decl.{Decl}
 use Rattle.qs_syntax.specs.declared.declarations.Parameter.{Parameter}
@@ -11,7 +11,7 @@ use Rattle.qs_syntax.specs.Trees.{unnumbered, ParameterTree, StmtTree, Stmts, De
 use Rattle.qs_syntax.specs.TreeOf.{parameter_tree, stmt_tree, decl_tree}
 use Rattle.qs_parser_expressions.specs.declared.halt.Halt.{Halt}
 use Rattle.qs_parser.specs.declared.units.Header.{Header}
-use Rattle.qs_grammar.specs.Parse.{Stop}
+use Rattle.qs_parser_grammar.specs.Parse.{Stop}
 use Rattle.qs_parser_expressions.specs.View.{Reads, listed}
 
 -- what is read as a parameter

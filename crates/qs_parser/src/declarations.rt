@@ -6,13 +6,13 @@ ghost use Rattle.qs_syntax.specs.Trees.{list, unnumbered};
 ghost use Rattle.qs_syntax.specs.TreeOf.{expr_tree, lengths_tree, declarator_tree};
 ghost use Rattle.qs_syntax.specs.TreeOf.{initialiser_tree, initialisers_tree, variable_tree};
 ghost use Rattle.qs_syntax.specs.TreeOf.{declaration_tree, members_tree, parameter_tree};
-ghost use Rattle.qs_grammar.specs.ParseDeclarations.{given_lengths, is_empty_brackets, lengths};
-ghost use Rattle.qs_grammar.specs.ParseDeclarations.{named, declarator, begins_initialiser};
-ghost use Rattle.qs_grammar.specs.ParseDeclarations.{initialiser, variable, variables, declared};
-ghost use Rattle.qs_grammar.specs.ParseDeclarations.{declaration, declaration_within, declarators};
-ghost use Rattle.qs_grammar.specs.ParseDeclarations.{members, groups, with_name, is_void_alone};
-ghost use Rattle.qs_grammar.specs.ParseDeclarations.{without_first, parameter, parameters};
-ghost use Rattle.qs_grammar.specs.ParseDeclarations.{is_void_head, head};
+ghost use Rattle.qs_parser_grammar.specs.ParseDeclarations.{given_lengths, is_empty_brackets, lengths};
+ghost use Rattle.qs_parser_grammar.specs.ParseDeclarations.{named, declarator, begins_initialiser};
+ghost use Rattle.qs_parser_grammar.specs.ParseDeclarations.{initialiser, variable, variables, declared};
+ghost use Rattle.qs_parser_grammar.specs.ParseDeclarations.{declaration, declaration_within, declarators};
+ghost use Rattle.qs_parser_grammar.specs.ParseDeclarations.{members, groups, with_name, is_void_alone};
+ghost use Rattle.qs_parser_grammar.specs.ParseDeclarations.{without_first, parameter, parameters};
+ghost use Rattle.qs_parser_grammar.specs.ParseDeclarations.{is_void_head, head};
 ghost use Rattle.qs_parser_expressions.specs.View.{Reads, ReadsList, listed};
 ghost use Rattle.qs_parser.specs.UnitView.{ReadsParameter};
 ghost use Rattle.qs_parser.specs.UnitReaders.{lengths_of, initialisers, initialised, bracketed};
@@ -26,7 +26,7 @@ use qs_syntax::{
     Base, Declaration, Declarator, Expr, Initialiser, InitialiserList, Lengths, Members, Node,
     Parameter, TypeName, Variable,
 };
-use qs_vocabulary::{Keyword, Punctuator, Terminal};
+use qs_syntax_vocabulary::{Keyword, Punctuator, Terminal};
 
 /// The lengths in brackets, none of them empty (C11 6.7.6.2).
 #[tactic(auto, using(crate::proofs::CodeDeclarations::length_steps))]
@@ -79,7 +79,7 @@ fn lengths_of(
 }
 
 /// The brackets behind a name (C11 6.7.6.2).
-#[tactic(auto, unfolding(qs_grammar::specs::ParseDeclarations::lengths))]
+#[tactic(auto, unfolding(qs_parser_grammar::specs::ParseDeclarations::lengths))]
 fn lengths(context: Context, tokens: &[Terminal]) -> Result<(Lengths, u32, &[Terminal]), Halt>
     ensures gives { Reads lengths_tree result (lengths context.room tokens.now) }
     ensures low { IfOk result (λ x. x.1 ≤ context.room) }
@@ -116,7 +116,7 @@ fn named(
 }
 
 /// A name with the stars before it and the brackets behind it (C11 6.7.6).
-#[tactic(auto, unfolding(qs_grammar::specs::ParseDeclarations::declarator))]
+#[tactic(auto, unfolding(qs_parser_grammar::specs::ParseDeclarations::declarator))]
 fn declarator(context: Context, tokens: &[Terminal]) -> Result<(Declarator, u32, &[Terminal]), Halt>
     ensures gives { Reads declarator_tree result (declarator context.room tokens.now) }
     ensures low { IfOk result (λ x. x.1 ≤ context.room) }
@@ -235,7 +235,7 @@ fn initialised(
 }
 
 /// A variable with its initialiser (C11 6.7).
-#[tactic(auto, unfolding(qs_grammar::specs::ParseDeclarations::variable))]
+#[tactic(auto, unfolding(qs_parser_grammar::specs::ParseDeclarations::variable))]
 fn variable(context: Context, tokens: &[Terminal]) -> Result<(Variable, u32, &[Terminal]), Halt>
     ensures gives { Reads variable_tree result (variable context.room tokens.now) }
     ensures low { IfOk result (λ x. x.1 ≤ context.room + 1) }
@@ -282,7 +282,7 @@ pub fn declared(
 }
 
 /// A declaration (C11 6.7).
-#[tactic(auto, unfolding(qs_grammar::specs::ParseDeclarations::declaration))]
+#[tactic(auto, unfolding(qs_parser_grammar::specs::ParseDeclarations::declaration))]
 fn declaration(
     context: Context,
     tokens: &[Terminal],
@@ -334,7 +334,7 @@ fn declarators(
 }
 
 /// A group of members with their type (C11 6.7.2.1).
-#[tactic(auto, unfolding(qs_grammar::specs::ParseDeclarations::members))]
+#[tactic(auto, unfolding(qs_parser_grammar::specs::ParseDeclarations::members))]
 fn members(context: Context, tokens: &[Terminal]) -> Result<(Members, u32, &[Terminal]), Halt>
     ensures gives { Reads members_tree result (members context.room tokens.now) }
     ensures low { IfOk result (λ x. x.1 ≤ context.room + 1) }
@@ -434,7 +434,7 @@ fn without_first(tokens: &[Terminal]) -> &[Terminal]
 }
 
 /// A parameter (C11 6.7.6.3).
-#[tactic(auto, unfolding(qs_grammar::specs::ParseDeclarations::parameter))]
+#[tactic(auto, unfolding(qs_parser_grammar::specs::ParseDeclarations::parameter))]
 fn parameter(context: Context, tokens: &[Terminal]) -> Result<(Parameter, u32, &[Terminal]), Halt>
     ensures gives { ReadsParameter result (parameter context.room tokens.now) }
     ensures low { IfOk result (λ x. x.1 ≤ context.room + 1) }
@@ -484,7 +484,7 @@ fn is_void_head(tokens: &[Terminal]) -> bool
 }
 
 /// The parameters of a header and the parenthesis at their end, behind the first (C11 6.7.6.3).
-#[tactic(auto, unfolding(qs_grammar::specs::ParseDeclarations::head))]
+#[tactic(auto, unfolding(qs_parser_grammar::specs::ParseDeclarations::head))]
 pub fn head(
     context: Context,
     tokens: &[Terminal],

@@ -1,7 +1,7 @@
 // From tokens to a unit.
 ghost use Rattle.std.specs.Prelude.{◌≡◌, ◌+◌, ◌≤◌, ◌<◌, ◌^◌, true, length};
 ghost use Rattle.std.specs.List.{list_all};
-ghost use Rattle.qs_vocabulary.specs.WellFormed.{is_well_formed};
+ghost use Rattle.qs_syntax_vocabulary.specs.WellFormed.{is_well_formed};
 ghost use Rattle.qs_lexer.specs.Tokens.{Tokens};
 ghost use Rattle.qs_lexer.specs.Terminals.{terminals};
 ghost use Rattle.qs_parser.specs.Answers.{Answers, IsDecision};
@@ -11,7 +11,7 @@ use crate::units::read_unit;
 use qs_lexer::terminals;
 use qs_parser_expressions::Halt;
 use qs_syntax::{Unit, numbered};
-use qs_vocabulary::{Terminal, Token};
+use qs_syntax_vocabulary::{Terminal, Token};
 use std::alloc::Global;
 
 /// The number of the token at which this many are left of these.

@@ -3,10 +3,10 @@
 // of a first token.
 ghost use Rattle.std.specs.Prelude.{◌≡◌, ◌+◌, ◌≤◌, ◌∷◌, IfOk};
 ghost use Rattle.qs_syntax.specs.TreeOf.{expr_tree, option_tree, start_tree, stmt_tree};
-ghost use Rattle.qs_grammar.specs.ParseStatements.{optional, condition, start_of, begins_statement};
-ghost use Rattle.qs_grammar.specs.ParseStatements.{item, items, in_block, otherwise, after_if};
-ghost use Rattle.qs_grammar.specs.ParseStatements.{after_while, expect_while, after_do, after_for};
-ghost use Rattle.qs_grammar.specs.ParseStatements.{after_return, running, statement_at, statement};
+ghost use Rattle.qs_parser_grammar.specs.ParseStatements.{optional, condition, start_of, begins_statement};
+ghost use Rattle.qs_parser_grammar.specs.ParseStatements.{item, items, in_block, otherwise, after_if};
+ghost use Rattle.qs_parser_grammar.specs.ParseStatements.{after_while, expect_while, after_do, after_for};
+ghost use Rattle.qs_parser_grammar.specs.ParseStatements.{after_return, running, statement_at, statement};
 ghost use Rattle.qs_parser_expressions.specs.View.{Gives, Reads, ReadsList, rest_of};
 ghost use Rattle.qs_parser.specs.UnitView.{boxed_stmt, second_tree};
 ghost use Rattle.qs_parser_expressions.specs.Heads.{is_nesting};
@@ -20,7 +20,7 @@ use qs_parser_expressions::{
     part, place, starts, starts_with, strip,
 };
 use qs_syntax::{Expr, Start, Stmt};
-use qs_vocabulary::{Keyword, Punctuator, Terminal};
+use qs_syntax_vocabulary::{Keyword, Punctuator, Terminal};
 
 /// An expression, if there is one, and the punctuator behind it.
 fn optional(

@@ -2,8 +2,8 @@
 ghost use Rattle.std.specs.Prelude.{◌≡◌, ◌+◌, ◌-◌, ◌<◌, ◌≤◌, [], IfOk};
 ghost use Rattle.qs_syntax.specs.TreeOf.{body_tree, decl_tree};
 ghost use Rattle.qs_syntax.specs.Units.{height_limit};
-ghost use Rattle.qs_grammar.specs.ParseStatements.{is_named, struct_of, forward_of, function_of};
-ghost use Rattle.qs_grammar.specs.ParseStatements.{typed, external, is_empty, externals, unit};
+ghost use Rattle.qs_parser_grammar.specs.ParseStatements.{is_named, struct_of, forward_of, function_of};
+ghost use Rattle.qs_parser_grammar.specs.ParseStatements.{typed, external, is_empty, externals, unit};
 ghost use Rattle.qs_parser_expressions.specs.View.{Gives, Reads, ReadsList};
 ghost use Rattle.qs_parser.specs.UnitView.{function_with, unit_of};
 ghost use Rattle.qs_parser_expressions.specs.Readers.{most_levels};
@@ -16,7 +16,7 @@ use qs_parser_expressions::{
     Context, Halt, expect, expect_name, is_keyword, outer_type, place, stars, starts, strip,
 };
 use qs_syntax::{Base, Decl, Forward, Function, Node, Parameter, Stmt, Struct, TypeName};
-use qs_vocabulary::{Keyword, Punctuator, Terminal};
+use qs_syntax_vocabulary::{Keyword, Punctuator, Terminal};
 use std::alloc::Global;
 
 /// The height to which the parts of a function's body are read: with it the unit is at most 128
@@ -102,7 +102,7 @@ fn function(header: Header, body: Option<Vec<Stmt>>) -> Decl
 }
 
 /// What stands behind a header's parameters: a semicolon or a body (C11 6.7.6.3, 6.9.1).
-#[tactic(auto, unfolding(qs_grammar::specs::ParseStatements::body_of))]
+#[tactic(auto, unfolding(qs_parser_grammar::specs::ParseStatements::body_of))]
 fn body_of(
     context: Context,
     header: Header,
@@ -169,7 +169,7 @@ fn typed(
 }
 
 /// A struct, a function or variables (C11 6.9).
-#[tactic(auto, unfolding(qs_grammar::specs::ParseStatements::external))]
+#[tactic(auto, unfolding(qs_parser_grammar::specs::ParseStatements::external))]
 fn external(context: Context, tokens: &[Terminal]) -> Result<(Decl, u32, &[Terminal]), Halt>
     requires fits { context.room < most_levels }
     ensures gives { Reads decl_tree result (external context.room tokens.now) }
@@ -223,7 +223,7 @@ fn externals(context: Context, tokens: &[Terminal]) -> Result<(Vec<Decl>, u32, &
 
 /// All of the tokens as a unit (C11 6.9) that is at most 128 high, not yet numbered, and how high
 /// it is.
-#[tactic(auto, unfolding(qs_grammar::specs::ParseStatements::unit))]
+#[tactic(auto, unfolding(qs_parser_grammar::specs::ParseStatements::unit))]
 pub fn read_unit(alloc: Global, tokens: &[Terminal]) -> Result<(Vec<Decl>, u32), Halt>
     ensures gives { Gives unit_of result (unit (height_limit - 2) tokens.now) }
     ensures low { IfOk result (λ x. x.1 ≤ height_limit) }

@@ -1,13 +1,13 @@
 -- Turns of the loops that read expressions.
 use Rattle.std.proofs.Common.{◌≡◌, ℕ, zero, suc, ◌+◌, ◌-◌, ◌<◌, ◌≤◌, cond, List, [], ◌∷◌, ◌++◌, length, map, Ok, Err, refl, ap, arith}
 use Rattle.std.specs.Prelude.{max}
-use Rattle.qs_vocabulary.specs.declared.terminal.Terminal.{Terminal}
-use Rattle.qs_vocabulary.specs.declared.punctuator.Punctuator.TheVariants as punctuators
+use Rattle.qs_syntax_vocabulary.specs.declared.terminal.Terminal.{Terminal}
+use Rattle.qs_syntax_vocabulary.specs.declared.punctuator.Punctuator.TheVariants as punctuators
 use Rattle.qs_syntax.specs.Trees.{unnumbered, ExprTree, expr, comma}
 use Rattle.qs_syntax.specs.Reads.{Form, Assignment}
-use Rattle.qs_vocabulary.specs.Operators.{binary_of}
-use Rattle.qs_grammar.specs.Heads.{starts, operator_at}
-use Rattle.qs_grammar.specs.Parse.{Parse, Unexpected, Deep, read_on, E, unexpected, above, expect, begins_one, starts_suffix, operator_of_level, after_argument, arguments, suffix, suffixes, operation_at, operations, commas, expression, part}
+use Rattle.qs_syntax_vocabulary.specs.Operators.{binary_of}
+use Rattle.qs_parser_grammar.specs.Heads.{starts, operator_at}
+use Rattle.qs_parser_grammar.specs.Parse.{Parse, Unexpected, Deep, read_on, E, unexpected, above, expect, begins_one, starts_suffix, operator_of_level, after_argument, arguments, suffix, suffixes, operation_at, operations, commas, expression, part}
 
 pub part_more : (n : ℕ) (form : Form) (ts : List Terminal) → 0 < n → part n form ts ≡ expression (n - 1) (part (n - 1)) form ts
 unfolding part

@@ -1,14 +1,14 @@
 -- Turns of the loop that reads operators between operands.
 use Rattle.std.proofs.Common.{◌≡◌, ℕ, ◌+◌, ◌-◌, ◌<◌, cond, List, [], ◌∷◌, Result, Ok, Option, Some, None, refl, ◌∙◌}
 use Rattle.std.specs.Prelude.{max, nat_le}
-use Rattle.qs_vocabulary.specs.declared.terminal.Terminal.{Terminal}
-use Rattle.qs_vocabulary.specs.declared.operators.BinaryOperator.{BinaryOperator}
+use Rattle.qs_syntax_vocabulary.specs.declared.terminal.Terminal.{Terminal}
+use Rattle.qs_syntax_vocabulary.specs.declared.operators.BinaryOperator.{BinaryOperator}
 use Rattle.qs_syntax.specs.Trees.{unnumbered, expr, binary}
 use Rattle.qs_syntax.specs.Reads.{Form}
-use Rattle.qs_vocabulary.specs.Operators.{binary_of}
-use Rattle.qs_grammar.specs.Heads.{operator_at}
-use Rattle.qs_grammar.specs.Parse.{Parse, Stop, read_on, E, deep, operator_of_level, operation_at, operations}
-use Rattle.qs_grammar.specs.Operands.{right_operand}
+use Rattle.qs_syntax_vocabulary.specs.Operators.{binary_of}
+use Rattle.qs_parser_grammar.specs.Heads.{operator_at}
+use Rattle.qs_parser_grammar.specs.Parse.{Parse, Stop, read_on, E, deep, operator_of_level, operation_at, operations}
+use Rattle.qs_parser_grammar.specs.Operands.{right_operand}
 use Rattle.qs_parser_expressions.proofs.CodeExpressions.{operations_more, operations_end}
 
 -- what is read behind an operand, with or without an operator

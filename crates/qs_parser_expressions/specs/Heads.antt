@@ -1,9 +1,9 @@
 -- What tokens begin with.
 use Rattle.std.specs.Prelude.{List, Bool, ◌||◌}
-use Rattle.qs_vocabulary.specs.declared.terminal.Terminal.{Terminal}
-use Rattle.qs_vocabulary.specs.declared.punctuator.Punctuator.TheVariants as punctuators
+use Rattle.qs_syntax_vocabulary.specs.declared.terminal.Terminal.{Terminal}
+use Rattle.qs_syntax_vocabulary.specs.declared.punctuator.Punctuator.TheVariants as punctuators
 use Rattle.qs_base.specs.declared.keyword.Keyword.TheVariants as keywords
-use Rattle.qs_grammar.specs.Heads.{is_keyword, starts, starts_step}
+use Rattle.qs_parser_grammar.specs.Heads.{is_keyword, starts, starts_step}
 
 -- a parenthesis or a step by one stands first
 abbrev pub opens_or_steps : List Terminal → Bool

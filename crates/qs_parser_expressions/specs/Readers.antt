@@ -1,13 +1,13 @@
 -- The grammar's readers of expressions, with the room that a context leaves for the parts. What the code's functions are given stands in their order.
 use Rattle.std.specs.Prelude.{ℕ, Option, length, Box}
 use Rattle.std.specs.declared.alloc.Global.{Global}
-use Rattle.qs_vocabulary.specs.declared.operators.Access.{Access}
-use Rattle.qs_vocabulary.specs.declared.operators.AssignmentOperator.{AssignmentOperator}
+use Rattle.qs_syntax_vocabulary.specs.declared.operators.Access.{Access}
+use Rattle.qs_syntax_vocabulary.specs.declared.operators.AssignmentOperator.{AssignmentOperator}
 use Rattle.qs_syntax.specs.declared.expressions.Expr.{Expr}
 use Rattle.qs_syntax.specs.Reads.{Form}
 use Rattle.qs_syntax.specs.TreeOf.{expr_tree}
-use Rattle.qs_grammar.specs.Parse as parse
-use Rattle.qs_grammar.specs.Parse.{Parse, E, part}
+use Rattle.qs_parser_grammar.specs.Parse as parse
+use Rattle.qs_parser_grammar.specs.Parse.{Parse, E, part}
 use Rattle.qs_parser_expressions.specs.declared.context.Context.{Context}
 use Rattle.qs_parser_expressions.specs.View.{boxed_expr}
 

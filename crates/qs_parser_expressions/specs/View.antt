@@ -3,7 +3,7 @@ use Rattle.std.specs.Prelude.{◌≡◌, ℕ, List, [], length, Result, Ok, Err,
 use Rattle.std.specs.Borrow.{Bor}
 use Rattle.std.specs.declared.alloc.Global.{Global}
 use Rattle.std.specs.declared.vec.Vec.{Vec}
-use Rattle.qs_vocabulary.specs.declared.terminal.Terminal.{Terminal}
+use Rattle.qs_syntax_vocabulary.specs.declared.terminal.Terminal.{Terminal}
 use Rattle.qs_syntax.specs.declared.types.Base.{Base}
 use Rattle.qs_syntax.specs.declared.expressions.Expr.{Expr}
 use Rattle.qs_syntax.specs.declared.types.TypeName.{TypeName}
@@ -14,7 +14,7 @@ use Rattle.qs_parser_expressions.specs.declared.expressions.Form as forms
 use Rattle.qs_parser_expressions.specs.declared.expressions.Form.TheVariants as variants
 use Rattle.qs_parser_expressions.specs.declared.halt.Halt.{Halt}
 use Rattle.qs_parser_expressions.specs.declared.halt.Halt.TheVariants as halts
-use Rattle.qs_grammar.specs.Parse.{Stop, Unexpected, Deep, Parse}
+use Rattle.qs_parser_grammar.specs.Parse.{Stop, Unexpected, Deep, Parse}
 
 -- What a function answers, seen by `view`, is what the function on lists gives, unless memory runs out.
 abbrev pub Fails : {Y : Type 0} → Halt → Result Y Stop → Type 0

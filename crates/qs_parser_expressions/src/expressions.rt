@@ -3,13 +3,13 @@
 // it. An operand that was read before comes with its height, and `start` is the place of its first
 // token.
 ghost use Rattle.std.specs.Prelude.{◌≡◌, ◌+◌, ◌≤◌, ◌∷◌, Ok, IfOk};
-ghost use Rattle.qs_vocabulary.specs.declared.terminal.Terminal.TheVariants as terminals;
+ghost use Rattle.qs_syntax_vocabulary.specs.declared.terminal.Terminal.TheVariants as terminals;
 ghost use Rattle.qs_syntax.specs.TreeOf.{expr_tree};
-ghost use Rattle.qs_grammar.specs.Parse.{expect, texts_from, arguments, call_of, after_name};
-ghost use Rattle.qs_grammar.specs.Parse.{in_parentheses, primary, postfix, step_of};
-ghost use Rattle.qs_grammar.specs.Parse.{operator_of, beyond, size_at_limit, size_of, unary_of_all};
-ghost use Rattle.qs_grammar.specs.Parse.{cast_of, cast_or_unary, assignment, expression, part};
-ghost use Rattle.qs_grammar.specs.Operands.{right_operand};
+ghost use Rattle.qs_parser_grammar.specs.Parse.{expect, texts_from, arguments, call_of, after_name};
+ghost use Rattle.qs_parser_grammar.specs.Parse.{in_parentheses, primary, postfix, step_of};
+ghost use Rattle.qs_parser_grammar.specs.Parse.{operator_of, beyond, size_at_limit, size_of, unary_of_all};
+ghost use Rattle.qs_parser_grammar.specs.Parse.{cast_of, cast_or_unary, assignment, expression, part};
+ghost use Rattle.qs_parser_grammar.specs.Operands.{right_operand};
 ghost use Rattle.qs_parser_expressions.specs.View.{Gives, Reads, ReadsList, ReadsExpr, behind_of, boxed_expr};
 ghost use Rattle.qs_parser_expressions.specs.View.{texts_of, form_of};
 ghost use Rattle.qs_parser_expressions.specs.Readers.{with_parts, index_of, member_of, suffix, suffixes};
@@ -26,7 +26,7 @@ use crate::nodes;
 use crate::types::type_name;
 use qs_base::Name;
 use qs_syntax::Expr;
-use qs_vocabulary::{
+use qs_syntax_vocabulary::{
     Access, AssignmentOperator, Keyword, Punctuator, StepOperator, Terminal, Text, UnaryOperator,
     WEAKEST,
 };
@@ -51,7 +51,7 @@ pub enum Form {
 }
 
 /// The texts that stand side by side, the first given, joined.
-#[tactic(auto, unfolding(qs_grammar::specs::Parse::texts_from))]
+#[tactic(auto, unfolding(qs_parser_grammar::specs::Parse::texts_from))]
 fn texts_from<'a>(
     alloc: Global,
     first: &Text,
@@ -91,7 +91,7 @@ pub fn part(
 
 /// An expression of this form.
 #[cycle(parser)]
-#[tactic(auto, unfolding(qs_grammar::specs::Parse::expression))]
+#[tactic(auto, unfolding(qs_parser_grammar::specs::Parse::expression))]
 fn expression(
     context: Context,
     form: Form,
@@ -216,7 +216,7 @@ fn in_parentheses(context: Context, tokens: &[Terminal]) -> Result<(Expr, u32, &
 
 /// An operand without suffixes (C11 6.5.1), or a call.
 #[cycle(parser)]
-#[tactic(auto, unfolding(qs_grammar::specs::Parse::primary))]
+#[tactic(auto, unfolding(qs_parser_grammar::specs::Parse::primary))]
 fn primary(context: Context, tokens: &[Terminal]) -> Result<(Expr, u32, &[Terminal]), Halt>
     ensures gives { ReadsExpr result (with_parts context primary tokens.now) }
     ensures low { IfOk result (λ x. x.1 ≤ context.room + 1) }
@@ -432,7 +432,7 @@ fn size_of(context: Context, at: u32, tokens: &[Terminal]) -> Result<(Expr, u32,
 
 /// A unary expression whose first token is a punctuator.
 #[cycle(parser)]
-#[tactic(auto, unfolding(qs_grammar::specs::Parse::unary_of_all))]
+#[tactic(auto, unfolding(qs_parser_grammar::specs::Parse::unary_of_all))]
 fn unary_at_punctuator<'a>(
     context: Context,
     at: u32,
@@ -467,7 +467,7 @@ fn unary_at_punctuator<'a>(
 
 /// A unary expression (C11 6.5.3).
 #[cycle(parser)]
-#[tactic(auto, unfolding(qs_grammar::specs::Parse::unary_of_all))]
+#[tactic(auto, unfolding(qs_parser_grammar::specs::Parse::unary_of_all))]
 fn unary(context: Context, tokens: &[Terminal]) -> Result<(Expr, u32, &[Terminal]), Halt>
     ensures gives { ReadsExpr result (with_parts context unary_of_all tokens.now) }
     ensures low { IfOk result (λ x. x.1 ≤ context.room + 1) }
@@ -572,7 +572,7 @@ fn operations(
 
 /// The operators of the levels up to this, behind an operand.
 #[cycle(parser)]
-#[tactic(auto, unfolding(qs_grammar::specs::Parse::climb))]
+#[tactic(auto, unfolding(qs_parser_grammar::specs::Parse::climb))]
 fn climb(
     context: Context,
     level: u8,

@@ -1,17 +1,17 @@
 // What tokens begin with.
 ghost use Rattle.std.specs.Prelude.{◌≡◌, Ok, is_some, IfSome};
 ghost use Rattle.qs_syntax.specs.Reads.{place};
-ghost use Rattle.qs_vocabulary.specs.Operators.{access_of, assign_of, binary_of};
-ghost use Rattle.qs_grammar.specs.Heads.{is_punctuator, is_keyword, starts, starts_with};
-ghost use Rattle.qs_grammar.specs.Heads.{starts_step, operator_at, begins_type};
-ghost use Rattle.qs_grammar.specs.Parse.{expect, expect_name, begins_one, begins_cast};
-ghost use Rattle.qs_grammar.specs.Parse.{starts_suffix, operator_of_level};
+ghost use Rattle.qs_syntax_vocabulary.specs.Operators.{access_of, assign_of, binary_of};
+ghost use Rattle.qs_parser_grammar.specs.Heads.{is_punctuator, is_keyword, starts, starts_with};
+ghost use Rattle.qs_parser_grammar.specs.Heads.{starts_step, operator_at, begins_type};
+ghost use Rattle.qs_parser_grammar.specs.Parse.{expect, expect_name, begins_one, begins_cast};
+ghost use Rattle.qs_parser_grammar.specs.Parse.{starts_suffix, operator_of_level};
 ghost use Rattle.qs_parser_expressions.specs.View.{Gives, rest_of, name_of};
 ghost use Rattle.qs_parser_expressions.specs.Heads.{opens_or_steps};
 
 use crate::halt::Halt;
 use qs_base::Name;
-use qs_vocabulary::{
+use qs_syntax_vocabulary::{
     Access, AssignmentOperator, BinaryOperator, Keyword, Punctuator, Terminal, UnaryOperator,
 };
 use std::alloc::Global;

@@ -8,7 +8,7 @@ ghost use Rattle.qs_parser_expressions.specs.Nodes.{IsExpr, conditional_of};
 
 use qs_base::Name;
 use qs_syntax::{Expr, Node, Shape, TypeName};
-use qs_vocabulary::{
+use qs_syntax_vocabulary::{
     Access, AssignmentOperator, BinaryOperator, StepOperator, Text, UnaryOperator,
 };
 

@@ -1,14 +1,14 @@
 // Types (C11 6.7.2, 6.7.3, 6.7.6, 6.7.7).
 ghost use Rattle.std.specs.Prelude.{◌≡◌, Ok};
-ghost use Rattle.qs_grammar.specs.Parse.{skip_consts, after_unsigned, after_signed, tagged, base};
-ghost use Rattle.qs_grammar.specs.Parse.{type, stars_from, stars, type_name};
-ghost use Rattle.qs_grammar.specs.ParseDeclarations.{skip_prefixes, outer_type};
+ghost use Rattle.qs_parser_grammar.specs.Parse.{skip_consts, after_unsigned, after_signed, tagged, base};
+ghost use Rattle.qs_parser_grammar.specs.Parse.{type, stars_from, stars, type_name};
+ghost use Rattle.qs_parser_grammar.specs.ParseDeclarations.{skip_prefixes, outer_type};
 ghost use Rattle.qs_parser_expressions.specs.View.{Gives, base_of, stars_of, type_name_of};
 
 use crate::halt::Halt;
 use crate::heads::{expect_name, is_keyword, is_punctuator, starts};
 use qs_syntax::{Base, TypeName};
-use qs_vocabulary::{Keyword, Punctuator, Terminal};
+use qs_syntax_vocabulary::{Keyword, Punctuator, Terminal};
 use std::alloc::Global;
 
 /// What stands behind any number of `const`.
@@ -105,7 +105,7 @@ fn skip_prefixes(tokens: &[Terminal]) -> &[Terminal]
 
 /// A type without stars at file scope, with `const` on both sides and `static` before it (C11
 /// 6.7.1).
-#[tactic(auto, unfolding(qs_grammar::specs::ParseDeclarations::outer_type))]
+#[tactic(auto, unfolding(qs_parser_grammar::specs::ParseDeclarations::outer_type))]
 pub fn outer_type(alloc: Global, tokens: &[Terminal]) -> Result<(Base, &[Terminal]), Halt>
     ensures { Gives base_of result (outer_type tokens.now) }
 {
@@ -133,7 +133,7 @@ fn stars_from(tokens: &[Terminal]) -> Result<(u32, &[Terminal]), Halt>
 
 /// The count of the stars, each with any number of `const` behind it (C11 6.7.6.1), and what
 /// follows.
-#[tactic(auto, unfolding(qs_grammar::specs::Parse::stars))]
+#[tactic(auto, unfolding(qs_parser_grammar::specs::Parse::stars))]
 pub fn stars(tokens: &[Terminal]) -> Result<(u32, &[Terminal]), Halt>
     ensures { Gives stars_of result (Ok (stars tokens.now)) }
 {
@@ -145,7 +145,7 @@ pub fn stars(tokens: &[Terminal]) -> Result<(u32, &[Terminal]), Halt>
 }
 
 /// The name of a type (C11 6.7.7).
-#[tactic(auto, unfolding(qs_grammar::specs::Parse::type_name))]
+#[tactic(auto, unfolding(qs_parser_grammar::specs::Parse::type_name))]
 pub fn type_name(alloc: Global, tokens: &[Terminal]) -> Result<(TypeName, &[Terminal]), Halt>
     ensures { Gives type_name_of result (type_name tokens.now) }
 {

@@ -3,9 +3,9 @@ use Rattle.std.proofs.Common.{◌≡◌, true, false, [], ◌∷◌, ◌++◌, c
 use Rattle.std.specs.Fmt.{digits}
 use Rattle.qs_print.specs.Laws.{renumbered}
 use Rattle.qs_print.specs.Spelling.{joined, spelling}
-use Rattle.qs_vocabulary.specs.declared.terminal.Terminal.TheVariants.{Name, Keyword, Constant, Text, Punctuator}
+use Rattle.qs_syntax_vocabulary.specs.declared.terminal.Terminal.TheVariants.{Name, Keyword, Constant, Text, Punctuator}
 use Rattle.qs_base.specs.declared.keyword.Keyword.TheVariants as keywords
-use Rattle.qs_vocabulary.specs.declared.punctuator.Punctuator.TheVariants as punctuators
+use Rattle.qs_syntax_vocabulary.specs.declared.punctuator.Punctuator.TheVariants as punctuators
 
 a_declaration : joined (Keyword 0 keywords.Int ∷ Name 0 (codes "x") ∷ Punctuator 0 punctuators.Assign ∷ Constant 0 10 false ∷ Punctuator 0 punctuators.Semicolon ∷ []) ≡ codes "int x = 10 ;" ++ 10 ∷ []
 unfolding digits

@@ -6,11 +6,11 @@ use Rattle.qs_lexer.specs.Bytes.{is_space}
 use Rattle.qs_lexer.specs.Terminals.{terminal_of}
 use Rattle.qs_lexer.specs.Pieces.{Next, still_fresh}
 use Rattle.qs_lexer.specs.declared.pieces.Piece.TheVariants as pieces
-use Rattle.qs_vocabulary.specs.WellFormed.{is_well_formed}
-use Rattle.qs_vocabulary.specs.declared.terminal.Terminal.{Terminal}
-use Rattle.qs_vocabulary.specs.declared.terminal.Terminal.TheVariants.{Name, Keyword, Constant, Text, Punctuator}
-use Rattle.qs_vocabulary.specs.declared.tokens.TokenKind.{TokenKind}
-use Rattle.qs_vocabulary.specs.declared.tokens.TokenKind.TheVariants as kinds
+use Rattle.qs_syntax_vocabulary.specs.WellFormed.{is_well_formed}
+use Rattle.qs_syntax_vocabulary.specs.declared.terminal.Terminal.{Terminal}
+use Rattle.qs_syntax_vocabulary.specs.declared.terminal.Terminal.TheVariants.{Name, Keyword, Constant, Text, Punctuator}
+use Rattle.qs_syntax_vocabulary.specs.declared.tokens.TokenKind.{TokenKind}
+use Rattle.qs_syntax_vocabulary.specs.declared.tokens.TokenKind.TheVariants as kinds
 use Rattle.qs_lexer.proofs.RestOfText.{LexesAs, Lexed, lexed, nothing_left, token_then, white_then}
 use Rattle.qs_print.specs.Laws.{LexedBack, numbered, renumbered}
 use Rattle.qs_print.specs.Spelling.{joined, spelling}

@@ -13,8 +13,8 @@ use Rattle.qs_lexer.specs.Pieces.{Next}
 use Rattle.qs_lexer.specs.declared.fault.FaultKind.{FaultKind}
 use Rattle.qs_lexer.specs.declared.fault.FaultKind.TheVariants as faults
 use Rattle.qs_lexer.specs.declared.pieces.Piece.TheVariants as pieces
-use Rattle.qs_vocabulary.specs.declared.tokens.TokenKind.{TokenKind}
-use Rattle.qs_vocabulary.specs.declared.tokens.TokenKind.TheVariants as kinds
+use Rattle.qs_syntax_vocabulary.specs.declared.tokens.TokenKind.{TokenKind}
+use Rattle.qs_syntax_vocabulary.specs.declared.tokens.TokenKind.TheVariants as kinds
 use Rattle.qs_lexer.proofs.Conjunctions.{and_false}
 use Rattle.qs_lexer.proofs.TokenEnds.{number_next}
 use Rattle.qs_print.specs.Spelling.{suffix}

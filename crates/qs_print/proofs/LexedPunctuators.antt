@@ -8,14 +8,14 @@ use Rattle.qs_base.specs.Bytes.{is_digit, is_letter}
 use Rattle.qs_lexer.specs.Bytes.{is_space, starts_with}
 use Rattle.qs_lexer.specs.Pieces.{Next, Stands, class_of, class_with, token_or_fault}
 use Rattle.qs_lexer.specs.Words.{punctuator_with}
-use Rattle.qs_vocabulary.specs.Punctuators.{punctuator_of, punctuator_spelling}
+use Rattle.qs_syntax_vocabulary.specs.Punctuators.{punctuator_of, punctuator_spelling}
 use Rattle.qs_lexer.specs.declared.pieces.Class.TheVariants.{Other}
 use Rattle.qs_lexer.specs.declared.pieces.Piece.TheVariants as pieces
-use Rattle.qs_vocabulary.specs.declared.punctuator.Punctuator.{Punctuator}
-use Rattle.qs_vocabulary.specs.declared.tokens.TokenKind.TheVariants as kinds
+use Rattle.qs_syntax_vocabulary.specs.declared.punctuator.Punctuator.{Punctuator}
+use Rattle.qs_syntax_vocabulary.specs.declared.tokens.TokenKind.TheVariants as kinds
 use Rattle.qs_lexer.proofs.PieceClasses.{next_is}
 use Rattle.qs_lexer.proofs.Conjunctions.{and_false}
-use Rattle.qs_vocabulary.proofs.PunctuatorLaws.{each_punctuator, no_punctuator, punctuator_of-spelling}
+use Rattle.qs_syntax_vocabulary.proofs.PunctuatorLaws.{each_punctuator, no_punctuator, punctuator_of-spelling}
 use Rattle.qs_print.proofs.LexedWords.{both, is_gap, not_true}
 
 -- ---- no punctuator has a gap within

@@ -13,8 +13,8 @@ use Rattle.qs_lexer.specs.declared.literals.Element.{Element}
 use Rattle.qs_lexer.specs.declared.literals.Element.TheVariants as item
 use Rattle.qs_lexer.specs.declared.pieces.Class.TheVariants.{Text}
 use Rattle.qs_lexer.specs.declared.pieces.Piece.TheVariants as pieces
-use Rattle.qs_vocabulary.specs.WellFormed.{is_byte}
-use Rattle.qs_vocabulary.specs.declared.tokens.TokenKind.TheVariants as kinds
+use Rattle.qs_syntax_vocabulary.specs.WellFormed.{is_byte}
+use Rattle.qs_syntax_vocabulary.specs.declared.tokens.TokenKind.TheVariants as kinds
 use Rattle.qs_lexer.proofs.PieceClasses.{next_is}
 use Rattle.qs_lexer.proofs.LiteralElements.{first_and_others}
 use Rattle.qs_lexer.proofs.ScanTokens.{text_ends}

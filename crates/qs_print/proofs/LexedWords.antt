@@ -8,7 +8,7 @@ use Rattle.qs_base.specs.declared.keyword.Keyword.{Keyword}
 use Rattle.qs_lexer.specs.Pieces.{Next}
 use Rattle.qs_lexer.specs.Words.{word_with}
 use Rattle.qs_lexer.specs.declared.pieces.Piece.TheVariants as pieces
-use Rattle.qs_vocabulary.specs.declared.tokens.TokenKind.TheVariants as kinds
+use Rattle.qs_syntax_vocabulary.specs.declared.tokens.TokenKind.TheVariants as kinds
 use Rattle.qs_base.proofs.KeywordLaws.{each_keyword, keyword_of-spelling}
 use Rattle.qs_lexer.proofs.TokenEnds.{word_next}
 

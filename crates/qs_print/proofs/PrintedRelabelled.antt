@@ -5,7 +5,7 @@ use Rattle.qs_syntax.specs.Nodes.{all_count, decl_count, declarator_count, expr_
 use Rattle.qs_syntax.specs.Numbering.{Relabelling, relabel_all, relabel_decl, relabel_declaration, relabel_declarator, relabel_else, relabel_expr, relabel_exprs, relabel_function, relabel_initialiser, relabel_initialisers, relabel_lengths, relabel_members, relabel_option, relabel_parameter, relabel_shape, relabel_start, relabel_stmt, relabel_stmts, relabel_struct, relabel_unit, relabel_variable}
 use Rattle.qs_print.specs.Levels.{assignment_level, conditional_level, level, shape_level}
 use Rattle.qs_print.specs.Printed.{behind_commas, further_arguments, further_initialisers, is_without_brackets, printed_arguments, printed_body, printed_decl, printed_declaration, printed_declarator, printed_else, printed_expr, printed_function, printed_initialiser, printed_initialisers, printed_length, printed_lengths, printed_members, printed_optional, printed_parameter, printed_parameters, printed_part, printed_setting, printed_shape, printed_start, printed_stmt, printed_stmts, printed_struct, printed_unit, printed_variable, with_commas}
-use Rattle.qs_vocabulary.specs.declared.terminal.Terminal.{Terminal}
+use Rattle.qs_syntax_vocabulary.specs.declared.terminal.Terminal.{Terminal}
 
 module _ (f : Relabelling) {A : Type 0} (printed : A → List Terminal) (count : A → ℕ) (relabel : ℕ → A → A) (same : (n : ℕ) (x : A) → printed (relabel n x) ≡ printed x) where
   row_same : (n : ℕ) (xs : List A) → flat_map printed (relabel_all f count relabel n xs) ≡ flat_map printed xs

@@ -3,11 +3,11 @@ use Rattle.std.proofs.Common.{◌≡◌, ℕ, zero, suc, Bool, true, false, ◌&
 use Rattle.std.specs.List.{list_all}
 use Rattle.std.proofs.lemmas.List.Folds.{list_all-append}
 use Rattle.qs_base.specs.Names.{is_name}
-use Rattle.qs_vocabulary.specs.WellFormed.{is_byte, is_well_formed}
-use Rattle.qs_vocabulary.specs.declared.terminal.Terminal.{Terminal}
+use Rattle.qs_syntax_vocabulary.specs.WellFormed.{is_byte, is_well_formed}
+use Rattle.qs_syntax_vocabulary.specs.declared.terminal.Terminal.{Terminal}
 use Rattle.qs_syntax.specs.declared.types.Base.{Base}
-use Rattle.qs_vocabulary.specs.declared.operators.StepOperator.{StepOperator}
-use Rattle.qs_vocabulary.specs.declared.operators.StepOperator.TheVariants as steps
+use Rattle.qs_syntax_vocabulary.specs.declared.operators.StepOperator.{StepOperator}
+use Rattle.qs_syntax_vocabulary.specs.declared.operators.StepOperator.TheVariants as steps
 use Rattle.qs_syntax.specs.declared.types.TypeName.{TypeName}
 use Rattle.qs_syntax.specs.Trees.{ExprTree, Exprs}
 use Rattle.qs_syntax.specs.Reads.{ReadsTexts, no_text, a_further_text, Reads, Form, a_name, an_empty_call, a_call, a_constant, a_text, in_parentheses, an_index, a_member, an_increment_after, a_decrement_after, a_postfix, an_increment, a_decrement, an_operator, a_size_of_type, a_size_of_value, a_cast, an_operand, stronger, an_operation, a_plain_level, a_choice, a_plain_conditional, an_assignment, a_plain_assignment, a_comma, ReadsArguments, a_last_argument, an_argument}

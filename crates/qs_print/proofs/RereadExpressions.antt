@@ -2,16 +2,16 @@
 use Rattle.std.proofs.Common.{◌≡◌, ℕ, zero, suc, ◌+◌, ◌-◌, ◌≤◌, Bool, true, false, List, [], ◌∷◌, ◌++◌, length, refl, sym, ap, subst, append-nil, arith}
 use Rattle.std.specs.Prelude.{max, nat_le}
 use Rattle.std.proofs.lemmas.Bool.{leb-true, le-leb}
-use Rattle.qs_vocabulary.specs.declared.terminal.Terminal.{Terminal}
-use Rattle.qs_vocabulary.specs.declared.terminal.Terminal.TheVariants.{Name, Text, Punctuator}
-use Rattle.qs_vocabulary.specs.declared.punctuator.Punctuator.TheVariants as punctuators
-use Rattle.qs_vocabulary.specs.declared.operators.UnaryOperator.{UnaryOperator}
-use Rattle.qs_vocabulary.specs.declared.operators.BinaryOperator.{BinaryOperator}
-use Rattle.qs_vocabulary.specs.declared.operators.AssignmentOperator.{AssignmentOperator}
-use Rattle.qs_vocabulary.specs.declared.operators.Access.{Access}
-use Rattle.qs_vocabulary.specs.declared.operators.StepOperator.TheVariants as steps
+use Rattle.qs_syntax_vocabulary.specs.declared.terminal.Terminal.{Terminal}
+use Rattle.qs_syntax_vocabulary.specs.declared.terminal.Terminal.TheVariants.{Name, Text, Punctuator}
+use Rattle.qs_syntax_vocabulary.specs.declared.punctuator.Punctuator.TheVariants as punctuators
+use Rattle.qs_syntax_vocabulary.specs.declared.operators.UnaryOperator.{UnaryOperator}
+use Rattle.qs_syntax_vocabulary.specs.declared.operators.BinaryOperator.{BinaryOperator}
+use Rattle.qs_syntax_vocabulary.specs.declared.operators.AssignmentOperator.{AssignmentOperator}
+use Rattle.qs_syntax_vocabulary.specs.declared.operators.Access.{Access}
+use Rattle.qs_syntax_vocabulary.specs.declared.operators.StepOperator.TheVariants as steps
 use Rattle.qs_syntax.specs.declared.types.TypeName.{TypeName}
-use Rattle.qs_vocabulary.specs.Operators.{punctuator_of_binary, precedence, weakest, punctuator_of_assign, punctuator_of_access}
+use Rattle.qs_syntax_vocabulary.specs.Operators.{punctuator_of_binary, precedence, weakest, punctuator_of_assign, punctuator_of_access}
 use Rattle.qs_syntax.specs.Trees.{unnumbered, ExprTree, expr, constant, text, name, unary, step, cast, sizeof_type, sizeof_expr, binary, assign, conditional, comma, subscript, member, call, Exprs, no_exprs, expr_and}
 use Rattle.qs_syntax.specs.Reads.{Form, Postfix, Unary, Level, Conditional, Assignment, Expression, at_first, no_text, Reads, a_name, an_empty_call, a_call, a_constant, a_text, in_parentheses, an_index, a_member, an_increment_after, a_decrement_after, a_postfix, an_increment, a_decrement, an_operator, a_size_of_type, a_size_of_value, a_cast, an_operand, stronger, an_operation, a_plain_level, a_choice, a_plain_conditional, an_assignment, a_plain_assignment, a_comma, ReadsArguments, a_last_argument, an_argument}
 use Rattle.qs_print.specs.Laws.{renumbered}
@@ -19,7 +19,7 @@ use Rattle.qs_print.specs.Levels.{level}
 use Rattle.qs_print.specs.Printed.{parentheses_unless, printed_expr, printed_part, printed_arguments, further_arguments, printed_type_name}
 use Rattle.qs_syntax.specs.WithoutTokens.{plain_expr, plain_exprs}
 use Rattle.qs_print.proofs.Rereading.{Again, Reread, renumbered_append, behind, enclosed, type_name_reads}
-use Rattle.qs_vocabulary.proofs.OperatorLaws.{precedence_within}
+use Rattle.qs_syntax_vocabulary.proofs.OperatorLaws.{precedence_within}
 
 -- ---- forms by their levels
 

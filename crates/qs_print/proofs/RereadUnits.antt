@@ -1,9 +1,9 @@
 -- The printed terminals of a unit that was read are read as that unit again, no higher.
 use Rattle.std.proofs.Common.{ℕ, suc, ◌+◌, List, [], ◌∷◌, ◌++◌, length, flat_map, Some, None, refl, ap, append-nil, arith}
 use Rattle.std.specs.Prelude.{max}
-use Rattle.qs_vocabulary.specs.declared.terminal.Terminal.{Terminal}
-use Rattle.qs_vocabulary.specs.declared.terminal.Terminal.TheVariants.{Name, Punctuator}
-use Rattle.qs_vocabulary.specs.declared.punctuator.Punctuator.TheVariants as punctuators
+use Rattle.qs_syntax_vocabulary.specs.declared.terminal.Terminal.{Terminal}
+use Rattle.qs_syntax_vocabulary.specs.declared.terminal.Terminal.TheVariants.{Name, Punctuator}
+use Rattle.qs_syntax_vocabulary.specs.declared.punctuator.Punctuator.TheVariants as punctuators
 use Rattle.qs_syntax.specs.Trees.{unnumbered, ParameterTree, Stmts, DeclTree, structure, forward, function, variables}
 use Rattle.qs_syntax.specs.Reads.{place}
 use Rattle.qs_syntax.specs.ReadsDeclarations.{ReadsAllMembers, ReadsHead, ReadsOuterDeclaration}

@@ -1,9 +1,9 @@
 -- What it is that printed terminals read back, whatever their numbers; lists, types and stars.
 use Rattle.std.proofs.Common.{◌≡◌, ℕ, zero, suc, ◌+◌, ◌≤◌, List, [], ◌∷◌, ◌++◌, Option, length, sym, ap, subst, ◌∙◌, append_assoc, append-nil, arith}
-use Rattle.qs_vocabulary.specs.declared.terminal.Terminal.{Terminal}
-use Rattle.qs_vocabulary.specs.declared.terminal.Terminal.TheVariants as terminals
-use Rattle.qs_vocabulary.specs.declared.punctuator.Punctuator.{Punctuator}
-use Rattle.qs_vocabulary.specs.declared.punctuator.Punctuator.TheVariants as punctuators
+use Rattle.qs_syntax_vocabulary.specs.declared.terminal.Terminal.{Terminal}
+use Rattle.qs_syntax_vocabulary.specs.declared.terminal.Terminal.TheVariants as terminals
+use Rattle.qs_syntax_vocabulary.specs.declared.punctuator.Punctuator.{Punctuator}
+use Rattle.qs_syntax_vocabulary.specs.declared.punctuator.Punctuator.TheVariants as punctuators
 use Rattle.qs_syntax.specs.declared.types.Base.{Base}
 use Rattle.qs_syntax.specs.declared.types.Base.TheVariants as bases
 use Rattle.qs_syntax.specs.declared.types.TypeName.{TypeName}

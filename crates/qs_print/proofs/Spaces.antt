@@ -4,9 +4,9 @@ use Rattle.std.proofs.Math.Seq.{take-append_seam, take-suc}
 use Rattle.std.proofs.lemmas.List.{length-map, length-take, map-append}
 use Rattle.std.proofs.lemmas.Grind.{flat_map-append}
 use Rattle.std.specs.Prelude.{OnOk}
-use Rattle.qs_vocabulary.specs.declared.terminal.Terminal.{Terminal}
-use Rattle.qs_vocabulary.specs.declared.terminal.Terminal.TheVariants.{Punctuator}
-use Rattle.qs_vocabulary.specs.declared.punctuator.Punctuator.TheVariants as punctuators
+use Rattle.qs_syntax_vocabulary.specs.declared.terminal.Terminal.{Terminal}
+use Rattle.qs_syntax_vocabulary.specs.declared.terminal.Terminal.TheVariants.{Punctuator}
+use Rattle.qs_syntax_vocabulary.specs.declared.punctuator.Punctuator.TheVariants as punctuators
 use Rattle.qs_syntax.specs.Trees.{ExprTree, exprs_of, InitialiserTree, initialisers_of, StmtTree, stmts_of}
 use Rattle.qs_print.specs.Levels.{assignment_level}
 use Rattle.qs_print.specs.Printed.{behind_commas, comma_unless, further_arguments, further_initialisers, printed_arguments, printed_initialiser, printed_initialisers, printed_part, printed_stars, printed_stmt, printed_stmts, with_commas}

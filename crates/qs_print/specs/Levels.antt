@@ -1,8 +1,8 @@
 -- How weakly an expression binds: as a postfix expression, as a unary one, as a cast, as the operators from `* / %` to `||`, as a
 -- conditional expression, as an assignment and as a comma (C11 6.5.2 to 6.5.17).
 use Rattle.std.specs.Prelude.{ℕ, ◌+◌, if◌then◌else◌}
-use Rattle.qs_vocabulary.specs.declared.operators.StepOperator.{StepOperator}
-use Rattle.qs_vocabulary.specs.Operators.{assignment_precedence, comma_precedence, conditional_precedence, precedence, stands_before, weakest}
+use Rattle.qs_syntax_vocabulary.specs.declared.operators.StepOperator.{StepOperator}
+use Rattle.qs_syntax_vocabulary.specs.Operators.{assignment_precedence, comma_precedence, conditional_precedence, precedence, stands_before, weakest}
 use Rattle.qs_syntax.specs.Trees.{ExprTree, expr, ShapeTree, constant, text, name, unary, step, cast, sizeof_type, sizeof_expr, binary, assign, conditional, comma, subscript, member, call}
 
 abbrev pub postfix_level : ℕ

@@ -1,17 +1,17 @@
 -- The terminals that a tree is printed as (C11 6.5 to 6.9), with parentheses only where the grammar needs them. Their tokens' numbers are
 -- all 0.
 use Rattle.std.specs.Prelude.{ℕ, zero, suc, ◌+◌, Bool, true, false, ◌&&◌, List, [], ◌∷◌, ◌++◌, nat_le, ◌==◌, if◌then◌else◌, flat_map, Option, Some, None}
-use Rattle.qs_vocabulary.specs.declared.terminal.Terminal.{Terminal}
-use Rattle.qs_vocabulary.specs.declared.terminal.Terminal.TheVariants.{Name, Keyword, Constant, Text, Punctuator}
+use Rattle.qs_syntax_vocabulary.specs.declared.terminal.Terminal.{Terminal}
+use Rattle.qs_syntax_vocabulary.specs.declared.terminal.Terminal.TheVariants.{Name, Keyword, Constant, Text, Punctuator}
 use Rattle.qs_base.specs.declared.keyword.Keyword.{Keyword as Word}
 use Rattle.qs_base.specs.declared.keyword.Keyword.TheVariants as keywords
-use Rattle.qs_vocabulary.specs.declared.punctuator.Punctuator.TheVariants as punctuators
+use Rattle.qs_syntax_vocabulary.specs.declared.punctuator.Punctuator.TheVariants as punctuators
 use Rattle.qs_syntax.specs.declared.types.Base.{Base}
 use Rattle.qs_syntax.specs.declared.types.Base.TheVariants as bases
 use Rattle.qs_syntax.specs.declared.types.TypeName.{TypeName}
-use Rattle.qs_vocabulary.specs.declared.operators.StepOperator.{StepOperator}
+use Rattle.qs_syntax_vocabulary.specs.declared.operators.StepOperator.{StepOperator}
 use Rattle.qs_syntax.specs.Trees.{ExprTree, expr, ShapeTree, constant, text, name, unary, step, cast, sizeof_type, sizeof_expr, binary, assign, conditional, comma, subscript, member, call, Exprs, no_exprs, expr_and, LengthsTree, DeclaratorTree, InitialiserTree, value, list, Initialisers, no_initialisers, initialiser_and, VariableTree, DeclarationTree, ParameterTree, MembersTree, StartTree, no_start, start_expression, start_declaration, StmtTree, empty, expression, declaration, block, branch, while_loop, do_loop, for_loop, break, continue, return, Stmts, no_stmts, stmt_and, Else, no_else, else_by, StructTree, ForwardTree, FunctionTree, DeclTree, structure, forward, function, variables}
-use Rattle.qs_vocabulary.specs.Operators.{precedence, punctuator_of_access, punctuator_of_assign, punctuator_of_binary, punctuator_of_step, punctuator_of_unary, stands_before}
+use Rattle.qs_syntax_vocabulary.specs.Operators.{precedence, punctuator_of_access, punctuator_of_assign, punctuator_of_binary, punctuator_of_step, punctuator_of_unary, stands_before}
 use Rattle.qs_print.specs.Levels.{assignment_level, cast_level, conditional_level, level, or_level, postfix_level, step_level, unary_level}
 
 -- ---- lists

@@ -3,7 +3,7 @@ use Rattle.std.specs.Prelude.{◌≡◌, ℕ, ◌≤◌, List}
 use Rattle.qs_lexer.specs.Terminals.{terminals}
 use Rattle.qs_lexer.specs.Tokens.{Tokens}
 use Rattle.qs_syntax.specs.WithoutTokens.{without_tokens}
-use Rattle.qs_vocabulary.specs.declared.tokens.Token.{Token}
+use Rattle.qs_syntax_vocabulary.specs.declared.tokens.Token.{Token}
 use Rattle.qs_syntax.specs.ReadsUnits.{ReadsUnit}
 use Rattle.qs_syntax.specs.Trees.{DeclTree}
 use Rattle.qs_syntax.specs.Units.{height_limit}

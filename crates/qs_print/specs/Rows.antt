@@ -1,8 +1,8 @@
 -- What several values of the program are printed as, one behind the other.
 use Rattle.std.specs.Prelude.{List, ◌∷◌, ◌++◌, map, flat_map, Option}
-use Rattle.qs_vocabulary.specs.declared.terminal.Terminal.{Terminal}
-use Rattle.qs_vocabulary.specs.declared.terminal.Terminal.TheVariants.{Punctuator}
-use Rattle.qs_vocabulary.specs.declared.punctuator.Punctuator.TheVariants as punctuators
+use Rattle.qs_syntax_vocabulary.specs.declared.terminal.Terminal.{Terminal}
+use Rattle.qs_syntax_vocabulary.specs.declared.terminal.Terminal.TheVariants.{Punctuator}
+use Rattle.qs_syntax_vocabulary.specs.declared.punctuator.Punctuator.TheVariants as punctuators
 use Rattle.qs_syntax.specs.declared.expressions.Expr.{Expr}
 use Rattle.qs_syntax.specs.declared.declarations.Declarator.{Declarator}
 use Rattle.qs_syntax.specs.declared.declarations.Initialiser.{Initialiser}

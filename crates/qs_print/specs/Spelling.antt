@@ -3,9 +3,9 @@
 use Rattle.std.specs.Prelude.{ℕ, ◌+◌, ◌/◌, ◌%◌, Bool, true, false, List, [], ◌∷◌, ◌++◌, codes, decimal, flat_map}
 use Rattle.qs_base.specs.Keywords.{keyword_spelling}
 use Rattle.qs_base.specs.Characters.{backslash, digit_zero, double_quote, new_line, space}
-use Rattle.qs_vocabulary.specs.Punctuators.{punctuator_spelling}
-use Rattle.qs_vocabulary.specs.declared.terminal.Terminal.{Terminal}
-use Rattle.qs_vocabulary.specs.declared.terminal.Terminal.TheVariants as terminals
+use Rattle.qs_syntax_vocabulary.specs.Punctuators.{punctuator_spelling}
+use Rattle.qs_syntax_vocabulary.specs.declared.terminal.Terminal.{Terminal}
+use Rattle.qs_syntax_vocabulary.specs.declared.terminal.Terminal.TheVariants as terminals
 
 -- 6.4.4.1
 abbrev pub suffix : Bool → List ℕ

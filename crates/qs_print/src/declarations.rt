@@ -20,7 +20,7 @@ use qs_base::{Name, NoMemory};
 use qs_syntax::{
     Base, Declaration, Declarator, Expr, Initialiser, Lengths, Members, Parameter, Variable,
 };
-use qs_vocabulary::{Keyword, Punctuator};
+use qs_syntax_vocabulary::{Keyword, Punctuator};
 
 fn put_length(out: &mut Vec<u8>, e: &Expr) -> Result<(), NoMemory>
     ensures { OnOk result (Puts out.old (printed_length (expr_tree e.now)) out.new) }

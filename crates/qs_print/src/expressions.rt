@@ -13,7 +13,7 @@ use crate::types::put_type_name;
 use crate::words::{put_comma_unless, put_keyword, put_name, put_punctuator};
 use qs_base::NoMemory;
 use qs_syntax::{Expr, Shape, TypeName};
-use qs_vocabulary::{Keyword, Punctuator, StepOperator};
+use qs_syntax_vocabulary::{Keyword, Punctuator, StepOperator};
 
 /// Writes the name of a type in parentheses.
 fn put_type_in_parentheses(out: &mut Vec<u8>, name: &TypeName) -> Result<(), NoMemory>

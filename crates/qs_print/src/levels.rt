@@ -4,7 +4,7 @@ ghost use Rattle.qs_print.specs.Levels.{level, shape_level, step_level};
 ghost use Rattle.qs_syntax.specs.TreeOf.{expr_tree, shape_tree};
 
 use qs_syntax::{Expr, Shape};
-use qs_vocabulary::{
+use qs_syntax_vocabulary::{
     ASSIGNMENT_PRECEDENCE, COMMA_PRECEDENCE, CONDITIONAL_PRECEDENCE, StepOperator, WEAKEST,
 };
 

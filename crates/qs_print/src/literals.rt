@@ -1,12 +1,12 @@
 // Writes numbers and texts, each with a blank behind it.
 ghost use Rattle.std.specs.Prelude.{◌≡◌, ◌++◌, [], ◌∷◌, OnOk, flat_map};
 ghost use Rattle.qs_print.specs.Words.{Puts};
-ghost use Rattle.qs_vocabulary.specs.declared.terminal.Terminal.TheVariants as terminals;
+ghost use Rattle.qs_syntax_vocabulary.specs.declared.terminal.Terminal.TheVariants as terminals;
 ghost use Rattle.qs_print.specs.Spelling.{octal};
 
 use itoa::Buffer;
 use qs_base::NoMemory;
-use qs_vocabulary::Text;
+use qs_syntax_vocabulary::Text;
 
 /// Writes a constant in decimal, with `u` where it is unsigned.
 pub fn put_constant(out: &mut Vec<u8>, value: u32, is_unsigned: bool) -> Result<(), NoMemory>

@@ -12,7 +12,7 @@ use crate::expressions::{put_expr, put_in_parentheses};
 use crate::words::{put_keyword, put_punctuator};
 use qs_base::NoMemory;
 use qs_syntax::{Expr, Start, Stmt};
-use qs_vocabulary::{Keyword, Punctuator};
+use qs_syntax_vocabulary::{Keyword, Punctuator};
 
 fn put_optional(out: &mut Vec<u8>, e: &Option<Expr>) -> Result<(), NoMemory>
     ensures { OnOk result (Puts out.old (printed_optional (option_tree e.now)) out.new) }

@@ -6,7 +6,7 @@ ghost use Rattle.qs_print.specs.Words.{Puts};
 use crate::words::{put_keyword, put_name, put_punctuator};
 use qs_base::NoMemory;
 use qs_syntax::{Base, TypeName};
-use qs_vocabulary::{Keyword, Punctuator};
+use qs_syntax_vocabulary::{Keyword, Punctuator};
 
 /// Writes what a type begins with.
 pub fn put_base(out: &mut Vec<u8>, base: &Base) -> Result<(), NoMemory>

@@ -16,7 +16,7 @@ use crate::types::{put_base, put_stars};
 use crate::words::{put_keyword, put_name, put_punctuator};
 use qs_base::NoMemory;
 use qs_syntax::{Decl, Forward, Function, Members, Stmt, Struct, Unit};
-use qs_vocabulary::{Keyword, Punctuator};
+use qs_syntax_vocabulary::{Keyword, Punctuator};
 use std::alloc::Global;
 
 fn put_all_members(out: &mut Vec<u8>, members: &[Members]) -> Result<(), NoMemory>

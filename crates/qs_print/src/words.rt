@@ -3,10 +3,10 @@ ghost use Rattle.std.specs.Prelude.{◌≡◌, ◌++◌, [], ◌∷◌, OnOk};
 ghost use Rattle.qs_base.specs.Characters.{space};
 ghost use Rattle.qs_print.specs.Printed.{comma_unless};
 ghost use Rattle.qs_print.specs.Words.{Puts};
-ghost use Rattle.qs_vocabulary.specs.declared.terminal.Terminal.TheVariants as terminals;
+ghost use Rattle.qs_syntax_vocabulary.specs.declared.terminal.Terminal.TheVariants as terminals;
 
 use qs_base::{Name, NoMemory};
-use qs_vocabulary::{Keyword, Punctuator};
+use qs_syntax_vocabulary::{Keyword, Punctuator};
 
 fn put_word(out: &mut Vec<u8>, spelling: &[u8]) -> Result<(), NoMemory>
     ensures { OnOk result (out.new.items ≡ out.old.items ++ (spelling.now ++ space ∷ [])) }

@@ -7,7 +7,7 @@
 mod running;
 mod table;
 
-use qs_row_tables::TableFault;
+use qs_rows_tables::TableFault;
 use std::env::{self, Env};
 use std::process::ExitCode;
 use std::rt::Files;

@@ -2,10 +2,10 @@
 use qs_base::NoMemory;
 use qs_driver::{Devices, run_tool};
 use qs_ports::{MemSink, MemStore};
-use qs_row_printing::{
+use qs_rows_printing::{
     printed_code, printed_command, printed_instructions, printed_tokens, printed_unit,
 };
-use qs_row_tables::{Act, NamedFile, Row, TableFault};
+use qs_rows_tables::{Act, NamedFile, Row, TableFault};
 use std::alloc::{AllocError, Global};
 
 // The room of a store or a sink for what is written, in bytes.

@@ -1,7 +1,7 @@
 // Tables of rows.
 use crate::running::{Ran, run, store_of};
 use qs_ports::MemStore;
-use qs_row_tables::{Line, NamedFile, Row, TableFault, line_of};
+use qs_rows_tables::{Line, NamedFile, Row, TableFault, line_of};
 use std::alloc::Global;
 
 // Prints that something of a row differs.

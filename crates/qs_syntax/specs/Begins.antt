@@ -1,6 +1,6 @@
 -- What tokens begin: a unit (C11 6.9) that some list which continues them is read as.
 use Rattle.std.specs.Prelude.{ℕ, ◌≤◌, List, ◌++◌}
-use Rattle.qs_vocabulary.specs.declared.terminal.Terminal.{Terminal}
+use Rattle.qs_syntax_vocabulary.specs.declared.terminal.Terminal.{Terminal}
 use Rattle.qs_syntax.specs.Trees.{DeclTree}
 use Rattle.qs_syntax.specs.ReadsUnits.{ReadsUnit}
 use Rattle.qs_syntax.specs.Units.{height_limit}

@@ -2,18 +2,18 @@
 -- tokens are an expression of that form, read as that tree, and how high the reading is: 1 without parts, and else 1 more than the
 -- highest part, where parentheses count too. The nodes are still without numbers (0), and each stands at its first token.
 use Rattle.std.specs.Prelude.{◌≡◌, ℕ, suc, max, Bool, List, [], ◌∷◌, ◌++◌}
-use Rattle.qs_vocabulary.specs.declared.terminal.Terminal.{Terminal}
-use Rattle.qs_vocabulary.specs.declared.terminal.Terminal.TheVariants.{Name, Keyword, Constant, Text, Punctuator}
+use Rattle.qs_syntax_vocabulary.specs.declared.terminal.Terminal.{Terminal}
+use Rattle.qs_syntax_vocabulary.specs.declared.terminal.Terminal.TheVariants.{Name, Keyword, Constant, Text, Punctuator}
 use Rattle.qs_base.specs.declared.keyword.Keyword.TheVariants as keywords
-use Rattle.qs_vocabulary.specs.declared.punctuator.Punctuator.TheVariants as punctuators
-use Rattle.qs_vocabulary.specs.declared.operators.UnaryOperator.{UnaryOperator}
-use Rattle.qs_vocabulary.specs.declared.operators.BinaryOperator.{BinaryOperator}
-use Rattle.qs_vocabulary.specs.declared.operators.AssignmentOperator.{AssignmentOperator}
-use Rattle.qs_vocabulary.specs.declared.operators.Access.{Access}
-use Rattle.qs_vocabulary.specs.declared.operators.StepOperator.TheVariants as steps
+use Rattle.qs_syntax_vocabulary.specs.declared.punctuator.Punctuator.TheVariants as punctuators
+use Rattle.qs_syntax_vocabulary.specs.declared.operators.UnaryOperator.{UnaryOperator}
+use Rattle.qs_syntax_vocabulary.specs.declared.operators.BinaryOperator.{BinaryOperator}
+use Rattle.qs_syntax_vocabulary.specs.declared.operators.AssignmentOperator.{AssignmentOperator}
+use Rattle.qs_syntax_vocabulary.specs.declared.operators.Access.{Access}
+use Rattle.qs_syntax_vocabulary.specs.declared.operators.StepOperator.TheVariants as steps
 use Rattle.qs_syntax.specs.declared.types.TypeName.{TypeName}
 use Rattle.qs_syntax.specs.Trees.{unnumbered, ExprTree, expr, ShapeTree, constant, text, name, unary, step, cast, sizeof_type, sizeof_expr, binary, assign, conditional, comma, subscript, member, call, Exprs, no_exprs, expr_and}
-use Rattle.qs_vocabulary.specs.Operators.{punctuator_of_unary, punctuator_of_binary, precedence, weakest, punctuator_of_assign, punctuator_of_access, number_of}
+use Rattle.qs_syntax_vocabulary.specs.Operators.{punctuator_of_unary, punctuator_of_binary, precedence, weakest, punctuator_of_assign, punctuator_of_access, number_of}
 use Rattle.qs_syntax.specs.ReadsTypes.{ReadsTypeName}
 
 -- what an expression is read as; Level 0 is `cast`, Level 1 to `weakest` are the operators from `* / %` to `||`

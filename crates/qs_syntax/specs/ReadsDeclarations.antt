@@ -2,10 +2,10 @@
 -- is no node (brackets, a declaration as such, a group of members) is as high as its highest part, and 0 without parts. A variable,
 -- member or parameter with a name stands at the name.
 use Rattle.std.specs.Prelude.{◌≡◌, ℕ, suc, max, List, [], ◌∷◌, ◌++◌, true, false, Some, None}
-use Rattle.qs_vocabulary.specs.declared.terminal.Terminal.{Terminal}
-use Rattle.qs_vocabulary.specs.declared.terminal.Terminal.TheVariants.{Name, Keyword, Punctuator}
+use Rattle.qs_syntax_vocabulary.specs.declared.terminal.Terminal.{Terminal}
+use Rattle.qs_syntax_vocabulary.specs.declared.terminal.Terminal.TheVariants.{Name, Keyword, Punctuator}
 use Rattle.qs_base.specs.declared.keyword.Keyword.TheVariants as keywords
-use Rattle.qs_vocabulary.specs.declared.punctuator.Punctuator.TheVariants as punctuators
+use Rattle.qs_syntax_vocabulary.specs.declared.punctuator.Punctuator.TheVariants as punctuators
 use Rattle.qs_syntax.specs.declared.types.Base.{Base}
 use Rattle.qs_syntax.specs.Trees.{unnumbered, ExprTree, LengthsTree, DeclaratorTree, InitialiserTree, value, list, Initialisers, no_initialisers, initialiser_and, VariableTree, DeclarationTree, ParameterTree, MembersTree}
 use Rattle.qs_syntax.specs.ReadsTypes.{ReadsType, ReadsOuterType, ReadsStars}

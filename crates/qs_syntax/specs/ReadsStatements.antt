@@ -1,10 +1,10 @@
 -- How tokens are read as statements (C11 6.8): one constructor for each production. A block is 1 higher than its highest item; a
 -- declaration is no node, and as high as its highest variable.
 use Rattle.std.specs.Prelude.{◌≡◌, ℕ, suc, max, Bool, false, true, List, [], ◌∷◌, ◌++◌, Option, Some, None}
-use Rattle.qs_vocabulary.specs.declared.terminal.Terminal.{Terminal}
-use Rattle.qs_vocabulary.specs.declared.terminal.Terminal.TheVariants.{Keyword, Punctuator}
+use Rattle.qs_syntax_vocabulary.specs.declared.terminal.Terminal.{Terminal}
+use Rattle.qs_syntax_vocabulary.specs.declared.terminal.Terminal.TheVariants.{Keyword, Punctuator}
 use Rattle.qs_base.specs.declared.keyword.Keyword.TheVariants as keywords
-use Rattle.qs_vocabulary.specs.declared.punctuator.Punctuator.TheVariants as punctuators
+use Rattle.qs_syntax_vocabulary.specs.declared.punctuator.Punctuator.TheVariants as punctuators
 use Rattle.qs_syntax.specs.Trees.{unnumbered, ExprTree, DeclarationTree, StartTree, no_start, start_expression, start_declaration, StmtTree, empty, expression, declaration, block, branch, while_loop, do_loop, for_loop, break, continue, return, Stmts, no_stmts, stmt_and, Else, no_else, else_by}
 use Rattle.qs_syntax.specs.Reads.{Reads, Expression, place}
 use Rattle.qs_syntax.specs.ReadsDeclarations.{ReadsDeclaration}

@@ -1,8 +1,8 @@
 -- What a unit is: trees that some tokens are read as, with their nodes numbered.
 use Rattle.std.specs.Prelude.{◌≡◌, ℕ, ◌≤◌, true, List}
 use Rattle.std.specs.List.{list_all}
-use Rattle.qs_vocabulary.specs.declared.terminal.Terminal.{Terminal}
-use Rattle.qs_vocabulary.specs.WellFormed.{is_well_formed}
+use Rattle.qs_syntax_vocabulary.specs.declared.terminal.Terminal.{Terminal}
+use Rattle.qs_syntax_vocabulary.specs.WellFormed.{is_well_formed}
 use Rattle.qs_syntax.specs.Trees.{DeclTree}
 use Rattle.qs_syntax.specs.ReadsUnits.{ReadsUnit}
 use Rattle.qs_syntax.specs.Numbering.{numbered_unit}

@@ -6,7 +6,7 @@ ghost use Rattle.qs_syntax.specs.Sorts.{expression_list, expressions, shapes};
 use crate::nodes::{Node, number_node};
 use crate::types::TypeName;
 use qs_base::{Name, NoMemory};
-use qs_vocabulary::{
+use qs_syntax_vocabulary::{
     Access, AssignmentOperator, BinaryOperator, StepOperator, Text, UnaryOperator,
 };
 use std::mem;

@@ -16,11 +16,11 @@ use Rattle.qs_types.specs.Placed.{local_node, named_local, operand_of, addressed
 use Rattle.qs_types.specs.Sites.{Site, site, sites, option_sites, declarator_sites, initialiser_sites, elements_sites, option_initialiser_sites, variable_sites, variables_sites, start_sites, statement_sites, statements_sites, else_sites}
 use Rattle.qs_types.specs.declared.referent.Referent.TheVariants as referents
 use Rattle.qs_types.specs.Referents.{referent}
-use Rattle.qs_findings.specs.ExprFindings.{of_nodes}
-use Rattle.qs_findings.specs.UnitNodes.{of_option, of_lengths, of_declarator, of_initialiser, of_initialisers, of_option_initialiser, of_variables, of_start, of_statement, of_statements, of_else}
-use Rattle.qs_static_data.specs.Addressed as known
-use Rattle.qs_known.specs.Known.{Known}
-use Rattle.qs_known.specs.Agrees.{NodesKnown, PartsKnown, AllKnown}
+use Rattle.qs_typing_findings.specs.ExprFindings.{of_nodes}
+use Rattle.qs_typing_findings.specs.UnitNodes.{of_option, of_lengths, of_declarator, of_initialiser, of_initialisers, of_option_initialiser, of_variables, of_start, of_statement, of_statements, of_else}
+use Rattle.qs_typed_units.specs.Addressed as known
+use Rattle.qs_typed_nodes.specs.Known.{Known}
+use Rattle.qs_typed_nodes.specs.Agrees.{NodesKnown, PartsKnown, AllKnown}
 use Rattle.qs_typed.proofs.KnownNodes.{nodes_known}
 use Rattle.qs_typed.proofs.KnownBodies.{declared_type, no_referent, its_type, its_referent, Stand, left, right}
 

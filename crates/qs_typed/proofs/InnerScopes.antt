@@ -5,8 +5,8 @@ use Rattle.qs_types.specs.Types.{TypeTree}
 use Rattle.qs_types.specs.GivenFunctions.{Signature}
 use Rattle.qs_types.specs.Contexts.{Entity, local_variable, function, given, entity_of, with_name, inner_scope, inside_loop}
 use Rattle.qs_meaning.specs.Names.{Scope, within}
-use Rattle.qs_known.specs.Known.{Known}
-use Rattle.qs_known.specs.Agrees.{Agrees, GivenAreGiven}
+use Rattle.qs_typed_nodes.specs.Known.{Known}
+use Rattle.qs_typed_nodes.specs.Agrees.{Agrees, GivenAreGiven}
 
 pub record Inside (k : Known) (s : Scope) : Type 0 where
   pub agrees : Agrees k s

@@ -11,12 +11,12 @@ use Rattle.qs_types.specs.Expressions.{type_of}
 use Rattle.qs_types.specs.StatementRules.{after_variable, after_variables, after_statement, after_start, for_context}
 use Rattle.qs_types.specs.declared.referent.Referent.{Referent}
 use Rattle.qs_types.specs.Referents.{referent_of}
-use Rattle.qs_findings.specs.ExprFindings.{node_of, of_nodes}
-use Rattle.qs_findings.specs.UnitNodes.{of_option, of_declarator, of_initialiser, of_initialisers, of_option_initialiser, of_variables, of_start, of_statement, of_statements, of_else}
+use Rattle.qs_typing_findings.specs.ExprFindings.{node_of, of_nodes}
+use Rattle.qs_typing_findings.specs.UnitNodes.{of_option, of_declarator, of_initialiser, of_initialisers, of_option_initialiser, of_variables, of_start, of_statement, of_statements, of_else}
 use Rattle.qs_meaning.specs.Names.{Scope, within}
 use Rattle.qs_meaning.specs.Statements.{behind_variable, inner, loop_body, in_for}
-use Rattle.qs_known.specs.Known.{Known}
-use Rattle.qs_known.specs.Agrees.{ResultIs, ExpressionAt, OptionAt, InitialiserAt, InitialisersAt, InitialAt, VariablesAt, StartAt, StatementAt, StatementsAt, ElseAt}
+use Rattle.qs_typed_nodes.specs.Known.{Known}
+use Rattle.qs_typed_nodes.specs.Agrees.{ResultIs, ExpressionAt, OptionAt, InitialiserAt, InitialisersAt, InitialAt, VariablesAt, StartAt, StatementAt, StatementsAt, ElseAt}
 use Rattle.qs_typed.proofs.KnownNodes.{Each, each_left, each_right, StandsIn, at_node, nodes_known}
 use Rattle.qs_typed.proofs.InnerScopes.{Inside, inner_inside, loop_inside, local_inside}
 

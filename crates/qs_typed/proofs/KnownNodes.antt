@@ -10,9 +10,9 @@ use Rattle.qs_types.specs.Contexts.{Context}
 use Rattle.qs_types.specs.declared.referent.Referent.{Referent}
 use Rattle.qs_types.specs.Expressions.{type_of}
 use Rattle.qs_types.specs.Referents.{referent_of}
-use Rattle.qs_findings.specs.ExprFindings.{node_of, of_nodes, of_parts, of_all}
-use Rattle.qs_known.specs.Known.{Known, at_number}
-use Rattle.qs_known.specs.Agrees.{NodesKnown, PartsKnown, AllKnown}
+use Rattle.qs_typing_findings.specs.ExprFindings.{node_of, of_nodes, of_parts, of_all}
+use Rattle.qs_typed_nodes.specs.Known.{Known, at_number}
+use Rattle.qs_typed_nodes.specs.Agrees.{NodesKnown, PartsKnown, AllKnown}
 
 -- what holds of each element
 abbrev pub Each : {A : Type 0} → (A → Type 0) → List A → Type 0

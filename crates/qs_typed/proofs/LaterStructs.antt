@@ -5,8 +5,8 @@ use Rattle.qs_types.specs.declared.extent.Extent.{Extent}
 use Rattle.qs_types.specs.Types.{TypeTree, int, unsigned, char, void, pointer, array, struct, MemberTree, Structs}
 use Rattle.qs_types.specs.Layout.{Layouts, extent_by, extents_by, extent_of, size_of, array_extent, struct_extent, struct_layout, struct_of, member_types, members_layout, layouts_within, layout_of, defined_structs}
 use Rattle.qs_meaning.specs.Blanks.{Blanks, blank_by, members_blank, struct_blank, blanks_within}
-use Rattle.qs_known.specs.Agrees.{Keeps, Grown}
-use Rattle.qs_known.proofs.KeptAgreement.{nothing, kept, then_kept, is_kept}
+use Rattle.qs_typed_nodes.specs.Agrees.{Keeps, Grown}
+use Rattle.qs_typed_nodes.proofs.KeptAgreement.{nothing, kept, then_kept, is_kept}
 
 -- structs that have members keep them, and there are no fewer of them
 pub record IsLater (old new : Structs) : Type 0 where

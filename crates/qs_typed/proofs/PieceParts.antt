@@ -6,7 +6,7 @@ use Rattle.qs_syntax.specs.Trees as trees
 use Rattle.qs_types.specs.Types.{TypeTree, Structs}
 use Rattle.qs_types.specs.InitialiserRules.{part_type}
 use Rattle.qs_meaning.specs.Initialisers.{Piece, pieces, pieces_from, part_offset}
-use Rattle.qs_known.proofs.KeptAgreement.{nothing, same}
+use Rattle.qs_typed_nodes.proofs.KeptAgreement.{nothing, same}
 
 abbrev mutual
   pub InInitialiser : (ExprTree → Type 0) → InitialiserTree → Type 0

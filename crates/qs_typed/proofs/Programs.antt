@@ -4,8 +4,8 @@ use Rattle.qs_memory.specs.Partial.{◌>>=◌}
 use Rattle.qs_syntax.specs.Trees.{FunctionTree, Stmts, function, UnitTree}
 use Rattle.qs_meaning.specs.Typed.{Function}
 use Rattle.qs_typed.specs.UnitVariables.{variables_of}
-use Rattle.qs_known.specs.Behind.{followed}
-use Rattle.qs_static_data.specs.KnownPrograms.{Tables, body_places, body_known, option_body_known, functions_known}
+use Rattle.qs_typed_nodes.specs.Behind.{followed}
+use Rattle.qs_typed_units.specs.KnownPrograms.{Tables, body_places, body_known, option_body_known, functions_known}
 
 pub none_more : (t : Tables) (f : FunctionTree) (ds : UnitTree) (all : List Function) → f.body ≡ None → followed all (functions_known t (function f ∷ ds)) ≡ followed all (functions_known t ds)
 none_more t f ds all e = ap (λ b. followed all (option_body_known t f b >>= λ now. functions_known t ds >>= λ rest. Some (now ++ rest))) e ∙ go (functions_known t ds)

@@ -25,9 +25,9 @@ use Rattle.qs_meaning.specs.Conversions.{scalar_of}
 use Rattle.qs_meaning.specs.Forms.{Form, lvalue, call, TypedExpr}
 use Rattle.qs_meaning.specs.Names.{Scope, Designator as Designated, local_lvalue, file_variable_object, text_object, entity_lvalue, name_lvalue, entity_designated, designated, function_number}
 use Rattle.qs_meaning.specs.Expressions.{text_form, name_form, arguments_of, subscript_form, member_form, step_form, unary_form, size_form, cast_form, binary_form, conditional_form, assign_form, comma_form, typed, form_of, all_typed}
-use Rattle.qs_known.specs.Known.{Known, at_number, referent_lvalue, name_known, text_known, with_tags, named_known, named_size_known, Designator, designated_by, with_conversion, with_argument, known, form_known, type_known, arguments_known}
-use Rattle.qs_known.specs.Agrees.{Keeps, NodesKnown, PartsKnown, AllKnown, Agrees, GivenAreGiven}
-use Rattle.qs_known.proofs.KeptAgreement.{nothing, same, kept, kept_by, then_kept, is_kept, equal_kept}
+use Rattle.qs_typed_nodes.specs.Known.{Known, at_number, referent_lvalue, name_known, text_known, with_tags, named_known, named_size_known, Designator, designated_by, with_conversion, with_argument, known, form_known, type_known, arguments_known}
+use Rattle.qs_typed_nodes.specs.Agrees.{Keeps, NodesKnown, PartsKnown, AllKnown, Agrees, GivenAreGiven}
+use Rattle.qs_typed_nodes.proofs.KeptAgreement.{nothing, same, kept, kept_by, then_kept, is_kept, equal_kept}
 use Rattle.qs_typed.proofs.UnitStructs.{size_form_kept, subscript_kept, binary_kept, member_kept, assign_kept, step_kept}
 
 -- ---- names

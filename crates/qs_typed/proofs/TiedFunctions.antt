@@ -17,12 +17,12 @@ use Rattle.qs_meaning.specs.Conversions.{scalar_of}
 use Rattle.qs_meaning.specs.Names.{Locals, Scope, local_lvalue}
 use Rattle.qs_meaning.specs.Statements.{statements_typed}
 use Rattle.qs_meaning.specs.Units.{nodes_of, placed_among, plain_among, variables_among, locals_of, scalars_of, sizes_of, parameter_by, parameter_typed, parameters_typed, in_body, function_with}
-use Rattle.qs_known.specs.Known.{Known, at_number}
-use Rattle.qs_known.specs.KnownStatements.{statements_known}
-use Rattle.qs_known.specs.KnownFunctions.{local_at, locals_at, parameter_known, parameters_known, function_known}
-use Rattle.qs_known.specs.Agrees.{Keeps, Grown}
+use Rattle.qs_typed_nodes.specs.Known.{Known, at_number}
+use Rattle.qs_typed_nodes.specs.KnownStatements.{statements_known}
+use Rattle.qs_typed_nodes.specs.KnownFunctions.{local_at, locals_at, parameter_known, parameters_known, function_known}
+use Rattle.qs_typed_nodes.specs.Agrees.{Keeps, Grown}
 use Rattle.qs_typed.specs.AgreesFunctions.{ParametersAt, LocalsAt, FunctionAt}
-use Rattle.qs_known.proofs.KeptAgreement.{nothing, kept, is_kept, equal_kept}
+use Rattle.qs_typed_nodes.proofs.KeptAgreement.{nothing, kept, is_kept, equal_kept}
 use Rattle.qs_typed.proofs.UnitStructs.{size_kept}
 use Rattle.qs_typed.proofs.TiedStatements.{statements_kept}
 

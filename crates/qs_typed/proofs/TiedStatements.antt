@@ -17,12 +17,12 @@ use Rattle.qs_meaning.specs.Expressions.{typed, plain_form}
 use Rattle.qs_meaning.specs.Blanks.{blank_of}
 use Rattle.qs_meaning.specs.Initialisers.{part_offset, Piece, pieces, pieces_from, text_room, text_set, assigned_set, piece_set, pieces_set, filled, object_set, local_set}
 use Rattle.qs_meaning.specs.Statements.{initialised, behind_variable, variable_typed, variables_typed, effect_typed, option_effect, condition_typed, option_condition, start_typed, return_typed, inner, loop_body, in_for, statement_typed, statements_typed, else_typed}
-use Rattle.qs_forms.specs.Between.{between}
-use Rattle.qs_known.specs.Known.{Known, at_number, known}
-use Rattle.qs_known.specs.KnownStatements.{text_set_known, assigned_set_known, piece_set_known, pieces_set_known, filled_known, object_set_known, local_set_known, initialised_known, variable_known, variables_known, effect_known, option_effect_known, condition_known, option_condition_known, start_known, return_known, statement_known, statements_known, else_known}
-use Rattle.qs_known.specs.Agrees.{Keeps, Grown, Agrees, ExpressionAt, OptionAt, InitialiserAt, InitialisersAt, ResultIs, InitialAt, VariableAt, VariablesAt, StartAt, StatementAt, StatementsAt, ElseAt}
-use Rattle.qs_known.proofs.KeptAgreement.{kept, kept_by, is_kept, equal_kept, choice_kept}
-use Rattle.qs_known.proofs.KeptAgreement as options
+use Rattle.qs_typed_forms.specs.Between.{between}
+use Rattle.qs_typed_nodes.specs.Known.{Known, at_number, known}
+use Rattle.qs_typed_nodes.specs.KnownStatements.{text_set_known, assigned_set_known, piece_set_known, pieces_set_known, filled_known, object_set_known, local_set_known, initialised_known, variable_known, variables_known, effect_known, option_effect_known, condition_known, option_condition_known, start_known, return_known, statement_known, statements_known, else_known}
+use Rattle.qs_typed_nodes.specs.Agrees.{Keeps, Grown, Agrees, ExpressionAt, OptionAt, InitialiserAt, InitialisersAt, ResultIs, InitialAt, VariableAt, VariablesAt, StartAt, StatementAt, StatementsAt, ElseAt}
+use Rattle.qs_typed_nodes.proofs.KeptAgreement.{kept, kept_by, is_kept, equal_kept, choice_kept}
+use Rattle.qs_typed_nodes.proofs.KeptAgreement as options
 use Rattle.qs_typed.proofs.UnitStructs.{size_kept, offset_kept, plain_kept}
 use Rattle.qs_typed.proofs.TiedExpressions.{typed_kept}
 

@@ -6,8 +6,8 @@ use Rattle.qs_memory.specs.Memory.{Cell, BlankTree, bytes_of, parts_of, blank_ce
 use Rattle.qs_memory.specs.declared.scalar.Scalar.TheVariants as scalars
 use Rattle.qs_syntax.specs.declared.nodes.Node.{Node}
 use Rattle.qs_syntax.specs.declared.types.Base.{Base}
-use Rattle.qs_vocabulary.specs.declared.operators.UnaryOperator.{UnaryOperator}
-use Rattle.qs_vocabulary.specs.declared.operators.UnaryOperator.TheVariants as unaries
+use Rattle.qs_syntax_vocabulary.specs.declared.operators.UnaryOperator.{UnaryOperator}
+use Rattle.qs_syntax_vocabulary.specs.declared.operators.UnaryOperator.TheVariants as unaries
 use Rattle.qs_syntax.specs.Trees.{ExprTree, expr, InitialiserTree, Initialisers, no_initialisers, initialiser_and, VariableTree, structure, forward, function, variables, UnitTree}
 use Rattle.qs_syntax.specs.Trees as trees
 use Rattle.qs_types.specs.Types.{TypeTree, is_pointer, is_array}
@@ -20,7 +20,7 @@ use Rattle.qs_types.specs.References.{literal_blocks}
 use Rattle.qs_types.specs.StatementRules.{after_variable, after_variables}
 use Rattle.qs_types.specs.UnitRules.{with_tag, after_struct, after_function, context_after}
 use Rattle.qs_types.specs.Referents.{referent}
-use Rattle.qs_findings.specs.UnitNodes.{of_declarator, of_initialiser, of_initialisers, of_option_initialiser, of_variables, of_declaration, of_declarations}
+use Rattle.qs_typing_findings.specs.UnitNodes.{of_declarator, of_initialiser, of_initialisers, of_option_initialiser, of_variables, of_declaration, of_declarations}
 use Rattle.qs_meaning.specs.Typed.{Function, StaticBlock, TypedProgram}
 use Rattle.qs_meaning.specs.Conversions.{scalar_of}
 use Rattle.qs_meaning.specs.Names.{Scope, within, file_variable_object, text_object}
@@ -28,12 +28,12 @@ use Rattle.qs_meaning.specs.Blanks.{blank_of}
 use Rattle.qs_meaning.specs.Initialisers.{Piece, pieces}
 use Rattle.qs_meaning.specs.InitialValues.{pointer_width, static_pointer, entity_pointer, named_pointer, pointer_by, address_constant, pointer_constant, constant_cells, array_cells, piece_cells, written_over, pieces_over, initial_cells, text_block}
 use Rattle.qs_meaning.specs.Units.{function_typed, file_variable_typed, file_variables_typed, no_functions, no_blocks, declarations_typed, start_scope}
-use Rattle.qs_known.specs.Agrees.{Keeps, NodesKnown}
+use Rattle.qs_typed_nodes.specs.Agrees.{Keeps, NodesKnown}
 use Rattle.qs_typed.specs.BlockLaws.{UnitBlocksAreTyped}
-use Rattle.qs_known.specs.Known.{Known, at_number}
-use Rattle.qs_static_data.specs.KnownBlocks.{referent_pointer, name_pointer, named_pointer_known, address_constant_known, pointer_constant_known, pointer_cells_known, integer_cells_known, constant_cells_known, piece_cells_known, pieces_over_known, initialised_cells_known, initial_cells_known, variable_block_known, file_variables_known, blocks_known}
-use Rattle.qs_static_data.specs.KnownPrograms.{Tables}
-use Rattle.qs_known.proofs.KeptAgreement.{nothing, same, kept, kept_by, is_kept, equal_kept, choice_kept}
+use Rattle.qs_typed_nodes.specs.Known.{Known, at_number}
+use Rattle.qs_typed_units.specs.KnownBlocks.{referent_pointer, name_pointer, named_pointer_known, address_constant_known, pointer_constant_known, pointer_cells_known, integer_cells_known, constant_cells_known, piece_cells_known, pieces_over_known, initialised_cells_known, initial_cells_known, variable_block_known, file_variables_known, blocks_known}
+use Rattle.qs_typed_units.specs.KnownPrograms.{Tables}
+use Rattle.qs_typed_nodes.proofs.KeptAgreement.{nothing, same, kept, kept_by, is_kept, equal_kept, choice_kept}
 use Rattle.qs_typed.proofs.LaterStructs.{grown}
 use Rattle.qs_typed.proofs.TiedStatements.{pieces_kept}
 use Rattle.qs_typed.proofs.KnownNodes.{at_node, nodes_known}

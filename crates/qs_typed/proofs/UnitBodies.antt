@@ -13,10 +13,10 @@ use Rattle.qs_types.specs.UnitRules.{with_parameter, with_parameters, parameter_
 use Rattle.qs_meaning.specs.Conversions.{scalar_of}
 use Rattle.qs_meaning.specs.Names.{Locals, Scope, within}
 use Rattle.qs_meaning.specs.Units.{result_scalar, in_body}
-use Rattle.qs_known.specs.Known.{Known, with_tags}
-use Rattle.qs_known.specs.KnownFunctions.{base_scalar, named_scalar, returns_nothing}
-use Rattle.qs_known.specs.Agrees.{Keeps}
-use Rattle.qs_known.proofs.KeptAgreement.{nothing, same}
+use Rattle.qs_typed_nodes.specs.Known.{Known, with_tags}
+use Rattle.qs_typed_nodes.specs.KnownFunctions.{base_scalar, named_scalar, returns_nothing}
+use Rattle.qs_typed_nodes.specs.Agrees.{Keeps}
+use Rattle.qs_typed_nodes.proofs.KeptAgreement.{nothing, same}
 use Rattle.qs_typed.proofs.LaterStructs.{IsLater, grown}
 use Rattle.qs_typed.proofs.InnerScopes.{Inside, local_inside}
 use Rattle.qs_typed.proofs.UnitHeaders.{HeadersFound}

@@ -12,8 +12,8 @@ use Rattle.qs_types.specs.StatementRules.{after_variable, after_variables}
 use Rattle.qs_types.specs.UnitRules.{with_tag, no_members, after_members, has_no_members, define_at, after_struct, after_declaration, context_after}
 use Rattle.qs_meaning.proofs.Options.{never}
 use Rattle.qs_meaning.proofs.StructTables.{GoesOn, appended_goes_on, set_keeps, set_count}
-use Rattle.qs_known.specs.Agrees.{Keeps}
-use Rattle.qs_known.proofs.KeptAgreement.{nothing}
+use Rattle.qs_typed_nodes.specs.Agrees.{Keeps}
+use Rattle.qs_typed_nodes.proofs.KeptAgreement.{nothing}
 use Rattle.qs_typed.proofs.LaterStructs.{IsLater}
 
 -- structs that have members keep them, and a tag its struct

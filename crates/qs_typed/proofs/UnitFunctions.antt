@@ -8,15 +8,15 @@ use Rattle.qs_types.specs.Types.{TypeTree}
 use Rattle.qs_types.specs.Contexts.{inner_scope}
 use Rattle.qs_types.specs.Placed.{Local, is_one_of, is_no_scalar, is_placed, addressed_in, statements_locals}
 use Rattle.qs_types.specs.UnitRules.{parameter_types, result_type, after_function, body_context}
-use Rattle.qs_findings.specs.UnitNodes.{of_parameters, of_statements}
+use Rattle.qs_typing_findings.specs.UnitNodes.{of_parameters, of_statements}
 use Rattle.qs_meaning.specs.Names.{Scope, within}
 use Rattle.qs_meaning.specs.Units.{nodes_of, locals_of, parameters_in, in_body}
 use Rattle.qs_meaning.proofs.Functions.{same_result}
-use Rattle.qs_static_data.specs.Addressed.{statements_addressed}
-use Rattle.qs_known.specs.Known.{Known}
-use Rattle.qs_known.specs.KnownFunctions.{locals_at}
-use Rattle.qs_static_data.specs.KnownPrograms.{Tables, each_once, known_in}
-use Rattle.qs_known.specs.Agrees.{ResultIs}
+use Rattle.qs_typed_units.specs.Addressed.{statements_addressed}
+use Rattle.qs_typed_nodes.specs.Known.{Known}
+use Rattle.qs_typed_nodes.specs.KnownFunctions.{locals_at}
+use Rattle.qs_typed_units.specs.KnownPrograms.{Tables, each_once, known_in}
+use Rattle.qs_typed_nodes.specs.Agrees.{ResultIs}
 use Rattle.qs_typed.specs.AgreesFunctions.{LocalsAt, FunctionAt}
 use Rattle.qs_typed.proofs.KnownNodes.{Each, StandsIn}
 use Rattle.qs_typed.proofs.KnownBodies.{declared_type, no_referent, its_type, its_referent, Stand, statements_at}

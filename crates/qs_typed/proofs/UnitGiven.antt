@@ -13,7 +13,7 @@ use Rattle.qs_types.specs.Contexts as contexts
 use Rattle.qs_types.specs.Declarations.{variable_declared}
 use Rattle.qs_types.specs.StatementRules.{after_variable, after_variables}
 use Rattle.qs_types.specs.UnitRules.{with_tag, no_members, after_members, has_no_members, define_at, header_of, signature_by, declared_function, after_function, after_declaration}
-use Rattle.qs_known.proofs.KeptAgreement.{nothing}
+use Rattle.qs_typed_nodes.proofs.KeptAgreement.{nothing}
 
 abbrev pub given_type : List ℕ → Signature
 given_type x = if same_bytes x putchar_name then putchar_type else getchar_type

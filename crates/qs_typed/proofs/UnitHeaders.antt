@@ -14,11 +14,11 @@ use Rattle.qs_types.specs.Declarations.{parameter_declared}
 use Rattle.qs_types.specs.UnitRules.{after_parameter, parameter_types, result_type, header_of, all_of, signature_by, declared_function, after_function}
 use Rattle.qs_meaning.specs.Conversions.{scalar_of}
 use Rattle.qs_meaning.specs.Units.{scalars_of}
-use Rattle.qs_known.specs.Known.{Header, at_number, parameters_of}
-use Rattle.qs_known.specs.KnownFunctions.{parameters_nodes, locals_at}
-use Rattle.qs_static_data.specs.KnownUnits.{header_known, header_behind, with_header}
-use Rattle.qs_known.specs.Agrees.{Keeps}
-use Rattle.qs_known.proofs.KeptAgreement.{nothing, same}
+use Rattle.qs_typed_nodes.specs.Known.{Header, at_number, parameters_of}
+use Rattle.qs_typed_nodes.specs.KnownFunctions.{parameters_nodes, locals_at}
+use Rattle.qs_typed_units.specs.KnownUnits.{header_known, header_behind, with_header}
+use Rattle.qs_typed_nodes.specs.Agrees.{Keeps}
+use Rattle.qs_typed_nodes.proofs.KeptAgreement.{nothing, same}
 
 -- each parameter has at its node the type that it is declared with
 abbrev pub ParametersDeclared : (types : List (Option TypeTree)) → Context → List ParameterTree → Type 0

@@ -10,11 +10,11 @@ use Rattle.qs_types.specs.Declarations.{variable_declared, parameter_declared}
 use Rattle.qs_types.specs.StatementRules.{after_variable, after_statement, for_context}
 use Rattle.qs_types.specs.UnitRules.{after_parameter, parameter_types}
 use Rattle.qs_types.specs.Placed.{Local, parameters_locals, variables_locals, start_locals, statement_locals, statements_locals, else_locals}
-use Rattle.qs_findings.specs.ExprFindings.{of_nodes}
-use Rattle.qs_findings.specs.UnitNodes.{of_option, of_lengths, of_declarator, of_option_initialiser, of_variables, of_start, of_statement, of_statements, of_else, of_parameters}
+use Rattle.qs_typing_findings.specs.ExprFindings.{of_nodes}
+use Rattle.qs_typing_findings.specs.UnitNodes.{of_option, of_lengths, of_declarator, of_option_initialiser, of_variables, of_start, of_statement, of_statements, of_else, of_parameters}
 use Rattle.qs_meaning.specs.Units.{nodes_of}
-use Rattle.qs_known.specs.Known.{Known}
-use Rattle.qs_known.specs.KnownFunctions.{variables_nodes, start_nodes, statement_nodes, statements_nodes, else_nodes, parameters_nodes}
+use Rattle.qs_typed_nodes.specs.Known.{Known}
+use Rattle.qs_typed_nodes.specs.KnownFunctions.{variables_nodes, start_nodes, statement_nodes, statements_nodes, else_nodes, parameters_nodes}
 use Rattle.qs_typed.specs.AgreesFunctions.{ParametersAt, LocalsAt}
 use Rattle.qs_typed.proofs.KnownNodes.{Each, each_left, each_right, StandsIn, at_node}
 use Rattle.qs_typed.proofs.KnownBodies.{declared_type, its_type}

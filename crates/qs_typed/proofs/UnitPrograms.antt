@@ -14,7 +14,7 @@ use Rattle.qs_types.specs.Declarations.{variable_declared}
 use Rattle.qs_types.specs.StatementRules.{after_variable, after_variables}
 use Rattle.qs_types.specs.Placed.{addressed_in, statements_locals}
 use Rattle.qs_types.specs.UnitRules.{with_tag, no_members, after_members, has_no_members, define_at, after_struct, result_type, after_function, after_declaration, body_context, function_faults, declaration_faults, declarations_faults, context_after}
-use Rattle.qs_findings.specs.UnitNodes.{of_parameters, of_body, of_declaration, of_declarations}
+use Rattle.qs_typing_findings.specs.UnitNodes.{of_parameters, of_body, of_declaration, of_declarations}
 use Rattle.qs_meaning.specs.Typed.{Function, StaticBlock, TypedProgram}
 use Rattle.qs_meaning.specs.Conversions.{scalar_of}
 use Rattle.qs_meaning.specs.Names.{Locals, Scope, within}
@@ -22,13 +22,13 @@ use Rattle.qs_meaning.specs.TypedLaws.{IsFileScope}
 use Rattle.qs_meaning.specs.Units.{parameters_in, function_with, function_typed, file_variables_typed, no_functions, no_blocks, declarations_typed}
 use Rattle.qs_meaning.proofs.FaultlessExpressions.{none_left, none_right}
 use Rattle.qs_meaning.proofs.UnitsTyped.{header_result, declaration_known}
-use Rattle.qs_known.specs.Known.{Header, parameters_of, with_tags}
-use Rattle.qs_static_data.specs.KnownUnits.{with_header, headers_behind}
-use Rattle.qs_static_data.specs.KnownPrograms.{Tables, known_in, body_known, option_body_known, functions_known}
+use Rattle.qs_typed_nodes.specs.Known.{Header, parameters_of, with_tags}
+use Rattle.qs_typed_units.specs.KnownUnits.{with_header, headers_behind}
+use Rattle.qs_typed_units.specs.KnownPrograms.{Tables, known_in, body_known, option_body_known, functions_known}
 use Rattle.qs_typed.specs.UnitVariables.{function_variables, unit_variables_from, variables_of, variables_known}
-use Rattle.qs_known.specs.Agrees.{Keeps}
+use Rattle.qs_typed_nodes.specs.Agrees.{Keeps}
 use Rattle.qs_typed.specs.AgreesFunctions.{FunctionAt}
-use Rattle.qs_known.proofs.KeptAgreement.{nothing, same, kept, is_kept}
+use Rattle.qs_typed_nodes.proofs.KeptAgreement.{nothing, same, kept, is_kept}
 use Rattle.qs_typed.proofs.LaterStructs.{IsLater}
 use Rattle.qs_typed.proofs.KnownNodes.{Each, each_left, each_right, StandsIn}
 use Rattle.qs_typed.proofs.KnownBodies.{Typing, Naming, declared_type, no_referent, its_type, its_referent}

@@ -2,14 +2,14 @@
 use Rattle.std.proofs.Common.{ℕ, List, Option, Some}
 use Rattle.std.specs.List.{slice_get}
 use Rattle.qs_memory.specs.Partial.{◌>>=◌}
-use Rattle.qs_vocabulary.specs.declared.operators.StepOperator.{StepOperator}
-use Rattle.qs_vocabulary.specs.declared.operators.StepOperator.TheVariants as steps
-use Rattle.qs_vocabulary.specs.declared.operators.BinaryOperator.{BinaryOperator}
-use Rattle.qs_vocabulary.specs.declared.operators.BinaryOperator.TheVariants as binaries
-use Rattle.qs_vocabulary.specs.declared.operators.AssignmentOperator.{AssignmentOperator}
-use Rattle.qs_vocabulary.specs.declared.operators.AssignmentOperator.TheVariants as assigns
-use Rattle.qs_vocabulary.specs.declared.operators.Access.{Access}
-use Rattle.qs_vocabulary.specs.declared.operators.Access.TheVariants as accesses
+use Rattle.qs_syntax_vocabulary.specs.declared.operators.StepOperator.{StepOperator}
+use Rattle.qs_syntax_vocabulary.specs.declared.operators.StepOperator.TheVariants as steps
+use Rattle.qs_syntax_vocabulary.specs.declared.operators.BinaryOperator.{BinaryOperator}
+use Rattle.qs_syntax_vocabulary.specs.declared.operators.BinaryOperator.TheVariants as binaries
+use Rattle.qs_syntax_vocabulary.specs.declared.operators.AssignmentOperator.{AssignmentOperator}
+use Rattle.qs_syntax_vocabulary.specs.declared.operators.AssignmentOperator.TheVariants as assigns
+use Rattle.qs_syntax_vocabulary.specs.declared.operators.Access.{Access}
+use Rattle.qs_syntax_vocabulary.specs.declared.operators.Access.TheVariants as accesses
 use Rattle.qs_memory.specs.declared.operation.Arithmetic.TheVariants as arithmetics
 use Rattle.qs_memory.specs.declared.operation.Direction.TheVariants.{Up, Down}
 use Rattle.qs_types.specs.declared.extent.Extent.{Extent}
@@ -19,9 +19,9 @@ use Rattle.qs_meaning.specs.Operations.{Operated, operation_of, combined, moved,
 use Rattle.qs_meaning.specs.Forms.{Form, result, TypedExpr, lvalue_of, address_of, struct_assignment, type_in_use, value_in_use}
 use Rattle.qs_meaning.specs.Typed as typed_trees
 use Rattle.qs_meaning.specs.Expressions.{object_at, operated, operator_value, subscript_form, member_number, member_offset, member_form, set_form, struct_form, plain_form, updated, compound_form, assign_form, one, after_form, step_after_form, step_form, size_form, operator_form, binary_form}
-use Rattle.qs_known.specs.Known.{sized}
-use Rattle.qs_known.specs.Agrees.{Keeps, Grown}
-use Rattle.qs_known.proofs.KeptAgreement.{kept, then_kept, is_kept, choice_kept}
+use Rattle.qs_typed_nodes.specs.Known.{sized}
+use Rattle.qs_typed_nodes.specs.Agrees.{Keeps, Grown}
+use Rattle.qs_typed_nodes.proofs.KeptAgreement.{kept, then_kept, is_kept, choice_kept}
 
 pub size_kept : (old new : Structs) → Grown old new → (t : TypeTree) → Keeps (size_of old t) (size_of new t)
 size_kept old new g t = then_kept (extent_of old t) (extent_of new t) (λ (e : Extent). Some e.size) (λ (e : Extent). Some e.size) (g.extents t) (λ e. is_kept (Some e.size))

@@ -3,19 +3,19 @@ use Rattle.std.proofs.Common.{◌≡◌, List, ◌++◌, Some, map, refl, ◌∙
 use Rattle.qs_types.specs.References.{literal_blocks}
 use Rattle.qs_types.specs.Expressions.{type_of}
 use Rattle.qs_syntax.specs.Trees.{UnitTree}
-use Rattle.qs_findings.specs.declared.typed_unit.TypedUnit.{TypedUnit}
+use Rattle.qs_typing_findings.specs.declared.typed_unit.TypedUnit.{TypedUnit}
 use Rattle.qs_types.specs.Referents.{referent_of}
-use Rattle.qs_findings.specs.NodeReferents.{no_referent, unit_referents}
-use Rattle.qs_findings.specs.NodeTypes.{declared_type, unit_types}
-use Rattle.qs_findings.specs.TypedOf.{typed_tree}
-use Rattle.qs_findings.proofs.TypedLaws.{by_number}
+use Rattle.qs_typing_findings.specs.NodeReferents.{no_referent, unit_referents}
+use Rattle.qs_typing_findings.specs.NodeTypes.{declared_type, unit_types}
+use Rattle.qs_typing_findings.specs.TypedOf.{typed_tree}
+use Rattle.qs_typing_findings.proofs.TypedLaws.{by_number}
 use Rattle.qs_meaning.specs.InitialValues.{text_block}
 use Rattle.qs_meaning.specs.Typed.{Function, StaticBlock, TypedProgram}
 use Rattle.qs_meaning.specs.Units.{typed_of}
 use Rattle.qs_meaning.proofs.UnitsTyped.{units_typed}
-use Rattle.qs_static_data.specs.KnownBlocks.{blocks_known}
-use Rattle.qs_static_data.specs.KnownPrograms.{Tables, functions_known}
-use Rattle.qs_static_data.specs.TablesOf.{AreOf}
+use Rattle.qs_typed_units.specs.KnownBlocks.{blocks_known}
+use Rattle.qs_typed_units.specs.KnownPrograms.{Tables, functions_known}
+use Rattle.qs_typed_units.specs.TablesOf.{AreOf}
 use Rattle.qs_typed.specs.UnitLaws.{IsNumberedUnit}
 use Rattle.qs_typed.proofs.UnitBlocks.{blocks_typed}
 use Rattle.qs_typed.proofs.UnitWhole.{typed_are}

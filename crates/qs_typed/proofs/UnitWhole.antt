@@ -13,21 +13,21 @@ use Rattle.qs_types.specs.Contexts as contexts
 use Rattle.qs_types.specs.Expressions.{type_of}
 use Rattle.qs_types.specs.UnitRules.{context_after}
 use Rattle.qs_types.specs.WellTyped.{WellTyped}
-use Rattle.qs_findings.specs.ByNumber.{IsByNumber}
+use Rattle.qs_typing_findings.specs.ByNumber.{IsByNumber}
 use Rattle.qs_types.specs.Referents.{referent_of}
-use Rattle.qs_findings.specs.NodeReferents.{no_referent, unit_referents}
-use Rattle.qs_findings.specs.NodeTypes.{declared_type, unit_types}
-use Rattle.qs_findings.specs.UnitNodes.{of_unit}
+use Rattle.qs_typing_findings.specs.NodeReferents.{no_referent, unit_referents}
+use Rattle.qs_typing_findings.specs.NodeTypes.{declared_type, unit_types}
+use Rattle.qs_typing_findings.specs.UnitNodes.{of_unit}
 use Rattle.qs_meaning.specs.Typed.{Function, TypedProgram}
 use Rattle.qs_meaning.specs.InitialValues as initial
 use Rattle.qs_meaning.specs.Units.{declarations_typed, start_scope, typed_of}
 use Rattle.qs_meaning.proofs.UnitsTyped.{start_known}
-use Rattle.qs_static_data.specs.KnownPrograms.{Tables, functions_known}
+use Rattle.qs_typed_units.specs.KnownPrograms.{Tables, functions_known}
 use Rattle.qs_typed.specs.UnitLaws.{IsNumberedUnit}
 use Rattle.qs_typed.proofs.UnitContexts.{GoesTo}
-use Rattle.qs_static_data.specs.TablesOf.{AreOf}
+use Rattle.qs_typed_units.specs.TablesOf.{AreOf}
 use Rattle.qs_typed.specs.UnitVariables.{unit_variables, variables_known}
-use Rattle.qs_known.proofs.KeptAgreement.{nothing, same}
+use Rattle.qs_typed_nodes.proofs.KeptAgreement.{nothing, same}
 use Rattle.qs_typed.proofs.KnownNodes.{Each, StandsIn}
 use Rattle.qs_typed.proofs.KnownBodies as bodies
 use Rattle.qs_typed.proofs.UnitGiven.{start_given}

@@ -10,8 +10,8 @@ use Rattle.qs_types.specs.Layout.{and_then, size_of}
 use Rattle.qs_types.specs.Contexts.{Context, base_type, named_type, pointers, tag_place}
 use Rattle.qs_types.specs.Expressions.{type_of}
 use Rattle.qs_types.specs.Constants.{is_built, is_unsigned, converted, truth, is_true, combined, decides, unary_value, value_of, shape_value, constant_of}
-use Rattle.qs_known.specs.Agrees.{Keeps}
-use Rattle.qs_known.proofs.KeptAgreement.{nothing, then_kept, is_kept, choice_kept}
+use Rattle.qs_typed_nodes.specs.Agrees.{Keeps}
+use Rattle.qs_typed_nodes.proofs.KeptAgreement.{nothing, then_kept, is_kept, choice_kept}
 use Rattle.qs_typed.proofs.LaterStructs.{grown}
 use Rattle.qs_typed.proofs.UnitStructs.{size_kept}
 use Rattle.qs_typed.proofs.UnitContexts.{GoesTo}

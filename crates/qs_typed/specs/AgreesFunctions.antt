@@ -7,9 +7,9 @@ use Rattle.qs_types.specs.Placed.{Local}
 use Rattle.qs_types.specs.UnitRules.{parameter_types, result_type}
 use Rattle.qs_meaning.specs.Names.{Scope}
 use Rattle.qs_meaning.specs.Units.{locals_of, result_scalar, in_body}
-use Rattle.qs_known.specs.Known.{Known, at_number}
-use Rattle.qs_known.specs.KnownFunctions.{returns_nothing}
-use Rattle.qs_known.specs.Agrees.{Grown, StatementsAt}
+use Rattle.qs_typed_nodes.specs.Known.{Known, at_number}
+use Rattle.qs_typed_nodes.specs.KnownFunctions.{returns_nothing}
+use Rattle.qs_typed_nodes.specs.Agrees.{Grown, StatementsAt}
 
 -- each parameter has its type at its node
 abbrev pub ParametersAt : Known → List ParameterTree → List (Option TypeTree) → Type 0

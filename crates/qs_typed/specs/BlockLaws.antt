@@ -5,9 +5,9 @@ use Rattle.qs_types.specs.References.{literal_blocks}
 use Rattle.qs_meaning.specs.InitialValues.{text_block}
 use Rattle.qs_meaning.specs.Typed.{StaticBlock, TypedProgram}
 use Rattle.qs_meaning.specs.Units.{typed_of}
-use Rattle.qs_static_data.specs.KnownBlocks.{blocks_known}
-use Rattle.qs_static_data.specs.KnownPrograms.{Tables}
-use Rattle.qs_static_data.specs.TablesOf.{AreOf}
+use Rattle.qs_typed_units.specs.KnownBlocks.{blocks_known}
+use Rattle.qs_typed_units.specs.KnownPrograms.{Tables}
+use Rattle.qs_typed_units.specs.TablesOf.{AreOf}
 use Rattle.qs_typed.specs.UnitLaws.{IsNumberedUnit}
 
 -- the blocks of the variables, and then those of the texts

@@ -6,10 +6,10 @@ use Rattle.qs_meaning.specs.Names.{Scope}
 use Rattle.qs_meaning.specs.Expressions.{typed}
 use Rattle.qs_meaning.specs.Statements.{statements_typed}
 use Rattle.qs_meaning.specs.Units.{function_with}
-use Rattle.qs_known.specs.Known.{Known, known}
-use Rattle.qs_known.specs.KnownStatements.{statements_known}
-use Rattle.qs_known.specs.KnownFunctions.{function_known}
-use Rattle.qs_known.specs.Agrees.{Keeps, ExpressionAt, StatementsAt}
+use Rattle.qs_typed_nodes.specs.Known.{Known, known}
+use Rattle.qs_typed_nodes.specs.KnownStatements.{statements_known}
+use Rattle.qs_typed_nodes.specs.KnownFunctions.{function_known}
+use Rattle.qs_typed_nodes.specs.Agrees.{Keeps, ExpressionAt, StatementsAt}
 use Rattle.qs_typed.specs.AgreesFunctions.{FunctionAt}
 
 abbrev pub ExpressionsAreTyped : Type 0

@@ -3,14 +3,14 @@ use Rattle.std.specs.Prelude.{◌≡◌, List, Some}
 use Rattle.qs_syntax.specs.Trees.{UnitTree}
 use Rattle.qs_types.specs.Expressions.{type_of}
 use Rattle.qs_types.specs.WellTyped.{WellTyped}
-use Rattle.qs_findings.specs.ByNumber.{IsByNumber}
+use Rattle.qs_typing_findings.specs.ByNumber.{IsByNumber}
 use Rattle.qs_types.specs.Referents.{referent_of}
-use Rattle.qs_findings.specs.NodeReferents.{no_referent, unit_referents}
-use Rattle.qs_findings.specs.NodeTypes.{declared_type, unit_types}
+use Rattle.qs_typing_findings.specs.NodeReferents.{no_referent, unit_referents}
+use Rattle.qs_typing_findings.specs.NodeTypes.{declared_type, unit_types}
 use Rattle.qs_meaning.specs.Typed.{Function, TypedProgram}
 use Rattle.qs_meaning.specs.Units.{typed_of}
-use Rattle.qs_static_data.specs.KnownPrograms.{Tables, functions_known}
-use Rattle.qs_static_data.specs.TablesOf.{AreOf}
+use Rattle.qs_typed_units.specs.KnownPrograms.{Tables, functions_known}
+use Rattle.qs_typed_units.specs.TablesOf.{AreOf}
 use Rattle.qs_typed.specs.UnitVariables.{unit_variables, variables_known}
 
 -- a unit whose types and referents stand at the numbers of its nodes

@@ -4,7 +4,7 @@ use Rattle.qs_syntax.specs.Trees.{structure, forward, function, variables, Funct
 use Rattle.qs_types.specs.Contexts.{Context, start_context}
 use Rattle.qs_types.specs.UnitRules.{after_declaration}
 use Rattle.qs_meaning.specs.Units.{function_locals}
-use Rattle.qs_static_data.specs.KnownPrograms.{Tables, body_places}
+use Rattle.qs_typed_units.specs.KnownPrograms.{Tables, body_places}
 
 -- of a function with a body; the context is that before its header
 abbrev pub function_variables : Context → FunctionTree → Option Stmts → List (List ℕ)

@@ -6,19 +6,19 @@ use Rattle.qs_syntax.specs.Trees.{DeclTree, FunctionTree}
 use Rattle.qs_syntax.specs.declared.statements.Stmt.{Stmt}
 use Rattle.qs_syntax.specs.declared.units.Decl.{Decl}
 use Rattle.qs_syntax.specs.declared.units.Function.{Function}
-use Rattle.qs_known.specs.Behind.{Continues}
-use Rattle.qs_known.specs.KnownFunctions.{function_known}
-use Rattle.qs_known.specs.KnownOf.{known_tree}
-use Rattle.qs_static_data.specs.KnownPrograms.{Tables, body_known, body_places, functions_known}
-use Rattle.qs_known.specs.PlacesOf.{locals_tree}
-use Rattle.qs_forms.specs.Results.{Gives, Makes}
-use Rattle.qs_static_data.specs.TablesOf.{number_lists, tables_tree}
+use Rattle.qs_typed_nodes.specs.Behind.{Continues}
+use Rattle.qs_typed_nodes.specs.KnownFunctions.{function_known}
+use Rattle.qs_typed_nodes.specs.KnownOf.{known_tree}
+use Rattle.qs_typed_units.specs.KnownPrograms.{Tables, body_known, body_places, functions_known}
+use Rattle.qs_typed_nodes.specs.PlacesOf.{locals_tree}
+use Rattle.qs_typed_forms.specs.Results.{Gives, Makes}
+use Rattle.qs_typed_units.specs.TablesOf.{number_lists, tables_tree}
 use Rattle.qs_typed_trees.specs.TreeOf.{function_tree, functions_tree}
 use Rattle.qs_typed.specs.UnitVariables.{variables_known, variables_of}
-use Rattle.qs_known.specs.declared.known.Known.{Known}
-use Rattle.qs_known.specs.declared.places.Locals.{Locals}
+use Rattle.qs_typed_nodes.specs.declared.known.Known.{Known}
+use Rattle.qs_typed_nodes.specs.declared.places.Locals.{Locals}
 use Rattle.qs_typed_trees.specs.declared.program.TypedFunction.{TypedFunction}
-use Rattle.qs_static_data.specs.declared.tables.Tables.{Tables as CodeTables}
+use Rattle.qs_typed_units.specs.declared.tables.Tables.{Tables as CodeTables}
 
 -- ---- of a function with this body
 

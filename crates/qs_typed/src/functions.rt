@@ -3,16 +3,16 @@ ghost use Rattle.std.specs.Prelude.{◌≡◌};
 ghost use Rattle.qs_syntax.specs.TreeOf.{function_tree};
 ghost use Rattle.qs_types.specs.GivenFunctions.{main_name};
 ghost use Rattle.qs_base.specs.Bytes.{same_bytes};
-ghost use Rattle.qs_known.specs.KnownFunctions.{base_scalar, named_scalar, returns_nothing};
+ghost use Rattle.qs_typed_nodes.specs.KnownFunctions.{base_scalar, named_scalar, returns_nothing};
 ghost use Rattle.qs_typed.specs.UnitsOf.{KnowsFunction};
 
 use qs_base::{Name, NoMemory};
-use qs_known::Known;
 use qs_memory::Scalar;
-use qs_static_data::{parameters, scalars, sizes};
 use qs_syntax::{Base, Function, Stmt, TypeName};
 use qs_typed_bodies::statements;
+use qs_typed_nodes::Known;
 use qs_typed_trees::TypedFunction;
+use qs_typed_units::{parameters, scalars, sizes};
 use std::alloc::Global;
 
 fn is_main(name: &Name) -> bool

@@ -2,21 +2,21 @@
 ghost use Rattle.std.specs.Prelude.{◌≡◌, IfOk, map};
 ghost use Rattle.qs_meaning.specs.InitialValues.{text_block};
 ghost use Rattle.qs_meaning.specs.Units.{typed_of};
-ghost use Rattle.qs_findings.specs.NotedOf.{text_tree};
-ghost use Rattle.qs_findings.specs.TypedOf.{typed_tree};
-ghost use Rattle.qs_static_data.specs.BlocksOf.{AddsTexts};
-ghost use Rattle.qs_forms.specs.Results.{Gives, Makes};
-ghost use Rattle.qs_static_data.specs.TablesOf.{AreOf, number_lists, tables_tree, text_nodes};
+ghost use Rattle.qs_typing_findings.specs.NotedOf.{text_tree};
+ghost use Rattle.qs_typing_findings.specs.TypedOf.{typed_tree};
+ghost use Rattle.qs_typed_units.specs.BlocksOf.{AddsTexts};
+ghost use Rattle.qs_typed_forms.specs.Results.{Gives, Makes};
+ghost use Rattle.qs_typed_units.specs.TablesOf.{AreOf, number_lists, tables_tree, text_nodes};
 ghost use Rattle.qs_typed_trees.specs.TreeOf.{program_tree, static_block_tree};
 ghost use Rattle.qs_typed.specs.UnitVariables.{unit_variables};
 
 use crate::units::{functions, variables};
 use indexmap::IndexSet;
 use qs_base::NoMemory;
-use qs_findings::{TextBlock, TypedUnit};
-use qs_known::Statics;
-use qs_static_data::{Tables, blocks, file_variables_in, functions_in, headers, insert};
+use qs_typed_nodes::Statics;
 use qs_typed_trees::{Datum, StaticBlock, TypedProgram};
+use qs_typed_units::{Tables, blocks, file_variables_in, functions_in, headers, insert};
+use qs_typing_findings::{TextBlock, TypedUnit};
 use std::alloc::Global;
 
 // ---- texts

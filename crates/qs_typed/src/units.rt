@@ -2,9 +2,9 @@
 ghost use Rattle.std.specs.Prelude.{◌∷◌, [], map};
 ghost use Rattle.qs_syntax.specs.TreeOf.{decl_tree, function_tree};
 ghost use Rattle.qs_syntax.specs.Trees.{function};
-ghost use Rattle.qs_static_data.specs.KnownPrograms.{functions_known};
-ghost use Rattle.qs_forms.specs.Results.{Makes};
-ghost use Rattle.qs_static_data.specs.TablesOf.{Finds, number_lists};
+ghost use Rattle.qs_typed_units.specs.KnownPrograms.{functions_known};
+ghost use Rattle.qs_typed_forms.specs.Results.{Makes};
+ghost use Rattle.qs_typed_units.specs.TablesOf.{Finds, number_lists};
 ghost use Rattle.qs_typed_trees.specs.TreeOf.{functions_tree};
 ghost use Rattle.qs_typed.specs.UnitVariables.{variables_known};
 ghost use Rattle.qs_typed.specs.UnitsOf.{AddsFunctions, AddsVariables, FindsFunction, FindsPlaces};
@@ -12,13 +12,13 @@ ghost use Rattle.qs_typed.specs.UnitsOf.{body_variables, variables_in};
 
 use crate::functions::{function, named_scalar};
 use qs_base::NoMemory;
-use qs_known::{Known, Locals};
-use qs_static_data::{
+use qs_syntax::{Decl, Function, Stmt};
+use qs_typed_nodes::{Known, Locals};
+use qs_typed_trees::TypedFunction;
+use qs_typed_units::{
     Tables, each_once, nodes_of, parameters_nodes, places_of, statements_addressed,
     statements_nodes,
 };
-use qs_syntax::{Decl, Function, Stmt};
-use qs_typed_trees::TypedFunction;
 use std::alloc::Global;
 
 /// The places of the parameters and locals of a function with this body.

@@ -8,20 +8,20 @@ use Rattle.qs_types.specs.TypeOf.{type_tree}
 use Rattle.qs_types.specs.declared.types.CType.{CType}
 use Rattle.qs_meaning.specs.Forms.{TypedExpr, lvalue}
 use Rattle.qs_meaning.specs.Typed as trees
-use Rattle.qs_forms.specs.FormOf.{typed_tree}
-use Rattle.qs_known.specs.Known as pure
-use Rattle.qs_known.specs.KnownOf.{known_tree}
-use Rattle.qs_known.specs.KnownStatements.{assigned_set_known, filled_known, initialised_known, piece_set_known, pieces_set_known, text_set_known}
-use Rattle.qs_known.specs.PieceOf.{piece_tree}
-use Rattle.qs_forms.specs.Results.{Gives}
+use Rattle.qs_typed_forms.specs.FormOf.{typed_tree}
+use Rattle.qs_typed_nodes.specs.Known as pure
+use Rattle.qs_typed_nodes.specs.KnownOf.{known_tree}
+use Rattle.qs_typed_nodes.specs.KnownStatements.{assigned_set_known, filled_known, initialised_known, piece_set_known, pieces_set_known, text_set_known}
+use Rattle.qs_typed_nodes.specs.PieceOf.{piece_tree}
+use Rattle.qs_typed_forms.specs.Results.{Gives}
 use Rattle.qs_typed_trees.specs.TreeOf.{effect_tree, expression_tree, lvalue_tree, object_tree}
 use Rattle.qs_typed_trees.specs.declared.expressions.Effect.{Effect}
 use Rattle.qs_typed_trees.specs.declared.expressions.Expression.{Expression}
 use Rattle.qs_typed_trees.specs.declared.expressions.Lvalue.{Lvalue}
 use Rattle.qs_typed_trees.specs.declared.expressions.Object.{Object}
-use Rattle.qs_forms.specs.declared.forms.Typed.{Typed}
-use Rattle.qs_known.specs.declared.known.Known.{Known}
-use Rattle.qs_known.specs.declared.piece.Piece.{Piece}
+use Rattle.qs_typed_forms.specs.declared.forms.Typed.{Typed}
+use Rattle.qs_typed_nodes.specs.declared.known.Known.{Known}
+use Rattle.qs_typed_nodes.specs.declared.piece.Piece.{Piece}
 
 abbrev pub object_address : Object → trees.Expr
 object_address base = trees.pointer_to (object_tree base)

@@ -1,21 +1,21 @@
 // The typed tree of statements (C11 6.8).
 ghost use Rattle.qs_syntax.specs.TreeOf.{else_tree, expr_tree, option_tree, start_tree, stmt_tree};
 ghost use Rattle.qs_syntax.specs.TreeOf.{stmts_tree};
-ghost use Rattle.qs_known.specs.KnownOf.{Knows};
-ghost use Rattle.qs_known.specs.KnownStatements.{condition_known, effect_known, else_known};
-ghost use Rattle.qs_known.specs.KnownStatements.{option_condition_known, option_effect_known};
-ghost use Rattle.qs_known.specs.KnownStatements.{return_known, start_known, statement_known};
-ghost use Rattle.qs_known.specs.KnownStatements.{statements_known};
-ghost use Rattle.qs_forms.specs.Results.{listed};
+ghost use Rattle.qs_typed_nodes.specs.KnownOf.{Knows};
+ghost use Rattle.qs_typed_nodes.specs.KnownStatements.{condition_known, effect_known, else_known};
+ghost use Rattle.qs_typed_nodes.specs.KnownStatements.{option_condition_known, option_effect_known};
+ghost use Rattle.qs_typed_nodes.specs.KnownStatements.{return_known, start_known, statement_known};
+ghost use Rattle.qs_typed_nodes.specs.KnownStatements.{statements_known};
+ghost use Rattle.qs_typed_forms.specs.Results.{listed};
 ghost use Rattle.qs_typed_trees.specs.TreeOf.{effect_tree, expression_tree, option_expression};
 ghost use Rattle.qs_typed_trees.specs.TreeOf.{statement_tree, statements_tree};
 
 use crate::initialisers::variables;
 use crate::typed::typed;
 use qs_base::NoMemory;
-use qs_forms::{between, effect_in_use, value_in_use};
-use qs_known::Known;
 use qs_syntax::{Expr, Start, Stmt};
+use qs_typed_forms::{between, effect_in_use, value_in_use};
+use qs_typed_nodes::Known;
 use qs_typed_trees::{Effect, Expression, Statement, scalar_of};
 use std::alloc::Global;
 
@@ -74,7 +74,7 @@ fn start(alloc: Global, k: &Known<'_>, start: &Start) -> Result<Effect, NoMemory
 }
 
 /// The value is converted to the type of the result (C11 6.8.6.4p3).
-#[tactic(auto, using(qs_operators::proofs::OperationTypes::scalar_in_use))]
+#[tactic(auto, using(qs_typed_operators::proofs::OperationTypes::scalar_in_use))]
 fn returned(alloc: Global, k: &Known<'_>, e: &Option<Expr>) -> Result<Statement, NoMemory>
     ensures { Knows statement_tree return_known k.now (option_tree e.now) result }
 {

@@ -5,23 +5,23 @@ ghost use Rattle.qs_meaning.specs.Typed.{member};
 ghost use Rattle.qs_types.specs.EnvOf.{env_tree};
 ghost use Rattle.qs_types.specs.TypeOf.{type_tree};
 ghost use Rattle.qs_types.specs.Types.{struct};
-ghost use Rattle.qs_forms.specs.FormOf.{IsForm, form_tree, typed_tree};
-ghost use Rattle.qs_forms.specs.Results.{Gives, Makes, itself};
+ghost use Rattle.qs_typed_forms.specs.FormOf.{IsForm, form_tree, typed_tree};
+ghost use Rattle.qs_typed_forms.specs.Results.{Gives, Makes, itself};
 ghost use Rattle.qs_typed_trees.specs.TreeOf.{expression_tree};
-ghost use Rattle.qs_known.specs.TypesOf.{members_tree};
+ghost use Rattle.qs_typed_nodes.specs.TypesOf.{members_tree};
 
 use indexmap::IndexMap;
 use qs_base::{Name, NoMemory};
-use qs_forms::{Form, Typed, referenced, value_in_use};
-use qs_known::{offset_at, struct_members};
-use qs_operators::object_at;
+use qs_syntax_vocabulary::Access;
+use qs_typed_forms::{Form, Typed, referenced, value_in_use};
+use qs_typed_nodes::{offset_at, struct_members};
+use qs_typed_operators::object_at;
 use qs_typed_trees::Expression;
 use qs_types::{CType, Env};
-use qs_vocabulary::Access;
 use std::alloc::Global;
 
 /// The place of a member among others.
-#[tactic(auto, using(qs_known::proofs::MemberPlaces::number_found))]
+#[tactic(auto, using(qs_typed_nodes::proofs::MemberPlaces::number_found))]
 fn member_number(members: &IndexMap<Name, CType>, name: &Name) -> Result<usize, NoMemory>
     ensures { Gives itself (member_number 0 name.now (members_tree members.now)) result }
 {
@@ -31,7 +31,7 @@ fn member_number(members: &IndexMap<Name, CType>, name: &Name) -> Result<usize, 
     }
 }
 
-#[tactic(auto, using(qs_known::proofs::MemberPlaces::offset_found))]
+#[tactic(auto, using(qs_typed_nodes::proofs::MemberPlaces::offset_found))]
 fn struct_offset(env: &Env, k: u32, name: &Name) -> Result<u32, NoMemory>
     ensures { Gives itself (member_offset (env_tree env.now) (struct k) name.now) result }
 {
@@ -72,7 +72,7 @@ fn dot_form(alloc: Global, env: &Env, a: Typed<'_>, name: &Name) -> Result<Form,
 }
 
 /// `p->x` (C11 6.5.2.3p4).
-#[tactic(auto, using(qs_operators::proofs::OperationTypes::referenced_in_use))]
+#[tactic(auto, using(qs_typed_operators::proofs::OperationTypes::referenced_in_use))]
 fn arrow_form(alloc: Global, env: &Env, a: Typed<'_>, name: &Name) -> Result<Form, NoMemory>
     ensures { IsForm (arrow_form (env_tree env.now) (typed_tree a.entry) name.now) result }
 {

@@ -2,21 +2,21 @@
 ghost use Rattle.std.specs.Prelude.{◌≡◌, IfOk};
 ghost use Rattle.qs_meaning.specs.Expressions.{constant_form};
 ghost use Rattle.qs_syntax.specs.TreeOf.{expr_tree, shape_tree};
-ghost use Rattle.qs_forms.specs.FormOf.{IsForm, form_tree, typed_tree};
-ghost use Rattle.qs_known.specs.Known.{form_known, known, with_conversion};
-ghost use Rattle.qs_known.specs.KnownOf.{Knows, KnowsArguments, known_tree};
+ghost use Rattle.qs_typed_forms.specs.FormOf.{IsForm, form_tree, typed_tree};
+ghost use Rattle.qs_typed_nodes.specs.Known.{form_known, known, with_conversion};
+ghost use Rattle.qs_typed_nodes.specs.KnownOf.{Knows, KnowsArguments, known_tree};
 ghost use Rattle.qs_typed_trees.specs.TreeOf.{argument_tree};
 
 use crate::members::member_form;
 use qs_base::{Name, NoMemory};
-use qs_forms::{Form, Typed, between, value_in_use};
-use qs_known::Known;
 use qs_memory::Scalar;
-use qs_operators::{
+use qs_syntax::{Expr, Shape};
+use qs_typed_forms::{Form, Typed, between, value_in_use};
+use qs_typed_nodes::Known;
+use qs_typed_operators::{
     assign_form, binary_form, cast_form, comma_form, conditional_form, size_form, step_form,
     subscript_form, unary_form,
 };
-use qs_syntax::{Expr, Shape};
 use qs_typed_trees::{Argument, Expression, scalar_of};
 use std::alloc::Global;
 
@@ -32,7 +32,7 @@ fn constant_form(n: u32, is_unsigned: bool) -> Form
 }
 
 /// An argument is converted to the type of its parameter (C11 6.5.2.2p7).
-#[tactic(auto, using(qs_operators::proofs::OperationTypes::scalar_in_use))]
+#[tactic(auto, using(qs_typed_operators::proofs::OperationTypes::scalar_in_use))]
 fn with_conversion(alloc: Global, s: Scalar, a: Typed<'_>) -> Result<Argument, NoMemory>
     ensures { IfOk result (λ r. argument_tree r ≡ with_conversion s (typed_tree a.entry)) }
 {

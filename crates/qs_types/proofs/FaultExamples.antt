@@ -1,12 +1,12 @@
 -- Units that break a rule, each in a form that a weaker rule would let pass.
 use Rattle.std.proofs.Common.{◌≡◌, ℕ, List, [], ◌∷◌, Some, None, refl}
-use Rattle.qs_vocabulary.specs.declared.operators.BinaryOperator.{BinaryOperator}
-use Rattle.qs_vocabulary.specs.declared.operators.BinaryOperator.TheVariants as binaries
-use Rattle.qs_vocabulary.specs.declared.operators.StepOperator.TheVariants as steps
-use Rattle.qs_vocabulary.specs.declared.operators.UnaryOperator.TheVariants as unaries
-use Rattle.qs_vocabulary.specs.declared.operators.AssignmentOperator.{AssignmentOperator}
-use Rattle.qs_vocabulary.specs.declared.operators.AssignmentOperator.TheVariants as assigns
-use Rattle.qs_vocabulary.specs.declared.operators.Access.TheVariants as accesses
+use Rattle.qs_syntax_vocabulary.specs.declared.operators.BinaryOperator.{BinaryOperator}
+use Rattle.qs_syntax_vocabulary.specs.declared.operators.BinaryOperator.TheVariants as binaries
+use Rattle.qs_syntax_vocabulary.specs.declared.operators.StepOperator.TheVariants as steps
+use Rattle.qs_syntax_vocabulary.specs.declared.operators.UnaryOperator.TheVariants as unaries
+use Rattle.qs_syntax_vocabulary.specs.declared.operators.AssignmentOperator.{AssignmentOperator}
+use Rattle.qs_syntax_vocabulary.specs.declared.operators.AssignmentOperator.TheVariants as assigns
+use Rattle.qs_syntax_vocabulary.specs.declared.operators.Access.TheVariants as accesses
 use Rattle.qs_syntax.specs.declared.types.Base.{Base}
 use Rattle.qs_syntax.specs.declared.types.Base.TheVariants as bases
 use Rattle.qs_syntax.specs.Trees.{unnumbered, ExprTree, StmtTree, DeclTree, LengthsTree, ParameterTree, structure, function, stmts_of, no_start, start_declaration, no_else}

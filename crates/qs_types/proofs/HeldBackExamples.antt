@@ -1,6 +1,6 @@
 -- Which rules wait for the types of a node's parts, and which parts of a struct, a list or a header are at fault.
 use Rattle.std.proofs.Common.{◌≡◌, false, List, [], ◌∷◌, None, Some, refl}
-use Rattle.qs_vocabulary.specs.declared.operators.BinaryOperator.TheVariants as binaries
+use Rattle.qs_syntax_vocabulary.specs.declared.operators.BinaryOperator.TheVariants as binaries
 use Rattle.qs_syntax.specs.declared.types.Base.TheVariants as bases
 use Rattle.qs_syntax.specs.Trees.{unnumbered, structure, DeclTree, DeclaratorTree, initialisers_of}
 use Rattle.qs_syntax.specs.Trees as trees

@@ -1,6 +1,6 @@
 -- Which locals are placed, and the functions that are given.
 use Rattle.std.proofs.Common.{◌≡◌, ℕ, List, [], ◌∷◌, Option, Some, None, refl}
-use Rattle.qs_vocabulary.specs.declared.operators.UnaryOperator.TheVariants as unaries
+use Rattle.qs_syntax_vocabulary.specs.declared.operators.UnaryOperator.TheVariants as unaries
 use Rattle.qs_syntax.specs.declared.types.Base.TheVariants as bases
 use Rattle.qs_syntax.specs.Trees.{unnumbered, stmts_of, FunctionTree, Stmts, structure, forward, function, variables, UnitTree}
 use Rattle.qs_syntax.specs.Trees as trees

@@ -1,12 +1,12 @@
 -- Which nodes of an expression break which rules (C11 6.5).
 use Rattle.std.specs.Prelude.{Bool, true, false, not, ◌&&◌, ◌||◌, List, [], ◌++◌, Option, Some, None, if◌then◌else◌}
 use Rattle.qs_syntax.specs.declared.nodes.Node.{Node}
-use Rattle.qs_vocabulary.specs.declared.operators.UnaryOperator.{UnaryOperator}
-use Rattle.qs_vocabulary.specs.declared.operators.UnaryOperator.TheVariants as unaries
-use Rattle.qs_vocabulary.specs.declared.operators.AssignmentOperator.{AssignmentOperator}
-use Rattle.qs_vocabulary.specs.declared.operators.AssignmentOperator.TheVariants as assigns
-use Rattle.qs_vocabulary.specs.declared.operators.Access.{Access}
-use Rattle.qs_vocabulary.specs.declared.operators.Access.TheVariants as accesses
+use Rattle.qs_syntax_vocabulary.specs.declared.operators.UnaryOperator.{UnaryOperator}
+use Rattle.qs_syntax_vocabulary.specs.declared.operators.UnaryOperator.TheVariants as unaries
+use Rattle.qs_syntax_vocabulary.specs.declared.operators.AssignmentOperator.{AssignmentOperator}
+use Rattle.qs_syntax_vocabulary.specs.declared.operators.AssignmentOperator.TheVariants as assigns
+use Rattle.qs_syntax_vocabulary.specs.declared.operators.Access.{Access}
+use Rattle.qs_syntax_vocabulary.specs.declared.operators.Access.TheVariants as accesses
 use Rattle.qs_syntax.specs.Trees.{ExprTree, expr, ShapeTree, Exprs, no_exprs, expr_and}
 use Rattle.qs_syntax.specs.Trees as trees
 use Rattle.qs_types.specs.Types.{TypeTree, is_struct, is_void}

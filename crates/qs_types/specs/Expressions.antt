@@ -2,14 +2,14 @@
 -- type that it has where it breaks none of them.
 use Rattle.std.specs.Prelude.{ℕ, ◌+◌, ◌==◌, Bool, true, false, not, ◌&&◌, ◌||◌, List, [], ◌∷◌, ◌++◌, Option, Some, None, is_some, length, if◌then◌else◌}
 use Rattle.qs_base.specs.Bytes.{same_bytes}
-use Rattle.qs_vocabulary.specs.declared.operators.UnaryOperator.{UnaryOperator}
-use Rattle.qs_vocabulary.specs.declared.operators.UnaryOperator.TheVariants as unaries
-use Rattle.qs_vocabulary.specs.declared.operators.BinaryOperator.{BinaryOperator}
-use Rattle.qs_vocabulary.specs.declared.operators.BinaryOperator.TheVariants as binaries
-use Rattle.qs_vocabulary.specs.declared.operators.AssignmentOperator.{AssignmentOperator}
-use Rattle.qs_vocabulary.specs.declared.operators.AssignmentOperator.TheVariants as assigns
-use Rattle.qs_vocabulary.specs.declared.operators.Access.{Access}
-use Rattle.qs_vocabulary.specs.declared.operators.Access.TheVariants as accesses
+use Rattle.qs_syntax_vocabulary.specs.declared.operators.UnaryOperator.{UnaryOperator}
+use Rattle.qs_syntax_vocabulary.specs.declared.operators.UnaryOperator.TheVariants as unaries
+use Rattle.qs_syntax_vocabulary.specs.declared.operators.BinaryOperator.{BinaryOperator}
+use Rattle.qs_syntax_vocabulary.specs.declared.operators.BinaryOperator.TheVariants as binaries
+use Rattle.qs_syntax_vocabulary.specs.declared.operators.AssignmentOperator.{AssignmentOperator}
+use Rattle.qs_syntax_vocabulary.specs.declared.operators.AssignmentOperator.TheVariants as assigns
+use Rattle.qs_syntax_vocabulary.specs.declared.operators.Access.{Access}
+use Rattle.qs_syntax_vocabulary.specs.declared.operators.Access.TheVariants as accesses
 use Rattle.qs_syntax.specs.declared.types.TypeName.{TypeName}
 use Rattle.qs_syntax.specs.Trees.{ExprTree, expr, ShapeTree, Exprs, no_exprs, expr_and}
 use Rattle.qs_syntax.specs.Trees as trees

@@ -14,7 +14,7 @@ use crate::tags::tag_place;
 use indexmap::IndexSet;
 use qs_base::{Name, add32, divs32, divu32, mul32, rems32, remu32, sll32, sra32, srl32, sub32};
 use qs_syntax::{Base, Expr, Shape, TypeName};
-use qs_vocabulary::{BinaryOperator, UnaryOperator};
+use qs_syntax_vocabulary::{BinaryOperator, UnaryOperator};
 
 // ---- names of integer types
 

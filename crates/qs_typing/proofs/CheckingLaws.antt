@@ -10,14 +10,14 @@ use Rattle.qs_types.specs.References.{unit_calls}
 use Rattle.qs_types.specs.Rules.{Fault, is_any}
 use Rattle.qs_types.specs.UnitRules.{faults_in}
 use Rattle.qs_types.specs.WellTyped.{WellTyped, end_context, has_main, first_undefined, undefined_from, runs}
-use Rattle.qs_findings.specs.declared.type_fault.TypeFault.{TypeFault}
-use Rattle.qs_findings.specs.declared.type_fault.TypeFault.TheVariants as faults
-use Rattle.qs_findings.specs.Findings.{least_with}
-use Rattle.qs_findings.specs.Refusals.{IsAccepted, IsTold, limit_fault, rule_fault, main_fault, undefined_fault, early_refusal, late_refusal, first_refusal, late_by}
-use Rattle.qs_findings.specs.UnitWalk.{WalkTree, unit_walked}
-use Rattle.qs_findings.proofs.AddedFindings.{unit_least, unit_called, unit_texts}
-use Rattle.qs_findings.proofs.Blocks.{unit_globals, unit_past}
-use Rattle.qs_findings.proofs.Causes.{cause_is}
+use Rattle.qs_typing_findings.specs.declared.type_fault.TypeFault.{TypeFault}
+use Rattle.qs_typing_findings.specs.declared.type_fault.TypeFault.TheVariants as faults
+use Rattle.qs_typing_findings.specs.Findings.{least_with}
+use Rattle.qs_typing_findings.specs.Refusals.{IsAccepted, IsTold, limit_fault, rule_fault, main_fault, undefined_fault, early_refusal, late_refusal, first_refusal, late_by}
+use Rattle.qs_typing_findings.specs.UnitWalk.{WalkTree, unit_walked}
+use Rattle.qs_typing_findings.proofs.AddedFindings.{unit_least, unit_called, unit_texts}
+use Rattle.qs_typing_findings.proofs.Blocks.{unit_globals, unit_past}
+use Rattle.qs_typing_findings.proofs.Causes.{cause_is}
 use Rattle.qs_typing.proofs.WatchedExpressions.{any_least}
 
 -- ---- nothing is refused

@@ -4,10 +4,10 @@ use Rattle.qs_syntax.specs.Trees.{ExprTree}
 use Rattle.qs_types.specs.Types.{TypeTree}
 use Rattle.qs_types.specs.Contexts.{Context}
 use Rattle.qs_types.specs.ExpressionFaults.{used}
-use Rattle.qs_findings.specs.NodeTypes.{expr_types, lengths_types}
-use Rattle.qs_findings.specs.UnitWalk.{WalkTree, expr_walked, lengths_walked, object_opened, object_typed, declarator_walked}
-use Rattle.qs_findings.proofs.Walks.{place_filled}
-use Rattle.qs_findings.proofs.AddedFindings.{lengths_add}
+use Rattle.qs_typing_findings.specs.NodeTypes.{expr_types, lengths_types}
+use Rattle.qs_typing_findings.specs.UnitWalk.{WalkTree, expr_walked, lengths_walked, object_opened, object_typed, declarator_walked}
+use Rattle.qs_typing_findings.proofs.Walks.{place_filled}
+use Rattle.qs_typing_findings.proofs.AddedFindings.{lengths_add}
 
 -- with other types
 abbrev typed_so : WalkTree → List (Option TypeTree) → WalkTree

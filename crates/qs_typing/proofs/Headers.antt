@@ -7,9 +7,9 @@ use Rattle.qs_types.specs.Rules.{Test}
 use Rattle.qs_types.specs.Contexts.{Context, base_type, inner_scope, lookup}
 use Rattle.qs_types.specs.Expressions.{type_or_void}
 use Rattle.qs_types.specs.UnitRules.{agrees_with, is_void_pointer, main_tests, after_function, header_tests, parameter_types, result_type, with_parameters}
-use Rattle.qs_findings.specs.Functions.{items_walked}
-use Rattle.qs_findings.specs.Noted.{parameters_noted}
-use Rattle.qs_findings.specs.UnitWalk.{WalkTree, node_opened, node_judged, parameters_walked, body_walked, function_walked}
+use Rattle.qs_typing_findings.specs.Functions.{items_walked}
+use Rattle.qs_typing_findings.specs.Noted.{parameters_noted}
+use Rattle.qs_typing_findings.specs.UnitWalk.{WalkTree, node_opened, node_judged, parameters_walked, body_walked, function_walked}
 
 pub still_some : {A B : Type 0} (g : A → B) (o : Option A) → is_some o ≡ is_some (option_map g o)
 still_some g None = refl

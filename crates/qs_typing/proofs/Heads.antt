@@ -9,8 +9,8 @@ use Rattle.qs_types.specs.Expressions.{type_of}
 use Rattle.qs_types.specs.ExpressionFaults.{used, discarded}
 use Rattle.qs_types.specs.Layout.{and_then}
 use Rattle.qs_types.specs.StatementRules.{condition_tests, option_condition_tests, option_typed}
-use Rattle.qs_findings.specs.Statements.{head_tests_by, head_walked, typed_by}
-use Rattle.qs_findings.specs.UnitWalk.{WalkTree, node_judged, option_walked}
+use Rattle.qs_typing_findings.specs.Statements.{head_tests_by, head_walked, typed_by}
+use Rattle.qs_typing_findings.specs.UnitWalk.{WalkTree, node_judged, option_walked}
 
 same_typed : (c : Context) (u : Option ExprTree) → typed_by u (and_then u (type_of c)) ≡ option_typed c u
 same_typed c None = refl

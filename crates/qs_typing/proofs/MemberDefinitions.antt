@@ -14,8 +14,8 @@ use Rattle.qs_types.specs.StructsOf.{member_tree}
 use Rattle.qs_types.specs.TypeOf.{type_tree}
 use Rattle.qs_types.specs.UnitRules.{define_at, has_no_members, is_member}
 use Rattle.qs_types.specs.declared.types.CType.{CType}
-use Rattle.qs_findings.specs.ContextOf.{with_structs}
-use Rattle.qs_findings.proofs.MemberLookups.{seen, entry_member}
+use Rattle.qs_typing_findings.specs.ContextOf.{with_structs}
+use Rattle.qs_typing_findings.proofs.MemberLookups.{seen, entry_member}
 
 pub without_members : (o : Option (Option (List MemberTree))) → has_no_members o ≡ true → o ≡ Some None
 without_members None h = absurd (cc)

@@ -5,12 +5,12 @@ use Rattle.qs_types.specs.Types.{TypeTree}
 use Rattle.qs_types.specs.Contexts.{Context}
 use Rattle.qs_types.specs.ExpressionFaults.{whole, expr_faults}
 use Rattle.qs_types.specs.Rules.{Fault, is_any}
-use Rattle.qs_findings.specs.declared.found.Fault as found
-use Rattle.qs_findings.specs.FoundOf.{fault_tree}
-use Rattle.qs_findings.specs.Findings.{lesser, least_with}
-use Rattle.qs_findings.specs.UnitWalk.{WalkTree, initialiser_walked}
-use Rattle.qs_findings.specs.Variables.{joined_least, with_least_before}
-use Rattle.qs_findings.proofs.LeastFaults.{least_swaps}
+use Rattle.qs_typing_findings.specs.declared.found.Fault as found
+use Rattle.qs_typing_findings.specs.FoundOf.{fault_tree}
+use Rattle.qs_typing_findings.specs.Findings.{lesser, least_with}
+use Rattle.qs_typing_findings.specs.UnitWalk.{WalkTree, initialiser_walked}
+use Rattle.qs_typing_findings.specs.Variables.{joined_least, with_least_before}
+use Rattle.qs_typing_findings.proofs.LeastFaults.{least_swaps}
 
 -- the least of three, in either order
 three : (g m x : Fault) → least_with (Some g) (lesser (Some m) x ∷ []) ≡ least_with (least_with (Some g) (m ∷ [])) (x ∷ [])

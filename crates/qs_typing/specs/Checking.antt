@@ -6,15 +6,15 @@ use Rattle.qs_syntax.specs.TreeOf.{decl_tree}
 use Rattle.qs_syntax.specs.UnitTrees.{unit_tree}
 use Rattle.qs_types.specs.Limits.{block_past, global_limit, text_block}
 use Rattle.qs_types.specs.WellTyped.{end_context, undefined_from}
-use Rattle.qs_findings.specs.declared.context.Context.{Context}
-use Rattle.qs_findings.specs.declared.noted.Noted.{Noted}
-use Rattle.qs_findings.specs.declared.type_fault.TypeFault.{TypeFault}
-use Rattle.qs_findings.specs.declared.walk.Walk.{Walk}
-use Rattle.qs_findings.specs.ContextOf.{context_tree}
-use Rattle.qs_findings.specs.NotedOf.{block_tree, text_tree}
-use Rattle.qs_findings.specs.Refusals.{late_by, runs_in}
-use Rattle.qs_findings.specs.UnitWalk.{unit_walked}
-use Rattle.qs_findings.specs.WalkOf.{walk_tree}
+use Rattle.qs_typing_findings.specs.declared.context.Context.{Context}
+use Rattle.qs_typing_findings.specs.declared.noted.Noted.{Noted}
+use Rattle.qs_typing_findings.specs.declared.type_fault.TypeFault.{TypeFault}
+use Rattle.qs_typing_findings.specs.declared.walk.Walk.{Walk}
+use Rattle.qs_typing_findings.specs.ContextOf.{context_tree}
+use Rattle.qs_typing_findings.specs.NotedOf.{block_tree, text_tree}
+use Rattle.qs_typing_findings.specs.Refusals.{late_by, runs_in}
+use Rattle.qs_typing_findings.specs.UnitWalk.{unit_walked}
+use Rattle.qs_typing_findings.specs.WalkOf.{walk_tree}
 
 -- the first of the data past their limit
 abbrev pub IsFirstPast : Noted → Option ℕ → Type 0

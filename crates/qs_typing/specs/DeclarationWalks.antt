@@ -3,11 +3,11 @@ use Rattle.std.specs.Prelude.{◌≡◌, List, map}
 use Rattle.qs_syntax.specs.declared.units.Decl.{Decl}
 use Rattle.qs_syntax.specs.TreeOf.{decl_tree}
 use Rattle.qs_types.specs.UnitRules.{after_declaration, context_after}
-use Rattle.qs_findings.specs.declared.context.Context.{Context}
-use Rattle.qs_findings.specs.declared.walk.Walk.{Walk}
-use Rattle.qs_findings.specs.ContextOf.{context_tree}
-use Rattle.qs_findings.specs.UnitWalk.{declaration_walked, declarations_walked}
-use Rattle.qs_findings.specs.WalkOf.{walk_tree}
+use Rattle.qs_typing_findings.specs.declared.context.Context.{Context}
+use Rattle.qs_typing_findings.specs.declared.walk.Walk.{Walk}
+use Rattle.qs_typing_findings.specs.ContextOf.{context_tree}
+use Rattle.qs_typing_findings.specs.UnitWalk.{declaration_walked, declarations_walked}
+use Rattle.qs_typing_findings.specs.WalkOf.{walk_tree}
 
 abbrev pub KnowsDeclaration : Decl → (before after : Context) → Type 0
 KnowsDeclaration d before after = context_tree after ≡ after_declaration (context_tree before) (decl_tree d)

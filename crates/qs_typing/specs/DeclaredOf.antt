@@ -1,5 +1,5 @@
 -- Declared types in code, as the definitions see them.
-pub use Rattle.qs_findings.specs.PartsOf.{option_type}
+pub use Rattle.qs_typing_findings.specs.PartsOf.{option_type}
 use Rattle.std.specs.Prelude.{ℕ, Bool, not, ◌&&◌, ◌||◌, List, [], ◌∷◌, ◌++◌, Option, Some, Vec, is_some, map, option_map}
 use Rattle.std.specs.declared.alloc.Global.{Global}
 use Rattle.qs_syntax.specs.declared.types.Base.{Base}
@@ -11,8 +11,8 @@ use Rattle.qs_types.specs.Contexts.{Context, base_type, is_void_base}
 use Rattle.qs_types.specs.Declarations as declarations
 use Rattle.qs_types.specs.Layout.{and_then, is_complete, is_sized}
 use Rattle.qs_types.specs.TypeOf.{type_tree}
-use Rattle.qs_findings.specs.JudgedOf.{test_tree}
-use Rattle.qs_findings.specs.declared.judged.Test as made
+use Rattle.qs_typing_findings.specs.JudgedOf.{test_tree}
+use Rattle.qs_typing_findings.specs.declared.judged.Test as made
 use Rattle.qs_typing.specs.declared.declared_types.Declared.{Declared}
 
 abbrev pub tests_and_type : List made.Test → Option CType → declarations.Declared

@@ -14,9 +14,9 @@ use Rattle.qs_types.specs.Declarations as declarations
 use Rattle.qs_types.specs.EnvOf.{env_tree}
 use Rattle.qs_types.specs.TypeOf.{type_tree}
 use Rattle.qs_types.specs.UnitRules as rules
-use Rattle.qs_findings.specs.declared.context.Context.{Context}
+use Rattle.qs_typing_findings.specs.declared.context.Context.{Context}
 use Rattle.qs_typing.specs.declared.declared_types.Declared.{Declared}
-use Rattle.qs_findings.specs.ContextOf.{context_tree}
+use Rattle.qs_typing_findings.specs.ContextOf.{context_tree}
 use Rattle.qs_typing.specs.DeclaredOf.{declared_tree, numbers, sized_by_tests}
 
 -- the type of an object of these lengths

@@ -13,21 +13,21 @@ use Rattle.qs_types.specs.Declarations as declarations
 use Rattle.qs_types.specs.EnvOf.{env_tree}
 use Rattle.qs_types.specs.Rules as pure
 use Rattle.qs_types.specs.UnitRules as rules
-use Rattle.qs_findings.specs.declared.context.Context.{Context}
-use Rattle.qs_findings.specs.declared.entity.Entity.{Entity}
-use Rattle.qs_findings.specs.declared.entity.Signature.{Signature}
-use Rattle.qs_findings.specs.declared.judged.Test.{Test}
-use Rattle.qs_findings.specs.declared.noted.Local.{Local}
-use Rattle.qs_findings.specs.declared.walk.Walk.{Walk}
-use Rattle.qs_findings.specs.ContextOf.{context_tree}
-use Rattle.qs_findings.specs.PartsOf.{option_type}
-use Rattle.qs_findings.specs.EntityOf.{entity_at, entity_tree, signature_tree}
-use Rattle.qs_findings.specs.Functions.{after_parameters, items_walked}
-use Rattle.qs_findings.specs.JudgedOf.{test_tree}
-use Rattle.qs_findings.specs.Noted.{parameters_noted}
-use Rattle.qs_findings.specs.NotedOf.{local_tree}
-use Rattle.qs_findings.specs.UnitWalk.{declarator_walked, function_walked, parameter_walked, parameters_walked}
-use Rattle.qs_findings.specs.WalkOf.{walk_tree}
+use Rattle.qs_typing_findings.specs.declared.context.Context.{Context}
+use Rattle.qs_typing_findings.specs.declared.entity.Entity.{Entity}
+use Rattle.qs_typing_findings.specs.declared.entity.Signature.{Signature}
+use Rattle.qs_typing_findings.specs.declared.judged.Test.{Test}
+use Rattle.qs_typing_findings.specs.declared.noted.Local.{Local}
+use Rattle.qs_typing_findings.specs.declared.walk.Walk.{Walk}
+use Rattle.qs_typing_findings.specs.ContextOf.{context_tree}
+use Rattle.qs_typing_findings.specs.PartsOf.{option_type}
+use Rattle.qs_typing_findings.specs.EntityOf.{entity_at, entity_tree, signature_tree}
+use Rattle.qs_typing_findings.specs.Functions.{after_parameters, items_walked}
+use Rattle.qs_typing_findings.specs.JudgedOf.{test_tree}
+use Rattle.qs_typing_findings.specs.Noted.{parameters_noted}
+use Rattle.qs_typing_findings.specs.NotedOf.{local_tree}
+use Rattle.qs_typing_findings.specs.UnitWalk.{declarator_walked, function_walked, parameter_walked, parameters_walked}
+use Rattle.qs_typing_findings.specs.WalkOf.{walk_tree}
 
 -- ---- parameters
 

@@ -1,5 +1,5 @@
 -- Words on types that the code of initialisers uses.
-pub use Rattle.qs_findings.specs.PartsOf.{type_at}
+pub use Rattle.qs_typing_findings.specs.PartsOf.{type_at}
 use Rattle.std.specs.Prelude.{◌≡◌, Bool, true, false, List, Option, Some, None, is_some}
 use Rattle.std.specs.Borrow.{Bor}
 use Rattle.qs_syntax.specs.declared.declarations.Initialiser.{Initialiser}
@@ -15,11 +15,11 @@ use Rattle.qs_types.specs.Expressions.{type_of}
 use Rattle.qs_types.specs.InitialiserRules as rules
 use Rattle.qs_types.specs.InitialiserRules.{takes_list, list_fits}
 use Rattle.qs_types.specs.TypeOf.{type_tree}
-use Rattle.qs_findings.specs.declared.context.Context.{Context}
-use Rattle.qs_findings.specs.declared.walk.Walk.{Walk}
-use Rattle.qs_findings.specs.ContextOf.{context_tree}
-use Rattle.qs_findings.specs.UnitWalk.{elements_walked, initialiser_walked}
-use Rattle.qs_findings.specs.WalkOf.{walk_tree}
+use Rattle.qs_typing_findings.specs.declared.context.Context.{Context}
+use Rattle.qs_typing_findings.specs.declared.walk.Walk.{Walk}
+use Rattle.qs_typing_findings.specs.ContextOf.{context_tree}
+use Rattle.qs_typing_findings.specs.UnitWalk.{elements_walked, initialiser_walked}
+use Rattle.qs_typing_findings.specs.WalkOf.{walk_tree}
 
 abbrev pub is_char : TypeTree → Bool
 is_char int = false

@@ -5,14 +5,14 @@ use Rattle.qs_syntax.specs.declared.declarations.Lengths.{Lengths}
 use Rattle.qs_syntax.specs.TreeOf.{expr_tree, lengths_tree}
 use Rattle.qs_types.specs.Declarations as declarations
 use Rattle.qs_types.specs.Declarations.{all_typed, element_lengths, first_length, lengths_of}
-use Rattle.qs_findings.specs.declared.context.Context.{Context}
+use Rattle.qs_typing_findings.specs.declared.context.Context.{Context}
 use Rattle.qs_typing.specs.declared.lengths.ArrayLengths.{ArrayLengths}
 use Rattle.qs_typing.specs.declared.lengths.ParameterLengths.{ParameterLengths}
-use Rattle.qs_findings.specs.declared.walk.Walk.{Walk}
-use Rattle.qs_findings.specs.ContextOf.{context_tree}
+use Rattle.qs_typing_findings.specs.declared.walk.Walk.{Walk}
+use Rattle.qs_typing_findings.specs.ContextOf.{context_tree}
 use Rattle.qs_typing.specs.DeclaredOf.{numbers}
-use Rattle.qs_findings.specs.UnitWalk.{lengths_walked}
-use Rattle.qs_findings.specs.WalkOf.{walk_tree}
+use Rattle.qs_typing_findings.specs.UnitWalk.{lengths_walked}
+use Rattle.qs_typing_findings.specs.WalkOf.{walk_tree}
 
 -- whether each of these lengths has a type, and their values, where each is a length
 abbrev pub AreTyped : Context → List Expr → ArrayLengths → Type 0

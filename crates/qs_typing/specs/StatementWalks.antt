@@ -15,17 +15,17 @@ use Rattle.qs_types.specs.Expressions.{type_of}
 use Rattle.qs_types.specs.Layout.{and_then}
 use Rattle.qs_types.specs.StatementRules as rules
 use Rattle.qs_types.specs.TypeOf.{type_tree}
-use Rattle.qs_findings.specs.declared.context.Context.{Context}
-use Rattle.qs_findings.specs.declared.judged.Test.{Test}
-use Rattle.qs_findings.specs.declared.positions.Position.{Position}
-use Rattle.qs_findings.specs.declared.walk.Walk.{Walk}
-use Rattle.qs_findings.specs.ContextOf.{context_tree}
-use Rattle.qs_findings.specs.PartsOf.{option_type, type_at}
-use Rattle.qs_findings.specs.JudgedOf.{test_tree}
-use Rattle.qs_findings.specs.PositionOf.{position_tree}
-use Rattle.qs_findings.specs.Statements.{after_statements, head_tests_by, head_walked, return_tests_by}
-use Rattle.qs_findings.specs.UnitWalk as walks
-use Rattle.qs_findings.specs.WalkOf.{walk_tree}
+use Rattle.qs_typing_findings.specs.declared.context.Context.{Context}
+use Rattle.qs_typing_findings.specs.declared.judged.Test.{Test}
+use Rattle.qs_typing_findings.specs.declared.positions.Position.{Position}
+use Rattle.qs_typing_findings.specs.declared.walk.Walk.{Walk}
+use Rattle.qs_typing_findings.specs.ContextOf.{context_tree}
+use Rattle.qs_typing_findings.specs.PartsOf.{option_type, type_at}
+use Rattle.qs_typing_findings.specs.JudgedOf.{test_tree}
+use Rattle.qs_typing_findings.specs.PositionOf.{position_tree}
+use Rattle.qs_typing_findings.specs.Statements.{after_statements, head_tests_by, head_walked, return_tests_by}
+use Rattle.qs_typing_findings.specs.UnitWalk as walks
+use Rattle.qs_typing_findings.specs.WalkOf.{walk_tree}
 
 -- ---- expressions in statements
 

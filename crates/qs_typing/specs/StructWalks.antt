@@ -10,15 +10,15 @@ use Rattle.qs_types.specs.declared.types.CType.{CType}
 use Rattle.qs_types.specs.Rules as pure
 use Rattle.qs_types.specs.StructsOf.{member_tree}
 use Rattle.qs_types.specs.UnitRules as rules
-use Rattle.qs_findings.specs.declared.context.Context.{Context}
-use Rattle.qs_findings.specs.declared.judged.Test.{Test}
+use Rattle.qs_typing_findings.specs.declared.context.Context.{Context}
+use Rattle.qs_typing_findings.specs.declared.judged.Test.{Test}
 use Rattle.qs_typing.specs.declared.members_before.MembersBefore.{MembersBefore}
-use Rattle.qs_findings.specs.declared.walk.Walk.{Walk}
-use Rattle.qs_findings.specs.ContextOf.{context_tree}
-use Rattle.qs_findings.specs.JudgedOf.{test_tree}
+use Rattle.qs_typing_findings.specs.declared.walk.Walk.{Walk}
+use Rattle.qs_typing_findings.specs.ContextOf.{context_tree}
+use Rattle.qs_typing_findings.specs.JudgedOf.{test_tree}
 use Rattle.qs_typing.specs.MembersOf.{before_tree}
-use Rattle.qs_findings.specs.UnitWalk.{member_walked, members_walked, struct_walked, together_walked}
-use Rattle.qs_findings.specs.WalkOf.{walk_tree}
+use Rattle.qs_typing_findings.specs.UnitWalk.{member_walked, members_walked, struct_walked, together_walked}
+use Rattle.qs_typing_findings.specs.WalkOf.{walk_tree}
 
 -- the tests of a member, where its lengths have types
 abbrev pub AreMemberTests : (all_typed : Bool) → (declared : List Test) → (again : Bool) → List Test → Type 0

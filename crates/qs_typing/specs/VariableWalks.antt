@@ -12,16 +12,16 @@ use Rattle.qs_types.specs.InitialiserRules.{initialiser_tests}
 use Rattle.qs_types.specs.Rules.{is_any}
 use Rattle.qs_types.specs.StatementRules as rules
 use Rattle.qs_types.specs.StatementRules.{after_variable, after_variables}
-use Rattle.qs_findings.specs.declared.context.Context.{Context}
-use Rattle.qs_findings.specs.declared.judged.Test.{Test}
+use Rattle.qs_typing_findings.specs.declared.context.Context.{Context}
+use Rattle.qs_typing_findings.specs.declared.judged.Test.{Test}
 use Rattle.qs_typing.specs.declared.variables.Initialised.{Initialised}
-use Rattle.qs_findings.specs.declared.walk.Walk.{Walk}
-use Rattle.qs_findings.specs.ContextOf.{context_tree}
+use Rattle.qs_typing_findings.specs.declared.walk.Walk.{Walk}
+use Rattle.qs_typing_findings.specs.ContextOf.{context_tree}
 use Rattle.qs_typing.specs.DeclaredOf.{option_type}
-use Rattle.qs_findings.specs.JudgedOf.{test_tree}
-use Rattle.qs_findings.specs.UnitWalk.{declarator_walked, option_initialiser_walked, variable_walked, variables_walked}
-use Rattle.qs_findings.specs.Variables.{again_tests, fit_tests}
-use Rattle.qs_findings.specs.WalkOf.{walk_tree}
+use Rattle.qs_typing_findings.specs.JudgedOf.{test_tree}
+use Rattle.qs_typing_findings.specs.UnitWalk.{declarator_walked, option_initialiser_walked, variable_walked, variables_walked}
+use Rattle.qs_typing_findings.specs.Variables.{again_tests, fit_tests}
+use Rattle.qs_typing_findings.specs.WalkOf.{walk_tree}
 
 -- ---- initialisers
 

@@ -5,25 +5,25 @@ ghost use Rattle.qs_types.specs.declared.limits.LimitKind.TheVariants as kinds;
 ghost use Rattle.qs_syntax.specs.UnitTrees.{unit_tree};
 ghost use Rattle.qs_types.specs.Limits as limits;
 ghost use Rattle.qs_types.specs.WellTyped as well_typed;
-ghost use Rattle.qs_findings.specs.ContextOf.{context_tree};
+ghost use Rattle.qs_typing_findings.specs.ContextOf.{context_tree};
 ghost use Rattle.qs_typing.specs.Checking.{IsEnd, IsFirstPast, IsLate, IsUndefined, WalksUnit};
-ghost use Rattle.qs_findings.specs.EntityOf.{entity_at};
-ghost use Rattle.qs_findings.specs.Noting.{AreTextBlocks, IsTextBlock};
-ghost use Rattle.qs_findings.specs.Refusals.{IsAccepted, IsTold, early_refusal, first_past};
-ghost use Rattle.qs_findings.specs.Refusals.{has_main_in, limit_fault};
-ghost use Rattle.qs_findings.specs.Sets.{names_once};
-ghost use Rattle.qs_findings.specs.TypedOf.{typed_tree};
-ghost use Rattle.qs_findings.specs.declared.type_fault.TypeFault.TheVariants as faults;
+ghost use Rattle.qs_typing_findings.specs.EntityOf.{entity_at};
+ghost use Rattle.qs_typing_findings.specs.Noting.{AreTextBlocks, IsTextBlock};
+ghost use Rattle.qs_typing_findings.specs.Refusals.{IsAccepted, IsTold, early_refusal, first_past};
+ghost use Rattle.qs_typing_findings.specs.Refusals.{has_main_in, limit_fault};
+ghost use Rattle.qs_typing_findings.specs.Sets.{names_once};
+ghost use Rattle.qs_typing_findings.specs.TypedOf.{typed_tree};
+ghost use Rattle.qs_typing_findings.specs.declared.type_fault.TypeFault.TheVariants as faults;
 
 use crate::units::walk_declarations;
 use indexmap::IndexSet;
 use qs_base::{Name, NoMemory};
-use qs_copies::copy_unit;
-use qs_findings::{
+use qs_syntax::{Decl, Function, Unit};
+use qs_syntax_copies::copy_unit;
+use qs_types::LimitKind;
+use qs_typing_findings::{
     Block, Context, Entity, Noted, TextBlock, TypeFault, TypedUnit, Walk, block_past,
 };
-use qs_syntax::{Decl, Function, Unit};
-use qs_types::LimitKind;
 use std::alloc::Global;
 
 /// The most nodes of a unit.
@@ -164,7 +164,7 @@ fn undefined_from(c: &Context, calls: &IndexSet<Name>, ds: &[Decl]) -> Option<u3
     None
 }
 
-#[tactic(auto, using(qs_findings::proofs::Sets::undefined_once))]
+#[tactic(auto, using(qs_typing_findings::proofs::Sets::undefined_once))]
 fn first_undefined(
     alloc: Global,
     c: &Context,

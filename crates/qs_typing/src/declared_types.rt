@@ -7,7 +7,7 @@ ghost use Rattle.qs_types.specs.EnvOf.{env_tree};
 ghost use Rattle.qs_types.specs.Layout.{is_sized};
 ghost use Rattle.qs_types.specs.Types.{pointer};
 ghost use Rattle.qs_types.specs.TypeOf.{type_tree};
-ghost use Rattle.qs_findings.specs.ContextOf.{context_tree};
+ghost use Rattle.qs_typing_findings.specs.ContextOf.{context_tree};
 ghost use Rattle.qs_typing.specs.DeclaredOf.{declared_tree, is_incomplete, option_type};
 ghost use Rattle.qs_typing.specs.DeclaredOf.{tests_and_type};
 ghost use Rattle.qs_typing.specs.Declares.{AreWholeLengths, IsArrayParameter, IsDeclared, IsObject};
@@ -18,12 +18,12 @@ ghost use Rattle.qs_typing.specs.LengthsOf.{ElementsAreValued, is_length, is_len
 
 use crate::lengths::{ArrayLengths, ParameterLengths, arrays};
 use qs_base::NoMemory;
-use qs_findings::{Context, Test, is_void_base, keeps, type_or_void, violates};
 use qs_syntax::{
     Base, Declarator, Expr, Initialiser, InitialiserList, Lengths, Parameter, Shape, TypeName,
     Variable,
 };
 use qs_types::{CType, Env, Rule, extent_of, is_complete};
+use qs_typing_findings::{Context, Test, is_void_base, keeps, type_or_void, violates};
 use std::alloc::Global;
 
 /// The tests of a node that declares a type, and the type where it breaks none of their rules.

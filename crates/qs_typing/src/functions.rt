@@ -6,8 +6,8 @@ ghost use Rattle.qs_types.specs.Expressions.{type_or_void};
 ghost use Rattle.qs_types.specs.Types.{is_struct};
 ghost use Rattle.qs_types.specs.TypeOf.{type_tree};
 ghost use Rattle.qs_types.specs.UnitRules as rules;
-ghost use Rattle.qs_findings.specs.ContextOf.{context_tree};
-ghost use Rattle.qs_findings.specs.PartsOf.{option_type};
+ghost use Rattle.qs_typing_findings.specs.ContextOf.{context_tree};
+ghost use Rattle.qs_typing_findings.specs.PartsOf.{option_type};
 ghost use Rattle.qs_typing.specs.FunctionWalks.{AreHeaderTests, AreNoted, AreParameterTests};
 ghost use Rattle.qs_typing.specs.FunctionWalks.{AreParameterTypes, AreWithOne, DeclaresParameter};
 ghost use Rattle.qs_typing.specs.FunctionWalks.{DeclaresParameters, HasParameterTypes};
@@ -18,19 +18,19 @@ ghost use Rattle.qs_typing.specs.FunctionWalks.{WalksDeclarator, WalksFunction, 
 ghost use Rattle.qs_typing.specs.FunctionWalks.{WalksParameter, WalksParameters, agrees_with};
 ghost use Rattle.qs_typing.specs.FunctionWalks.{are_lengths_typed, header_by};
 ghost use Rattle.qs_typing.specs.Declares.{IsParameter};
-ghost use Rattle.qs_findings.specs.EntityOf.{signature_tree};
-ghost use Rattle.qs_findings.specs.Noted.{parameters_noted};
-ghost use Rattle.qs_findings.specs.PartsOf.{types_tree};
+ghost use Rattle.qs_typing_findings.specs.EntityOf.{signature_tree};
+ghost use Rattle.qs_typing_findings.specs.Noted.{parameters_noted};
+ghost use Rattle.qs_typing_findings.specs.PartsOf.{types_tree};
 
 use crate::declared_types::{Declared, parameter_declared};
 use crate::lengths::walk_parameter_lengths;
 use crate::statements::walk_statements;
 use qs_base::{Name, NoMemory};
-use qs_findings::{
-    Context, Entity, Local, Signature, Test, Walk, copied, is_void_base, keeps, local_of, violates,
-};
 use qs_syntax::{Function, Parameter, Stmt};
 use qs_types::{CType, Env, Rule, is_scalar, is_struct};
+use qs_typing_findings::{
+    Context, Entity, Local, Signature, Test, Walk, copied, is_void_base, keeps, local_of, violates,
+};
 use std::alloc::Global;
 
 // ---- parameters

@@ -8,8 +8,8 @@ ghost use Rattle.qs_types.specs.Layout.{struct_of};
 ghost use Rattle.qs_types.specs.Declarations.{text_of};
 ghost use Rattle.qs_types.specs.Sites.{may_hold};
 ghost use Rattle.qs_types.specs.TypeOf.{type_tree};
-ghost use Rattle.qs_findings.specs.ContextOf.{context_tree};
-ghost use Rattle.qs_findings.specs.EntityOf.{entity_at};
+ghost use Rattle.qs_typing_findings.specs.ContextOf.{context_tree};
+ghost use Rattle.qs_typing_findings.specs.EntityOf.{entity_at};
 ghost use Rattle.qs_typing.specs.Initialisers.{Fills, Initialises, WalksList, WalksValue, all_fit};
 ghost use Rattle.qs_typing.specs.Initialisers.{all_typed, fits, fits_as, is_char, is_constant_at};
 ghost use Rattle.qs_typing.specs.Initialisers.{is_typed, is_value_typed, list_fits_at};
@@ -19,10 +19,12 @@ ghost use Rattle.qs_typing.specs.Initialisers.{value_fits};
 use crate::declared_types::text_length;
 use crate::lengths::constant;
 use qs_base::NoMemory;
-use qs_findings::{Context, Entity, Position, Walk, decayed, is_assignable, is_lvalue, keeps};
 use qs_syntax::{Expr, Initialiser, InitialiserList, Shape};
+use qs_syntax_vocabulary::UnaryOperator;
 use qs_types::{CType, Env, Rule, is_array, is_null_constant, is_scalar, is_struct};
-use qs_vocabulary::UnaryOperator;
+use qs_typing_findings::{
+    Context, Entity, Position, Walk, decayed, is_assignable, is_lvalue, keeps,
+};
 use std::alloc::Global;
 
 /// Whether an initialiser has a type, and whether it fits.

@@ -5,16 +5,16 @@ ghost use Rattle.qs_types.specs.Constants.{constant_of, length_of, length_within
 ghost use Rattle.qs_types.specs.Declarations.{arrays};
 ghost use Rattle.qs_types.specs.Expressions.{type_of};
 ghost use Rattle.qs_types.specs.TypeOf.{type_tree};
-ghost use Rattle.qs_findings.specs.ContextOf.{context_tree};
+ghost use Rattle.qs_typing_findings.specs.ContextOf.{context_tree};
 ghost use Rattle.qs_typing.specs.DeclaredOf.{all_lengths, numbers, one_length};
 ghost use Rattle.qs_typing.specs.LengthsOf.{AreTyped, AreValued, ElementsAreTyped};
 ghost use Rattle.qs_typing.specs.LengthsOf.{ElementsAreValued, WalksGiven, WalksLengths};
 ghost use Rattle.qs_typing.specs.LengthsOf.{WholeTyped, is_length, is_length_typed};
 
 use qs_base::NoMemory;
-use qs_findings::{Context, Position, Walk};
 use qs_syntax::{Expr, Lengths};
 use qs_types::{CType, is_built, is_integer, is_unsigned, value};
+use qs_typing_findings::{Context, Position, Walk};
 use std::alloc::Global;
 
 /// The lengths of an array, and whether they have types.

@@ -2,8 +2,8 @@
 ghost use Rattle.std.specs.Prelude.{◌≡◌, IfOk, OnOk, option_map};
 ghost use Rattle.qs_syntax.specs.TreeOf.{option_tree};
 ghost use Rattle.qs_types.specs.TypeOf.{type_tree};
-ghost use Rattle.qs_findings.specs.ContextOf.{context_tree};
-ghost use Rattle.qs_findings.specs.Statements.{typed_by};
+ghost use Rattle.qs_typing_findings.specs.ContextOf.{context_tree};
+ghost use Rattle.qs_typing_findings.specs.Statements.{typed_by};
 ghost use Rattle.qs_typing.specs.StatementWalks.{WalksDiscarded, WalksDo, WalksFor, WalksIf};
 ghost use Rattle.qs_typing.specs.StatementWalks.{WalksWhile, IsConditionTest, IsHeadTest};
 ghost use Rattle.qs_typing.specs.StatementWalks.{IsOptionType, IsReturnTest, IsReturned};
@@ -15,9 +15,9 @@ ghost use Rattle.qs_typing.specs.StatementWalks.{WalksStatement, WalksStatements
 
 use crate::variables::walk_variables;
 use qs_base::NoMemory;
-use qs_findings::{Context, Position, Test, Walk, decayed, is_assignable, keeps};
 use qs_syntax::{Expr, Node, Start, Stmt};
 use qs_types::{CType, Rule, is_scalar, is_void};
+use qs_typing_findings::{Context, Position, Test, Walk, decayed, is_assignable, keeps};
 use std::alloc::Global;
 
 // ---- expressions in statements

@@ -4,7 +4,7 @@ ghost use Rattle.std.specs.List.{slice_get};
 ghost use Rattle.qs_types.specs.EnvOf.{env_tree};
 ghost use Rattle.qs_types.specs.LayoutLaws.{IsSmall};
 ghost use Rattle.qs_types.specs.UnitRules as rules;
-ghost use Rattle.qs_findings.specs.ContextOf.{context_tree};
+ghost use Rattle.qs_typing_findings.specs.ContextOf.{context_tree};
 ghost use Rattle.qs_typing.specs.DeclaredOf.{option_type};
 ghost use Rattle.qs_typing.specs.Declares.{IsMember};
 ghost use Rattle.qs_typing.specs.LengthsOf.{AreTyped, AreValued};
@@ -17,9 +17,9 @@ use crate::lengths::{ArrayLengths, walk_lengths};
 use crate::members_before::{MembersBefore, member_end};
 use indexmap::IndexMap;
 use qs_base::{Name, NoMemory};
-use qs_findings::{Context, Test, Walk, keeps, violates};
 use qs_syntax::{Base, Declarator, Members, Struct};
 use qs_types::{CType, Env, Extent, Rule, SIZE_LIMIT, extent_of};
+use qs_typing_findings::{Context, Test, Walk, keeps, violates};
 use std::alloc::Global;
 
 /// Whether a member of this extent has room behind this end.

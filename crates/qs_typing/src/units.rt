@@ -7,8 +7,8 @@ use crate::functions::walk_function;
 use crate::structs::walk_struct;
 use crate::variables::walk_variables;
 use qs_base::NoMemory;
-use qs_findings::{Context, Walk};
 use qs_syntax::Decl;
+use qs_typing_findings::{Context, Walk};
 use std::alloc::Global;
 
 /// Walks over what stands at file scope, which is known behind it.

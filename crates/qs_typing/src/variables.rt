@@ -3,21 +3,21 @@ ghost use Rattle.std.specs.Prelude.{◌≡◌, IfOk, OnOk, is_some};
 ghost use Rattle.qs_types.specs.StatementRules.{entity_at};
 ghost use Rattle.qs_typing.specs.DeclaredOf.{option_type};
 ghost use Rattle.qs_typing.specs.Declares.{IsVariable};
-ghost use Rattle.qs_findings.specs.EntityOf.{entity_tree};
+ghost use Rattle.qs_typing_findings.specs.EntityOf.{entity_tree};
 ghost use Rattle.qs_typing.specs.Initialisers.{WalksValue, is_value_typed, value_fits};
 ghost use Rattle.qs_typing.specs.VariableWalks.{AreVariableTests, HasDeclaredType, IsTested};
 ghost use Rattle.qs_typing.specs.VariableWalks.{KnowsAll, KnowsOne, WalksAll, WalksDeclarator};
 ghost use Rattle.qs_typing.specs.VariableWalks.{WalksOne, WalksOption, are_lengths_typed};
 ghost use Rattle.qs_typing.specs.VariableWalks.{breaks_rule, holds_back};
-ghost use Rattle.qs_findings.specs.Variables.{fits_of};
+ghost use Rattle.qs_typing_findings.specs.Variables.{fits_of};
 
 use crate::declared_types::{Declared, variable_declared};
 use crate::initialisers::{Fit, walk_list, walk_value};
 use crate::lengths::walk_lengths;
 use qs_base::NoMemory;
-use qs_findings::{Context, Entity, Test, Walk, copied, keeps, violates};
 use qs_syntax::{Base, Expr, Initialiser, Variable};
 use qs_types::{CType, Rule};
+use qs_typing_findings::{Context, Entity, Test, Walk, copied, keeps, violates};
 use std::alloc::Global;
 
 /// What an initialiser says of its variable.

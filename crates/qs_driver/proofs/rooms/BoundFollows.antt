@@ -1,11 +1,11 @@
 -- What follows from what is due to `bound`.
 use Rattle.std.proofs.Common.{◌≡◌, ◌≢◌, ◌⊎◌, ◌<◌, ap, subst, sym, inl, inr}
 use Rattle.qs_ports.specs.StoreView.{StoreView}
-use Rattle.qs_session.specs.Due.{Due}
-use Rattle.qs_session.specs.Promises.{StoreHeld, SaysStoreFailed}
-use Rattle.qs_session.specs.declared.status.Status.{Status}
-use Rattle.qs_session.specs.declared.status.Status.TheVariants.{Done, NoMemory}
-use Rattle.qs_session.proofs.rooms.Follows.{Follows, not_untouched}
+use Rattle.qs_driver_session.specs.Due.{Due}
+use Rattle.qs_driver_session.specs.Promises.{StoreHeld, SaysStoreFailed}
+use Rattle.qs_driver_session.specs.declared.status.Status.{Status}
+use Rattle.qs_driver_session.specs.declared.status.Status.TheVariants.{Done, NoMemory}
+use Rattle.qs_driver_session.proofs.rooms.Follows.{Follows, not_untouched}
 use Rattle.qs_driver.specs.Made.{CannotMake}
 use Rattle.qs_driver.specs.commands.Bound.{BoundWords, to_make, bound, HasBound, IsDueToBound, Accepts, Refuses, IsOfBound}
 use Rattle.qs_driver.specs.commands.Bound as meant

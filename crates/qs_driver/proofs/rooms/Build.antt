@@ -1,6 +1,6 @@
 -- What `build` came to.
 use Rattle.std.proofs.Common.{◌≢◌, ℕ, List, Some, Result, Ok, Err, refl, inl, inr, subst}
-use Rattle.qs_findings.specs.TypedOf.{typed_tree}
+use Rattle.qs_typing_findings.specs.TypedOf.{typed_tree}
 use Rattle.qs_ports.specs.StoreView.{StoreView, HasSameCounts, HasFailed}
 use Rattle.qs_ports.specs.SinkView.{SinkView}
 use Rattle.qs_ports.specs.Whole.{Stores, IsCutShort}
@@ -8,16 +8,16 @@ use Rattle.qs_ports.proofs.Wholes.{counts_more, failed_later}
 use Rattle.qs_syntax.specs.Trees.{UnitTree}
 use Rattle.qs_image.specs.Image.{Image, IsImage}
 use Rattle.qs_compile.specs.Compiled.{IsCompiled, IsImageOfSource}
-use Rattle.qs_session.specs.Lines.{cost_lines}
-use Rattle.qs_session.specs.Faults.{status_line}
-use Rattle.qs_session.specs.Devices.{streams, views_of}
-use Rattle.qs_session.specs.Due.{EndsWith, IsWritten}
-use Rattle.qs_session.specs.Task.{Answers}
-use Rattle.qs_session.specs.declared.status.Status.{Status}
-use Rattle.qs_session.specs.declared.status.Status.TheVariants.{Done, StoreFailed, NoMemory}
-use Rattle.qs_session.specs.declared.status.FileKind.TheVariants as kinds
-use Rattle.qs_session.proofs.LaterLaws.{keeps_then_holds, cut_short}
-use Rattle.qs_session.proofs.StepsLaws.{log_last, out_last}
+use Rattle.qs_driver_session.specs.Lines.{cost_lines}
+use Rattle.qs_driver_session.specs.Faults.{status_line}
+use Rattle.qs_driver_session.specs.Devices.{streams, views_of}
+use Rattle.qs_driver_session.specs.Due.{EndsWith, IsWritten}
+use Rattle.qs_driver_session.specs.Task.{Answers}
+use Rattle.qs_driver_session.specs.declared.status.Status.{Status}
+use Rattle.qs_driver_session.specs.declared.status.Status.TheVariants.{Done, StoreFailed, NoMemory}
+use Rattle.qs_driver_session.specs.declared.status.FileKind.TheVariants as kinds
+use Rattle.qs_driver_session.proofs.LaterLaws.{keeps_then_holds, cut_short}
+use Rattle.qs_driver_session.proofs.StepsLaws.{log_last, out_last}
 use Rattle.qs_driver.specs.Certified.{LacksCertified, HasCertified}
 use Rattle.qs_driver.specs.commands.Build.{BuildWords, NamesDiffer, names_of, inputs, build, due_of, HasImage, Builds}
 use Rattle.qs_driver.specs.commands.Build as meant

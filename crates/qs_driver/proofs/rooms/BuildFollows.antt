@@ -1,11 +1,11 @@
 -- What follows from what is due to `build`.
 use Rattle.std.proofs.Common.{◌≡◌, ◌≢◌, ◌⊎◌, ap, subst, sym, inl, inr}
 use Rattle.qs_ports.specs.StoreView.{StoreView}
-use Rattle.qs_session.specs.Due.{Due}
-use Rattle.qs_session.specs.Promises.{StoreHeld}
-use Rattle.qs_session.specs.declared.status.Status.{Status}
-use Rattle.qs_session.specs.declared.status.Status.TheVariants.{NoMemory}
-use Rattle.qs_session.proofs.rooms.Follows.{Follows}
+use Rattle.qs_driver_session.specs.Due.{Due}
+use Rattle.qs_driver_session.specs.Promises.{StoreHeld}
+use Rattle.qs_driver_session.specs.declared.status.Status.{Status}
+use Rattle.qs_driver_session.specs.declared.status.Status.TheVariants.{NoMemory}
+use Rattle.qs_driver_session.proofs.rooms.Follows.{Follows}
 use Rattle.qs_driver.specs.Certified.{LacksCertified}
 use Rattle.qs_driver.specs.commands.Build.{BuildWords, NamesDiffer, NamesOneTwice, inputs, build, CannotBuild, IsDueToBuild, Accepts, Refuses, IsOfBuild}
 use Rattle.qs_driver.specs.commands.Build as meant

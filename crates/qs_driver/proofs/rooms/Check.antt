@@ -4,12 +4,12 @@ use Rattle.qs_ports.specs.StoreView.{StoreView}
 use Rattle.qs_ports.specs.SinkView.{SinkView}
 use Rattle.qs_report.specs.declared.fault_texts.Count.{Count}
 use Rattle.qs_report.specs.declared.fault_texts.Count.TheVariants.{Checked}
-use Rattle.qs_session.specs.Devices.{streams, views_of}
-use Rattle.qs_session.specs.Due.{IsWritten}
-use Rattle.qs_session.specs.Counts.{counted, counted_or_refused}
-use Rattle.qs_session.specs.Task.{Answers}
-use Rattle.qs_session.specs.declared.status.Status.{Status}
-use Rattle.qs_session.specs.declared.status.Status.TheVariants.{NoMemory}
+use Rattle.qs_driver_session.specs.Devices.{streams, views_of}
+use Rattle.qs_driver_session.specs.Due.{IsWritten}
+use Rattle.qs_driver_session.specs.Counts.{counted, counted_or_refused}
+use Rattle.qs_driver_session.specs.Task.{Answers}
+use Rattle.qs_driver_session.specs.declared.status.Status.{Status}
+use Rattle.qs_driver_session.specs.declared.status.Status.TheVariants.{NoMemory}
 use Rattle.qs_driver.specs.Certified.{CertifyWords, CertifiedSource, LacksCertified, HasCertified}
 use Rattle.qs_driver.specs.Certified as lacks
 use Rattle.qs_driver.specs.commands.Check.{names_of, check, Checks}

@@ -1,11 +1,11 @@
 -- What follows from what is due to `check`.
 use Rattle.std.proofs.Common.{◌≡◌, ◌≢◌, ◌⊎◌, ◌<◌, ap, subst, sym, inl, inr, IsTrue}
 use Rattle.qs_ports.specs.StoreView.{StoreView}
-use Rattle.qs_session.specs.Due.{Due}
-use Rattle.qs_session.specs.Promises.{StoreHeld, SaysStoreFailed}
-use Rattle.qs_session.specs.declared.status.Status.{Status}
-use Rattle.qs_session.specs.declared.status.Status.TheVariants.{Done, NoMemory}
-use Rattle.qs_session.proofs.rooms.Follows.{Follows, not_untouched}
+use Rattle.qs_driver_session.specs.Due.{Due}
+use Rattle.qs_driver_session.specs.Promises.{StoreHeld, SaysStoreFailed}
+use Rattle.qs_driver_session.specs.declared.status.Status.{Status}
+use Rattle.qs_driver_session.specs.declared.status.Status.TheVariants.{Done, NoMemory}
+use Rattle.qs_driver_session.proofs.rooms.Follows.{Follows, not_untouched}
 use Rattle.qs_driver.specs.Certified.{CertifyWords, CertifiedSource, ReadsCertified, LacksCertified}
 use Rattle.qs_driver.specs.commands.Check.{check, IsDueToCheck, Accepts, Refuses, IsOfCheck}
 use Rattle.qs_driver.specs.commands.Check as meant

@@ -3,13 +3,13 @@ use Rattle.std.proofs.Common.{◌≡◌, ◌≢◌, ℕ, ◌<◌, ◌≤◌, ◌
 use Rattle.qs_syntax.specs.Units.{IsRead}
 use Rattle.qs_types.specs.Limits.{IsWithinLimits, function_limit}
 use Rattle.qs_types.specs.WellTyped.{WellTyped}
-use Rattle.qs_findings.specs.TypedOf.{typed_tree}
+use Rattle.qs_typing_findings.specs.TypedOf.{typed_tree}
 use Rattle.qs_core.specs.Fits.{unit_fits}
 use Rattle.qs_core.specs.Trees.{CoreUnitTree}
 use Rattle.qs_core.specs.UnitTrees.{unit_tree}
-use Rattle.qs_limits.specs.Laws.{OfEachCore}
-use Rattle.qs_limits.specs.Laws as limits
-use Rattle.qs_limits.proofs.CoreUnits.{functions_are_few, statements_nest_little}
+use Rattle.qs_elaborate_limits.specs.Laws.{OfEachCore}
+use Rattle.qs_elaborate_limits.specs.Laws as limits
+use Rattle.qs_elaborate_limits.proofs.CoreUnits.{functions_are_few, statements_nest_little}
 use Rattle.qs_triples.specs.Derivations.{ProofsTree}
 use Rattle.qs_triples.specs.Filled.{Filled}
 use Rattle.qs_triples.specs.TreeOf.{proofs_tree}
@@ -26,15 +26,15 @@ use Rattle.qs_ports.specs.Whole.{Stores, IsCutShort}
 use Rattle.qs_ports.proofs.Wholes.{counts_more, failed_later}
 use Rattle.qs_report.specs.declared.fault_texts.Count.{Count}
 use Rattle.qs_report.specs.declared.fault_texts.Count.TheVariants.{Derived}
-use Rattle.qs_session.specs.Devices.{streams, views_of}
-use Rattle.qs_session.specs.Due.{IsWritten}
-use Rattle.qs_session.specs.Counts.{counted, counted_or_refused}
-use Rattle.qs_session.specs.Source.{IsTypedUnit}
-use Rattle.qs_session.specs.Task.{Answers}
-use Rattle.qs_session.specs.declared.status.Status.{Status}
-use Rattle.qs_session.specs.declared.status.Status.TheVariants.{StoreFailed, NoMemory}
-use Rattle.qs_session.specs.declared.status.FileKind.TheVariants as kinds
-use Rattle.qs_session.proofs.LaterLaws.{keeps_then_holds, cut_short}
+use Rattle.qs_driver_session.specs.Devices.{streams, views_of}
+use Rattle.qs_driver_session.specs.Due.{IsWritten}
+use Rattle.qs_driver_session.specs.Counts.{counted, counted_or_refused}
+use Rattle.qs_driver_session.specs.Source.{IsTypedUnit}
+use Rattle.qs_driver_session.specs.Task.{Answers}
+use Rattle.qs_driver_session.specs.declared.status.Status.{Status}
+use Rattle.qs_driver_session.specs.declared.status.Status.TheVariants.{StoreFailed, NoMemory}
+use Rattle.qs_driver_session.specs.declared.status.FileKind.TheVariants as kinds
+use Rattle.qs_driver_session.proofs.LaterLaws.{keeps_then_holds, cut_short}
 use Rattle.qs_driver.specs.Certified.{CertifiedSource, ReadsCertified, LacksCertified, HasCertified}
 use Rattle.qs_driver.specs.commands.Derive.{DeriveWords, names_of, inputs, derive, HasProofs, Derives}
 use Rattle.qs_driver.specs.commands.Derive as meant

@@ -13,14 +13,14 @@ use Rattle.qs_certify.specs.declared.fault.CertifyFault.{CertifyFault}
 use Rattle.qs_certify.specs.declared.fault.CertifyFault.TheVariants as faults
 use Rattle.qs_certify.proofs.RefusalLaws.{no_place}
 use Rattle.qs_ports.specs.StoreView.{StoreView}
-use Rattle.qs_session.specs.Due.{Due}
-use Rattle.qs_session.specs.Promises.{StoreHeld}
-use Rattle.qs_session.specs.declared.status.ProofFault.{ProofFault}
-use Rattle.qs_session.specs.declared.status.ProofFault.TheVariants.{Cycle}
-use Rattle.qs_session.specs.declared.status.Status.{Status}
-use Rattle.qs_session.specs.declared.status.Status.TheVariants.{Proof, NoMemory}
-use Rattle.qs_session.proofs.SourceFollows.{source_own}
-use Rattle.qs_session.proofs.rooms.Follows.{Follows}
+use Rattle.qs_driver_session.specs.Due.{Due}
+use Rattle.qs_driver_session.specs.Promises.{StoreHeld}
+use Rattle.qs_driver_session.specs.declared.status.ProofFault.{ProofFault}
+use Rattle.qs_driver_session.specs.declared.status.ProofFault.TheVariants.{Cycle}
+use Rattle.qs_driver_session.specs.declared.status.Status.{Status}
+use Rattle.qs_driver_session.specs.declared.status.Status.TheVariants.{Proof, NoMemory}
+use Rattle.qs_driver_session.proofs.SourceFollows.{source_own}
+use Rattle.qs_driver_session.proofs.rooms.Follows.{Follows}
 use Rattle.qs_driver.specs.Certified.{LacksCertified}
 use Rattle.qs_driver.specs.Certified as certified
 use Rattle.qs_driver.specs.commands.Derive.{DeriveWords, inputs, derive, CannotDerive, IsDueToDerive, Accepts, Refuses, IsOfDerive}

@@ -8,19 +8,19 @@ use Rattle.qs_image.specs.Image.{Image}
 use Rattle.qs_machine.specs.Arguments.{words_of}
 use Rattle.qs_machine.specs.Run.{Outcome, Exited, Trapped as HasTrapped, Going, machine}
 use Rattle.qs_machine.specs.State.{stack_limit}
-use Rattle.qs_session.specs.Limits.{input_limit}
-use Rattle.qs_session.specs.Due.{Due}
-use Rattle.qs_session.specs.Files.{HoldsContent, IsTooLong, CannotRead}
-use Rattle.qs_session.specs.Files as files
-use Rattle.qs_session.specs.Promises.{StoreHeld, SaysStoreFailed}
-use Rattle.qs_session.specs.Starting.{HasInput, ReadInput, IsNoStack, status_at}
-use Rattle.qs_session.specs.declared.status.Status.{Status}
-use Rattle.qs_session.specs.declared.status.Status.TheVariants.{Source, Missing, NoBound, NoMemory}
-use Rattle.qs_session.specs.declared.status.SourceFault.TheVariants.{TooLong}
-use Rattle.qs_session.specs.declared.status.FileKind.TheVariants as kinds
-use Rattle.qs_session.proofs.FilesLaws.{held_content, held_long}
-use Rattle.qs_session.proofs.SourceFollows.{not_absent, not_long, one_content}
-use Rattle.qs_session.proofs.rooms.Follows.{Follows, not_untouched, unread_shows}
+use Rattle.qs_driver_session.specs.Limits.{input_limit}
+use Rattle.qs_driver_session.specs.Due.{Due}
+use Rattle.qs_driver_session.specs.Files.{HoldsContent, IsTooLong, CannotRead}
+use Rattle.qs_driver_session.specs.Files as files
+use Rattle.qs_driver_session.specs.Promises.{StoreHeld, SaysStoreFailed}
+use Rattle.qs_driver_session.specs.Starting.{HasInput, ReadInput, IsNoStack, status_at}
+use Rattle.qs_driver_session.specs.declared.status.Status.{Status}
+use Rattle.qs_driver_session.specs.declared.status.Status.TheVariants.{Source, Missing, NoBound, NoMemory}
+use Rattle.qs_driver_session.specs.declared.status.SourceFault.TheVariants.{TooLong}
+use Rattle.qs_driver_session.specs.declared.status.FileKind.TheVariants as kinds
+use Rattle.qs_driver_session.proofs.FilesLaws.{held_content, held_long}
+use Rattle.qs_driver_session.proofs.SourceFollows.{not_absent, not_long, one_content}
+use Rattle.qs_driver_session.proofs.rooms.Follows.{Follows, not_untouched, unread_shows}
 use Rattle.qs_driver.specs.Made as made_meant
 use Rattle.qs_driver.specs.Made.{FitsMain, IsOfMade}
 use Rattle.qs_driver.specs.commands.Exec.{ExecWords, to_make, exec, HasRun, HasStack, HasNoStack, ComesToInput, CannotExec, IsDueAt, IsDueToExec, LacksInput, HasLongInput, Ends, Accepts, Refuses, IsOfExec}

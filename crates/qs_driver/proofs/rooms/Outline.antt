@@ -12,14 +12,14 @@ use Rattle.qs_core.specs.Outline as core
 use Rattle.qs_elaborate_bodies.specs.Units.{core_of}
 use Rattle.qs_elaborate_laws.specs.FitLaws.{HasCore}
 use Rattle.qs_elaborate_laws.proofs.FitCore.{units_have_cores}
-use Rattle.qs_session.specs.Faults.{status_line}
-use Rattle.qs_session.specs.Devices.{streams, views_of}
-use Rattle.qs_session.specs.Due.{EndsWith, IsWritten}
-use Rattle.qs_session.specs.Source.{HasUnit, LacksSource}
-use Rattle.qs_session.specs.Task.{Answers}
-use Rattle.qs_session.specs.declared.status.Status.{Status}
-use Rattle.qs_session.specs.declared.status.Status.TheVariants.{Done, NoMemory}
-use Rattle.qs_session.proofs.StepsLaws.{log_last, out_last}
+use Rattle.qs_driver_session.specs.Faults.{status_line}
+use Rattle.qs_driver_session.specs.Devices.{streams, views_of}
+use Rattle.qs_driver_session.specs.Due.{EndsWith, IsWritten}
+use Rattle.qs_driver_session.specs.Source.{HasUnit, LacksSource}
+use Rattle.qs_driver_session.specs.Task.{Answers}
+use Rattle.qs_driver_session.specs.declared.status.Status.{Status}
+use Rattle.qs_driver_session.specs.declared.status.Status.TheVariants.{Done, NoMemory}
+use Rattle.qs_driver_session.proofs.StepsLaws.{log_last, out_last}
 use Rattle.qs_driver.specs.commands.Outline.{OutlineWords, names_of, outline, due_of, HasCoreUnit, Outlines}
 use Rattle.qs_driver.specs.commands.Outline as meant
 

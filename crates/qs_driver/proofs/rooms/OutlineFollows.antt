@@ -2,16 +2,16 @@
 use Rattle.std.proofs.Common.{◌≡◌, ◌≢◌, ◌⊎◌, ◌<◌, ap, subst, sym, inl, inr, IsTrue}
 use Rattle.qs_ports.specs.StoreView.{StoreView}
 use Rattle.qs_core.specs.Trees.{CoreUnitTree}
-use Rattle.qs_session.specs.Limits.{source_limit}
-use Rattle.qs_session.specs.Due.{Due}
-use Rattle.qs_session.specs.Files.{HoldsWith}
-use Rattle.qs_session.specs.Source.{IsTypedUnit}
-use Rattle.qs_session.specs.Promises.{StoreHeld, SaysStoreFailed}
-use Rattle.qs_session.specs.declared.status.Status.{Status}
-use Rattle.qs_session.specs.declared.status.Status.TheVariants.{Done, NoMemory}
-use Rattle.qs_session.proofs.FilesLaws.{held_with}
-use Rattle.qs_session.proofs.SourceFollows.{SourceEnds, good, source_ends, source_own, source_no_unit, refuses_source, done_is_none}
-use Rattle.qs_session.proofs.rooms.Follows.{Follows, not_untouched, source_shows}
+use Rattle.qs_driver_session.specs.Limits.{source_limit}
+use Rattle.qs_driver_session.specs.Due.{Due}
+use Rattle.qs_driver_session.specs.Files.{HoldsWith}
+use Rattle.qs_driver_session.specs.Source.{IsTypedUnit}
+use Rattle.qs_driver_session.specs.Promises.{StoreHeld, SaysStoreFailed}
+use Rattle.qs_driver_session.specs.declared.status.Status.{Status}
+use Rattle.qs_driver_session.specs.declared.status.Status.TheVariants.{Done, NoMemory}
+use Rattle.qs_driver_session.proofs.FilesLaws.{held_with}
+use Rattle.qs_driver_session.proofs.SourceFollows.{SourceEnds, good, source_ends, source_own, source_no_unit, refuses_source, done_is_none}
+use Rattle.qs_driver_session.proofs.rooms.Follows.{Follows, not_untouched, source_shows}
 use Rattle.qs_driver.specs.commands.Outline.{OutlineWords, outline, CannotOutline, IsDueToOutline, HasCoreUnit, Accepts, Refuses, IsOfOutline}
 use Rattle.qs_driver.specs.commands.Outline as meant
 

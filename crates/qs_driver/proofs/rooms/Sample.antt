@@ -2,7 +2,7 @@
 use Rattle.std.proofs.Common.{◌≡◌, ◌⊎◌, ◌∙◌, ℕ, ◌++◌, List, [], length, Option, Some, None, Result, Ok, Err, refl, sym, ap, subst, inl, inr, arith}
 use Rattle.qs_syntax.specs.Trees.{DeclTree, UnitTree}
 use Rattle.qs_syntax.specs.Units.{IsRead}
-use Rattle.qs_findings.specs.TypedOf.{typed_tree}
+use Rattle.qs_typing_findings.specs.TypedOf.{typed_tree}
 use Rattle.qs_core.specs.Trees.{CoreUnitTree}
 use Rattle.qs_triples.specs.Derivations.{ProofsTree}
 use Rattle.qs_triples.specs.TreeOf.{proofs_tree}
@@ -18,20 +18,20 @@ use Rattle.qs_emit.specs.Agree.{Agree}
 use Rattle.qs_certify.specs.Bound.{main_bound}
 use Rattle.qs_compile.specs.Compiled.{IsCompiled, IsImageOfSource}
 use Rattle.qs_cli.specs.Numbers.{default_steps}
-use Rattle.qs_session.specs.Devices.{streams, views_of}
-use Rattle.qs_session.specs.Due.{Due, EndsWith, IsWritten}
-use Rattle.qs_session.specs.Faults.{status_line}
-use Rattle.qs_session.specs.KeptOutput.{kept_view}
-use Rattle.qs_session.specs.SampleSource.{sample_text}
-use Rattle.qs_session.specs.Source.{IsTypedAs}
-use Rattle.qs_session.specs.Task.{Answers}
-use Rattle.qs_session.specs.Starting.{IsStackOf, LoadsImage}
-use Rattle.qs_session.specs.declared.kept_output.KeptOutput.{KeptOutput}
-use Rattle.qs_session.specs.declared.status.Status.{Status}
-use Rattle.qs_session.specs.declared.status.Status.TheVariants.{Done, Trapped, StepLimit, NoMemory}
-use Rattle.qs_session.proofs.StartingLaws.{stands_at}
-use Rattle.qs_session.proofs.rooms.Follows.{untouched}
-use Rattle.qs_session.proofs.StepsLaws.{log_last, out_last}
+use Rattle.qs_driver_session.specs.Devices.{streams, views_of}
+use Rattle.qs_driver_session.specs.Due.{Due, EndsWith, IsWritten}
+use Rattle.qs_driver_session.specs.Faults.{status_line}
+use Rattle.qs_driver_session.specs.KeptOutput.{kept_view}
+use Rattle.qs_driver_session.specs.SampleSource.{sample_text}
+use Rattle.qs_driver_session.specs.Source.{IsTypedAs}
+use Rattle.qs_driver_session.specs.Task.{Answers}
+use Rattle.qs_driver_session.specs.Starting.{IsStackOf, LoadsImage}
+use Rattle.qs_driver_session.specs.declared.kept_output.KeptOutput.{KeptOutput}
+use Rattle.qs_driver_session.specs.declared.status.Status.{Status}
+use Rattle.qs_driver_session.specs.declared.status.Status.TheVariants.{Done, Trapped, StepLimit, NoMemory}
+use Rattle.qs_driver_session.proofs.StartingLaws.{stands_at}
+use Rattle.qs_driver_session.proofs.rooms.Follows.{untouched}
+use Rattle.qs_driver_session.proofs.StepsLaws.{log_last, out_last}
 use Rattle.qs_driver.specs.Bounds.{IsImageOf, bound_by, bytes_by, costs_in, if_finite, seen_runs}
 use Rattle.qs_driver.specs.Certified.{IsCertifiedUnit}
 use Rattle.qs_driver.specs.Made.{IsMadeOf}

@@ -4,14 +4,14 @@ use Rattle.qs_ports.specs.StoreView.{StoreView}
 use Rattle.qs_image.specs.Image.{Image}
 use Rattle.qs_machine.specs.Run.{Outcome, Exited, Trapped as HasTrapped, Going}
 use Rattle.qs_cli.specs.Numbers.{default_steps}
-use Rattle.qs_session.specs.Due.{Due}
-use Rattle.qs_session.specs.Promises.{StoreHeld, SaysStoreFailed}
-use Rattle.qs_session.specs.SampleSource.{sample_text}
-use Rattle.qs_session.specs.Starting.{status_at}
-use Rattle.qs_session.specs.declared.status.Status.{Status}
-use Rattle.qs_session.specs.declared.status.Status.TheVariants.{NoMemory}
-use Rattle.qs_session.specs.declared.status.FileKind.TheVariants as kinds
-use Rattle.qs_session.proofs.rooms.Follows.{Follows, not_risen, not_untouched}
+use Rattle.qs_driver_session.specs.Due.{Due}
+use Rattle.qs_driver_session.specs.Promises.{StoreHeld, SaysStoreFailed}
+use Rattle.qs_driver_session.specs.SampleSource.{sample_text}
+use Rattle.qs_driver_session.specs.Starting.{status_at}
+use Rattle.qs_driver_session.specs.declared.status.Status.{Status}
+use Rattle.qs_driver_session.specs.declared.status.Status.TheVariants.{NoMemory}
+use Rattle.qs_driver_session.specs.declared.status.FileKind.TheVariants as kinds
+use Rattle.qs_driver_session.proofs.rooms.Follows.{Follows, not_risen, not_untouched}
 use Rattle.qs_driver.specs.commands.Sample.{SampleWords, outcome, sample, HasWritten, IsDueAt, HasRun, CannotSample, IsDueToSample, Accepts, Refuses, IsOfSample}
 use Rattle.qs_driver.specs.commands.Sample as meant
 

@@ -3,19 +3,19 @@ use Rattle.std.proofs.Common.{◌≡◌, ◌≢◌, ◌⊎◌, ◌∙◌, ◌<�
 use Rattle.qs_ports.specs.StoreView.{StoreView}
 use Rattle.qs_ports.specs.SinkView.{SinkView}
 use Rattle.qs_cli.specs.Commands.{Command, Build, Check, Bound, Derive, Outline, Run, Exec, Sample}
-use Rattle.qs_session.specs.Names.{no_names}
-use Rattle.qs_session.specs.Faults.{status_line}
-use Rattle.qs_session.specs.Devices.{DevicesView, streams_of, views_of}
-use Rattle.qs_session.specs.Steps.{AreCutShort}
-use Rattle.qs_session.specs.Due.{Due, refusal, IsWritten, EndsWith}
-use Rattle.qs_session.specs.Task.{Task, Answers}
-use Rattle.qs_session.specs.Promises.{LacksMemory, NoneFailed, SaysStoreFailed, Promises}
-use Rattle.qs_session.specs.declared.status.Status.{Status}
-use Rattle.qs_session.specs.declared.status.Status.TheVariants.{SinkFailed, NoMemory}
-use Rattle.qs_session.proofs.StepsLaws.{HasSameFaults, all_same, short_rose, log_last}
-use Rattle.qs_session.proofs.rooms.Follows.{Follows, not_risen, not_untouched, untouched}
-use Rattle.qs_session.proofs.rooms.Usage.{usage_follows}
-use Rattle.qs_session.proofs.rooms.RunFollows.{run_follows}
+use Rattle.qs_driver_session.specs.Names.{no_names}
+use Rattle.qs_driver_session.specs.Faults.{status_line}
+use Rattle.qs_driver_session.specs.Devices.{DevicesView, streams_of, views_of}
+use Rattle.qs_driver_session.specs.Steps.{AreCutShort}
+use Rattle.qs_driver_session.specs.Due.{Due, refusal, IsWritten, EndsWith}
+use Rattle.qs_driver_session.specs.Task.{Task, Answers}
+use Rattle.qs_driver_session.specs.Promises.{LacksMemory, NoneFailed, SaysStoreFailed, Promises}
+use Rattle.qs_driver_session.specs.declared.status.Status.{Status}
+use Rattle.qs_driver_session.specs.declared.status.Status.TheVariants.{SinkFailed, NoMemory}
+use Rattle.qs_driver_session.proofs.StepsLaws.{HasSameFaults, all_same, short_rose, log_last}
+use Rattle.qs_driver_session.proofs.rooms.Follows.{Follows, not_risen, not_untouched, untouched}
+use Rattle.qs_driver_session.proofs.rooms.Usage.{usage_follows}
+use Rattle.qs_driver_session.proofs.rooms.RunFollows.{run_follows}
 use Rattle.qs_driver.specs.Tool.{task_of}
 use Rattle.qs_driver.proofs.rooms.BuildFollows.{build_follows}
 use Rattle.qs_driver.proofs.rooms.BoundFollows.{bound_follows}

@@ -2,14 +2,14 @@
 use Rattle.std.proofs.Common.{◌≡◌, ◌≢◌, ◌⊎◌, ◌<◌, subst, sym, inl, inr, IsTrue}
 use Rattle.std.specs.Prelude.{◌↔◌}
 use Rattle.qs_ports.specs.StoreView.{StoreView, HasSameCounts, HasFailed}
-use Rattle.qs_session.specs.Files.{IsUntouched}
-use Rattle.qs_session.specs.Source as source
-use Rattle.qs_session.specs.Promises.{StoreHeld, SaysStoreFailed}
-use Rattle.qs_session.specs.declared.status.Status.{Status}
-use Rattle.qs_session.specs.declared.status.Status.TheVariants.{Done, Words, StoreFailed, NoMemory}
-use Rattle.qs_session.specs.declared.status.WordsFault.TheVariants.{SameName}
-use Rattle.qs_session.specs.declared.status.FileKind.TheVariants as kinds
-use Rattle.qs_session.proofs.rooms.Follows.{not_risen, not_untouched}
+use Rattle.qs_driver_session.specs.Files.{IsUntouched}
+use Rattle.qs_driver_session.specs.Source as source
+use Rattle.qs_driver_session.specs.Promises.{StoreHeld, SaysStoreFailed}
+use Rattle.qs_driver_session.specs.declared.status.Status.{Status}
+use Rattle.qs_driver_session.specs.declared.status.Status.TheVariants.{Done, Words, StoreFailed, NoMemory}
+use Rattle.qs_driver_session.specs.declared.status.WordsFault.TheVariants.{SameName}
+use Rattle.qs_driver_session.specs.declared.status.FileKind.TheVariants as kinds
+use Rattle.qs_driver_session.proofs.rooms.Follows.{not_risen, not_untouched}
 use Rattle.qs_driver.specs.Certified.{CertifyWords, CertifiedSource, ReadsCertified, LacksCertified, HoldsRight, IsOfCertified, RefusesCertified}
 use Rattle.qs_driver.specs.Certified as certified
 use Rattle.qs_driver.proofs.CertifiedFollows.{certified_own, certified_shows, certified_no_right}

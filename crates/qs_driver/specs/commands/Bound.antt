@@ -4,15 +4,15 @@ use Rattle.qs_assert.specs.declared.define.Amount.{Amount}
 use Rattle.qs_ports.specs.StoreView.{StoreView}
 use Rattle.qs_image.specs.Image.{Image, FunctionRecord}
 use Rattle.qs_report.specs.Lines.{bound_line}
-use Rattle.qs_session.specs.Names.{Names, no_names, or_empty, name_in}
-use Rattle.qs_session.specs.Faults.{shown_of}
-use Rattle.qs_session.specs.Lines.{cost_lines}
-use Rattle.qs_session.specs.Steps.{on_out}
-use Rattle.qs_session.specs.Due.{Due, refusal, IsRefusal}
-use Rattle.qs_session.specs.Files.{IsUntouched}
-use Rattle.qs_session.specs.Task.{Task}
-use Rattle.qs_session.specs.declared.status.Status.{Status}
-use Rattle.qs_session.specs.declared.status.Status.TheVariants.{Done}
+use Rattle.qs_driver_session.specs.Names.{Names, no_names, or_empty, name_in}
+use Rattle.qs_driver_session.specs.Faults.{shown_of}
+use Rattle.qs_driver_session.specs.Lines.{cost_lines}
+use Rattle.qs_driver_session.specs.Steps.{on_out}
+use Rattle.qs_driver_session.specs.Due.{Due, refusal, IsRefusal}
+use Rattle.qs_driver_session.specs.Files.{IsUntouched}
+use Rattle.qs_driver_session.specs.Task.{Task}
+use Rattle.qs_driver_session.specs.declared.status.Status.{Status}
+use Rattle.qs_driver_session.specs.declared.status.Status.TheVariants.{Done}
 use Rattle.qs_driver.specs.Certified.{certify_words}
 use Rattle.qs_driver.specs.Made.{MakeWords, make_words, IsMade, CannotMake, FitsMain, IsOfMade, RefusesMade}
 use Rattle.qs_driver.specs.declared.commands.bound.BoundOrder.{BoundOrder}

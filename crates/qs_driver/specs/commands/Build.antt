@@ -3,16 +3,16 @@ use Rattle.std.specs.Prelude.{◌≡◌, ◌⊎◌, ◌↔◌, ℕ, List, [], �
 use Rattle.qs_ports.specs.StoreView.{StoreView, HasSameCounts, HasFailed}
 use Rattle.qs_ports.specs.Whole.{Stores, IsCutShort}
 use Rattle.qs_image.specs.Image.{Image, IsImage}
-use Rattle.qs_session.specs.Names.{Names, no_names, or_empty, name_in}
-use Rattle.qs_session.specs.Lines.{cost_lines}
-use Rattle.qs_session.specs.Steps.{on_out}
-use Rattle.qs_session.specs.Due.{Due, refusal, IsRefusal}
-use Rattle.qs_session.specs.Files.{IsUntouched}
-use Rattle.qs_session.specs.Task.{Task}
-use Rattle.qs_session.specs.declared.status.Status.{Status}
-use Rattle.qs_session.specs.declared.status.Status.TheVariants.{Done, Words, StoreFailed, NoMemory}
-use Rattle.qs_session.specs.declared.status.WordsFault.TheVariants.{SameName}
-use Rattle.qs_session.specs.declared.status.FileKind.TheVariants as kinds
+use Rattle.qs_driver_session.specs.Names.{Names, no_names, or_empty, name_in}
+use Rattle.qs_driver_session.specs.Lines.{cost_lines}
+use Rattle.qs_driver_session.specs.Steps.{on_out}
+use Rattle.qs_driver_session.specs.Due.{Due, refusal, IsRefusal}
+use Rattle.qs_driver_session.specs.Files.{IsUntouched}
+use Rattle.qs_driver_session.specs.Task.{Task}
+use Rattle.qs_driver_session.specs.declared.status.Status.{Status}
+use Rattle.qs_driver_session.specs.declared.status.Status.TheVariants.{Done, Words, StoreFailed, NoMemory}
+use Rattle.qs_driver_session.specs.declared.status.WordsFault.TheVariants.{SameName}
+use Rattle.qs_driver_session.specs.declared.status.FileKind.TheVariants as kinds
 use Rattle.qs_driver.specs.Certified.{CertifyWords, certify_words, CertifiedSource, ReadsCertified, LacksCertified, HoldsRight, IsOfCertified, RefusesCertified}
 use Rattle.qs_driver.specs.Bounds.{IsImageOf}
 use Rattle.qs_driver.specs.declared.commands.build.BuildOrder.{BuildOrder}

@@ -3,13 +3,13 @@ use Rattle.std.specs.Prelude.{◌≡◌, ◌-◌, length, IsTrue, Result}
 use Rattle.qs_ports.specs.StoreView.{StoreView}
 use Rattle.qs_report.specs.declared.fault_texts.Count.{Count}
 use Rattle.qs_report.specs.declared.fault_texts.Count.TheVariants.{Checked}
-use Rattle.qs_session.specs.Names.{Names, no_names, or_empty}
-use Rattle.qs_session.specs.Due.{Due, IsRefusal}
-use Rattle.qs_session.specs.Counts.{counted, counted_or_refused}
-use Rattle.qs_session.specs.Files.{IsUntouched}
-use Rattle.qs_session.specs.Task.{Task}
-use Rattle.qs_session.specs.declared.status.Status.{Status}
-use Rattle.qs_session.specs.declared.status.Status.TheVariants.{Done}
+use Rattle.qs_driver_session.specs.Names.{Names, no_names, or_empty}
+use Rattle.qs_driver_session.specs.Due.{Due, IsRefusal}
+use Rattle.qs_driver_session.specs.Counts.{counted, counted_or_refused}
+use Rattle.qs_driver_session.specs.Files.{IsUntouched}
+use Rattle.qs_driver_session.specs.Task.{Task}
+use Rattle.qs_driver_session.specs.declared.status.Status.{Status}
+use Rattle.qs_driver_session.specs.declared.status.Status.TheVariants.{Done}
 use Rattle.qs_driver.specs.Certified.{CertifyWords, words_in, CertifiedSource, ReadsCertified, LacksCertified, HoldsRight, IsOfCertified, RefusesCertified}
 use Rattle.qs_driver.specs.Bounds.{IsBounded}
 use Rattle.qs_driver.specs.declared.certified.CertifyOrder.{CertifyOrder}

@@ -9,17 +9,17 @@ use Rattle.qs_prooftext_meaning.specs.Proofs.{no_proofs}
 use Rattle.qs_prooftext_meaning.specs.Reading.{Reading}
 use Rattle.qs_report.specs.declared.fault_texts.Count.{Count}
 use Rattle.qs_report.specs.declared.fault_texts.Count.TheVariants.{Derived}
-use Rattle.qs_session.specs.Names.{Names, no_names}
-use Rattle.qs_session.specs.Due.{Due, IsRefusal}
-use Rattle.qs_session.specs.Counts.{counted, counted_or_refused}
-use Rattle.qs_session.specs.Files.{IsUntouched}
-use Rattle.qs_session.specs.Source.{IsOfSource}
-use Rattle.qs_session.specs.Task.{Task}
-use Rattle.qs_session.specs.declared.status.Status.{Status}
-use Rattle.qs_session.specs.declared.status.Status.TheVariants.{Done, Words, Proof, StoreFailed, NoMemory}
-use Rattle.qs_session.specs.declared.status.ProofFault.TheVariants.{Cycle}
-use Rattle.qs_session.specs.declared.status.WordsFault.TheVariants.{SameName}
-use Rattle.qs_session.specs.declared.status.FileKind.TheVariants as kinds
+use Rattle.qs_driver_session.specs.Names.{Names, no_names}
+use Rattle.qs_driver_session.specs.Due.{Due, IsRefusal}
+use Rattle.qs_driver_session.specs.Counts.{counted, counted_or_refused}
+use Rattle.qs_driver_session.specs.Files.{IsUntouched}
+use Rattle.qs_driver_session.specs.Source.{IsOfSource}
+use Rattle.qs_driver_session.specs.Task.{Task}
+use Rattle.qs_driver_session.specs.declared.status.Status.{Status}
+use Rattle.qs_driver_session.specs.declared.status.Status.TheVariants.{Done, Words, Proof, StoreFailed, NoMemory}
+use Rattle.qs_driver_session.specs.declared.status.ProofFault.TheVariants.{Cycle}
+use Rattle.qs_driver_session.specs.declared.status.WordsFault.TheVariants.{SameName}
+use Rattle.qs_driver_session.specs.declared.status.FileKind.TheVariants as kinds
 use Rattle.qs_driver.specs.Certified.{CertifyWords, certify_words, CertifiedSource, ReadsCertified, LacksCertified, IsRightFile, HoldsRight, RefusesCertified}
 use Rattle.qs_driver.specs.declared.commands.derive.DeriveOrder.{DeriveOrder}
 

@@ -16,18 +16,18 @@ use Rattle.qs_emit.specs.Agree.{Begins, HasEndedWith, IsUndefinedWithin}
 use Rattle.qs_compile.specs.Agree.{IsInput}
 use Rattle.qs_report.specs.Lines.{bound_line, end_line}
 use Rattle.qs_report.specs.declared.fault_texts.Shown.TheVariants as shown
-use Rattle.qs_session.specs.Names.{Names, no_names, or_empty, name_in}
-use Rattle.qs_session.specs.Faults.{status_line}
-use Rattle.qs_session.specs.Limits.{input_limit}
-use Rattle.qs_session.specs.Steps.{on_out, on_log}
-use Rattle.qs_session.specs.Due.{Due, IsRefusal}
-use Rattle.qs_session.specs.Files.{IsUntouched, IsTooLong, CannotRead}
-use Rattle.qs_session.specs.Starting.{RunWords, run_words, ReadInput, HasInput, IsNoStack, status_at}
-use Rattle.qs_session.specs.Task.{Task, Begun}
-use Rattle.qs_session.specs.declared.status.Status.{Status}
-use Rattle.qs_session.specs.declared.status.Status.TheVariants.{Done, Source, Missing, Trapped, StepLimit, NoBound, NoMemory}
-use Rattle.qs_session.specs.declared.status.SourceFault.TheVariants.{TooLong}
-use Rattle.qs_session.specs.declared.status.FileKind.TheVariants as kinds
+use Rattle.qs_driver_session.specs.Names.{Names, no_names, or_empty, name_in}
+use Rattle.qs_driver_session.specs.Faults.{status_line}
+use Rattle.qs_driver_session.specs.Limits.{input_limit}
+use Rattle.qs_driver_session.specs.Steps.{on_out, on_log}
+use Rattle.qs_driver_session.specs.Due.{Due, IsRefusal}
+use Rattle.qs_driver_session.specs.Files.{IsUntouched, IsTooLong, CannotRead}
+use Rattle.qs_driver_session.specs.Starting.{RunWords, run_words, ReadInput, HasInput, IsNoStack, status_at}
+use Rattle.qs_driver_session.specs.Task.{Task, Begun}
+use Rattle.qs_driver_session.specs.declared.status.Status.{Status}
+use Rattle.qs_driver_session.specs.declared.status.Status.TheVariants.{Done, Source, Missing, Trapped, StepLimit, NoBound, NoMemory}
+use Rattle.qs_driver_session.specs.declared.status.SourceFault.TheVariants.{TooLong}
+use Rattle.qs_driver_session.specs.declared.status.FileKind.TheVariants as kinds
 use Rattle.qs_driver.specs.Certified.{certify_words}
 use Rattle.qs_driver.specs.Made.{MakeWords, make_words, IsMade, CannotMake, FitsMain, IsOfMade, RefusesMade}
 use Rattle.qs_driver.specs.Bounds.{seen_runs}

@@ -5,14 +5,14 @@ use Rattle.qs_ports.specs.StoreView.{StoreView}
 use Rattle.qs_core.specs.Trees.{CoreUnitTree}
 use Rattle.qs_core.specs.Outline as core
 use Rattle.qs_elaborate_laws.specs.FitLaws.{HasCore}
-use Rattle.qs_session.specs.Names.{Names, no_names}
-use Rattle.qs_session.specs.Steps.{on_out}
-use Rattle.qs_session.specs.Due.{Due, refusal, IsRefusal}
-use Rattle.qs_session.specs.Files.{IsUntouched}
-use Rattle.qs_session.specs.Source.{HoldsText, ReadsText, IsTypedUnit, IsOfSource, LacksSource, RefusesSource}
-use Rattle.qs_session.specs.Task.{Task}
-use Rattle.qs_session.specs.declared.status.Status.{Status}
-use Rattle.qs_session.specs.declared.status.Status.TheVariants.{Done, NoMemory}
+use Rattle.qs_driver_session.specs.Names.{Names, no_names}
+use Rattle.qs_driver_session.specs.Steps.{on_out}
+use Rattle.qs_driver_session.specs.Due.{Due, refusal, IsRefusal}
+use Rattle.qs_driver_session.specs.Files.{IsUntouched}
+use Rattle.qs_driver_session.specs.Source.{HoldsText, ReadsText, IsTypedUnit, IsOfSource, LacksSource, RefusesSource}
+use Rattle.qs_driver_session.specs.Task.{Task}
+use Rattle.qs_driver_session.specs.declared.status.Status.{Status}
+use Rattle.qs_driver_session.specs.declared.status.Status.TheVariants.{Done, NoMemory}
 use Rattle.qs_driver.specs.declared.commands.outline.OutlineOrder.{OutlineOrder}
 
 -- ---- the words

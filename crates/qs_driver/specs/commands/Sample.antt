@@ -14,16 +14,16 @@ use Rattle.qs_report.specs.Lines.{bound_line, count_line, end_line}
 use Rattle.qs_report.specs.declared.fault_texts.Count.TheVariants.{Functions, Output}
 use Rattle.qs_report.specs.declared.fault_texts.Shown.TheVariants as shown
 use Rattle.qs_cli.specs.Numbers.{default_steps}
-use Rattle.qs_session.specs.Names.{Names, no_names, or_empty, name_in}
-use Rattle.qs_session.specs.Steps.{on_out}
-use Rattle.qs_session.specs.Due.{Due, refusal, IsRefusal}
-use Rattle.qs_session.specs.Files.{IsUntouched}
-use Rattle.qs_session.specs.SampleSource.{sample_text}
-use Rattle.qs_session.specs.Starting.{status_at}
-use Rattle.qs_session.specs.Task.{Task}
-use Rattle.qs_session.specs.declared.status.Status.{Status}
-use Rattle.qs_session.specs.declared.status.Status.TheVariants.{Done, Trapped, StepLimit, StoreFailed, NoMemory}
-use Rattle.qs_session.specs.declared.status.FileKind.TheVariants as kinds
+use Rattle.qs_driver_session.specs.Names.{Names, no_names, or_empty, name_in}
+use Rattle.qs_driver_session.specs.Steps.{on_out}
+use Rattle.qs_driver_session.specs.Due.{Due, refusal, IsRefusal}
+use Rattle.qs_driver_session.specs.Files.{IsUntouched}
+use Rattle.qs_driver_session.specs.SampleSource.{sample_text}
+use Rattle.qs_driver_session.specs.Starting.{status_at}
+use Rattle.qs_driver_session.specs.Task.{Task}
+use Rattle.qs_driver_session.specs.declared.status.Status.{Status}
+use Rattle.qs_driver_session.specs.declared.status.Status.TheVariants.{Done, Trapped, StepLimit, StoreFailed, NoMemory}
+use Rattle.qs_driver_session.specs.declared.status.FileKind.TheVariants as kinds
 use Rattle.qs_driver.specs.Certified.{CertifiedSource, IsCertifiedAs}
 use Rattle.qs_driver.specs.Bounds.{IsImageOf, bound_by, costs_in}
 use Rattle.qs_driver.specs.SampleLaws.{IsGoodSource, HasSmallBound}

@@ -1,9 +1,9 @@
 // `bound`: what each function of a source costs, and the bound of main at some arguments.
 ghost use Rattle.std.specs.Prelude.{◌≡◌};
 ghost use Rattle.qs_ports.specs.SinkView.{PutsOn};
-ghost use Rattle.qs_session.specs.Due.{IsWrittenOn};
-ghost use Rattle.qs_session.specs.Names.{names_in};
-ghost use Rattle.qs_session.specs.Task.{AnswersOn};
+ghost use Rattle.qs_driver_session.specs.Due.{IsWrittenOn};
+ghost use Rattle.qs_driver_session.specs.Names.{names_in};
+ghost use Rattle.qs_driver_session.specs.Task.{AnswersOn};
 ghost use Rattle.qs_driver.specs.Certified as meant;
 ghost use Rattle.qs_driver.specs.commands.Bound.{bounded_lines, due_to, names_of, to_do, to_make};
 ghost use Rattle.qs_driver.specs.commands.Bound.{words_in};
@@ -11,12 +11,12 @@ ghost use Rattle.qs_driver.specs.commands.Bound.{words_in};
 use crate::certified::CertifyOrder;
 use crate::made::{Made, make};
 use qs_assert::Amount;
+use qs_driver_session::{
+    Devices, FileNames, Status, Streams, nameless, put_costs, refuse, shown_of, status_after,
+};
 use qs_image::Image;
 use qs_ports::{Sink, SinkFault, Store};
 use qs_report::put_bound;
-use qs_session::{
-    Devices, FileNames, Status, Streams, nameless, put_costs, refuse, shown_of, status_after,
-};
 use std::alloc::Global;
 
 /// The words of `bound`.

@@ -1,19 +1,19 @@
 // `build`: from the source and its proof file in the store to the image in the store.
 ghost use Rattle.std.specs.Prelude.{◌≡◌, ◌≢◌, Some, false, true};
-ghost use Rattle.qs_session.specs.Due.{IsWrittenOn};
-ghost use Rattle.qs_session.specs.Names.{names_in};
-ghost use Rattle.qs_session.specs.Task.{AnswersOn};
+ghost use Rattle.qs_driver_session.specs.Due.{IsWrittenOn};
+ghost use Rattle.qs_driver_session.specs.Names.{names_in};
+ghost use Rattle.qs_driver_session.specs.Task.{AnswersOn};
 ghost use Rattle.qs_driver.specs.Certified as meant;
 ghost use Rattle.qs_driver.specs.commands.Build.{due_to, inputs, names_of, to_do, words_in, Builds};
 ghost use Rattle.qs_driver.specs.commands.Build.{NamesDiffer, NamesOneTwice};
 
 use crate::certified::{CertifyOrder, read_certified};
 use qs_compile::compile_unit;
-use qs_image::{Image, write};
-use qs_ports::{Sink, Store, write_whole};
-use qs_session::{
+use qs_driver_session::{
     Devices, FileNames, Status, Streams, WordsFault, nameless, put_costs, refuse, status_after,
 };
+use qs_image::{Image, write};
+use qs_ports::{Sink, Store, write_whole};
 use std::alloc::Global;
 
 /// The words of `build`.

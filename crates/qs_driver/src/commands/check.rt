@@ -1,15 +1,15 @@
 // `check`: whether the derivations of a source are right.
 ghost use Rattle.std.specs.Prelude.{◌≡◌};
-ghost use Rattle.qs_session.specs.Names.{names_in};
-ghost use Rattle.qs_session.specs.Task.{AnswersOn};
+ghost use Rattle.qs_driver_session.specs.Names.{names_in};
+ghost use Rattle.qs_driver_session.specs.Task.{AnswersOn};
 ghost use Rattle.qs_driver.specs.Certified.{words_in};
 ghost use Rattle.qs_driver.specs.commands.Check.{names_of, to_do, Checks};
 
 use crate::certified::{CertifyOrder, read_certified};
+use qs_driver_session::{Devices, FileNames, Status, nameless, report_count};
 use qs_lower::lower;
 use qs_ports::{Sink, Store};
 use qs_report::Count;
-use qs_session::{Devices, FileNames, Status, nameless, report_count};
 use std::alloc::Global;
 
 fn names_of<'a>(order: &CertifyOrder<'a>) -> FileNames<'a>

@@ -1,15 +1,15 @@
 // `derive`: a derivation for each function of a source without recursion, as a proof file.
 ghost use Rattle.std.specs.Prelude.{◌≡◌};
-ghost use Rattle.qs_session.specs.Names.{names_in};
-ghost use Rattle.qs_session.specs.Task.{AnswersOn};
+ghost use Rattle.qs_driver_session.specs.Names.{names_in};
+ghost use Rattle.qs_driver_session.specs.Task.{AnswersOn};
 ghost use Rattle.qs_driver.specs.Certified as meant;
 ghost use Rattle.qs_driver.specs.commands.Derive.{inputs, names_of, to_do, words_in, Derives};
 
 use crate::certified::{CertifyOrder, read_certified};
+use qs_driver_session::{Devices, FileNames, Status, WordsFault, nameless, report_count};
 use qs_ports::{Sink, Store, write_whole};
 use qs_prooftext_writing::write;
 use qs_report::Count;
-use qs_session::{Devices, FileNames, Status, WordsFault, nameless, report_count};
 use std::alloc::Global;
 
 /// The words of `derive`.

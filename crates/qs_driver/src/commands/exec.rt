@@ -1,9 +1,9 @@
 // `exec`: a source is certified and compiled, and its image is run on a stack of exactly its bound.
 ghost use Rattle.std.specs.Prelude.{◌≡◌, Ok};
 ghost use Rattle.qs_machine.specs.Standing.{taken_of};
-ghost use Rattle.qs_session.specs.Names.{names_in};
-ghost use Rattle.qs_session.specs.Starting as run_meant;
-ghost use Rattle.qs_session.specs.Task.{AnswersOn, RunsOn};
+ghost use Rattle.qs_driver_session.specs.Names.{names_in};
+ghost use Rattle.qs_driver_session.specs.Starting as run_meant;
+ghost use Rattle.qs_driver_session.specs.Task.{AnswersOn, RunsOn};
 ghost use Rattle.qs_driver.specs.Certified as meant;
 ghost use Rattle.qs_driver.specs.commands.Exec.{as_run, begun, names_of, to_do, to_make};
 ghost use Rattle.qs_driver.specs.commands.Exec.{words_in, IsFresh, Starts};
@@ -11,12 +11,12 @@ ghost use Rattle.qs_driver.specs.commands.Exec.{words_in, IsFresh, Starts};
 use crate::certified::CertifyOrder;
 use crate::laws::consists_of_bytes;
 use crate::made::make;
-use qs_ports::{Sink, Store};
-use qs_report::{Shown, put_bound};
-use qs_session::{
+use qs_driver_session::{
     Devices, FileNames, Ready, RunOrder, Status, Streams, finish, loaded, nameless, read_input,
     refuse, stack_of,
 };
+use qs_ports::{Sink, Store};
+use qs_report::{Shown, put_bound};
 use std::alloc::Global;
 
 /// The words of `exec`.

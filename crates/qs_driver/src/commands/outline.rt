@@ -1,14 +1,16 @@
 // `outline`: from the source in the store to the outline of its core on standard output.
 ghost use Rattle.std.specs.Prelude.{◌≡◌};
-ghost use Rattle.qs_session.specs.Due.{IsWrittenOn};
-ghost use Rattle.qs_session.specs.Names.{names_in};
-ghost use Rattle.qs_session.specs.Task.{AnswersOn};
+ghost use Rattle.qs_driver_session.specs.Due.{IsWrittenOn};
+ghost use Rattle.qs_driver_session.specs.Names.{names_in};
+ghost use Rattle.qs_driver_session.specs.Task.{AnswersOn};
 ghost use Rattle.qs_driver.specs.commands.Outline.{due_to, names_of, to_do, words_in, Outlines};
 
 use qs_core::print_outline;
+use qs_driver_session::{
+    Devices, FileNames, Status, Streams, nameless, read_unit, refuse, status_after,
+};
 use qs_elaborate::elaborate;
 use qs_ports::{Sink, Store, put_all};
-use qs_session::{Devices, FileNames, Status, Streams, nameless, read_unit, refuse, status_after};
 use std::alloc::Global;
 
 /// The words of `outline`.

@@ -3,10 +3,10 @@
 ghost use Rattle.std.specs.Prelude.{◌≡◌, List, length, ℕ};
 ghost use Rattle.qs_ports.specs.SinkView.{PutsOn};
 ghost use Rattle.qs_machine.specs.Standing.{taken_of};
-ghost use Rattle.qs_session.specs.Due.{IsWrittenOn};
-ghost use Rattle.qs_session.specs.Names.{name_in, names_in};
-ghost use Rattle.qs_session.specs.Task.{AnswersOn};
-ghost use Rattle.qs_session.specs.Starting as run_meant;
+ghost use Rattle.qs_driver_session.specs.Due.{IsWrittenOn};
+ghost use Rattle.qs_driver_session.specs.Names.{name_in, names_in};
+ghost use Rattle.qs_driver_session.specs.Task.{AnswersOn};
+ghost use Rattle.qs_driver_session.specs.Starting as run_meant;
 ghost use Rattle.qs_driver.specs.SampleLaws.{IsSampleCount};
 ghost use Rattle.qs_driver.specs.commands.Exec.{as_run};
 ghost use Rattle.qs_driver.specs.commands.Sample.{as_exec, due_to, lines_of, names_of, to_do};
@@ -16,14 +16,14 @@ ghost use Rattle.qs_driver.specs.commands.Sample.{WritesText};
 use crate::certified::certify_typed;
 use crate::made::make_certified;
 use qs_cli::DEFAULT_STEPS;
+use qs_driver_session::{
+    Devices, FileKind, FileNames, KeptOutput, RunOrder, SOURCE_LIMIT, SourceFault, Status, Streams,
+    loaded, nameless, refuse, sample_text, stack_of, status_after, typed_text,
+};
 use qs_image::Image;
 use qs_machine::{Machine, RunEnd};
 use qs_ports::{Sink, SinkFault, Store, write_whole};
 use qs_report::{Count, Shown, put_bound, put_count, put_end};
-use qs_session::{
-    Devices, FileKind, FileNames, KeptOutput, RunOrder, SOURCE_LIMIT, SourceFault, Status, Streams,
-    loaded, nameless, refuse, sample_text, stack_of, status_after, typed_text,
-};
 use std::alloc::Global;
 
 /// The words of `sample`.

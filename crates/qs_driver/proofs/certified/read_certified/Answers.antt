@@ -1,5 +1,5 @@
 use Rattle.std.proofs.lemmas.Result.{err_from_is_err_and}
-use Rattle.qs_findings.proofs.TypedLaws.{is_read}
+use Rattle.qs_typing_findings.proofs.TypedLaws.{is_read}
 use Rattle.qs_driver.specs.Certified.{words_in}
 use Rattle.qs_driver.proofs.CertifiedLaws.{no_source, unread_proof, certified_or_told}
 use Rattle.qs_driver.proofs.certified.read_certified.Goals as goal

@@ -1,6 +1,6 @@
 use Rattle.std.proofs.Common.{map, ap, ◌∙◌}
-use Rattle.qs_findings.specs.TypedOf.{typed_tree}
-use Rattle.qs_findings.proofs.TypedLaws.{is_read}
+use Rattle.qs_typing_findings.specs.TypedOf.{typed_tree}
+use Rattle.qs_typing_findings.proofs.TypedLaws.{is_read}
 use Rattle.qs_elaborate_laws.proofs.FitCore.{units_have_cores}
 use Rattle.qs_elaborate.proofs.unit.elaborate.Goals as goal
 

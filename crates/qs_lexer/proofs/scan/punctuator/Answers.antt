@@ -1,7 +1,7 @@
 use Rattle.std.proofs.Common.{refl, sym, ◌∙◌}
 use Rattle.qs_lexer.specs.declared.pieces.Piece.TheVariants.{Token, Fault}
 use Rattle.qs_lexer.specs.declared.fault.FaultKind.TheVariants.{BadByte}
-use Rattle.qs_vocabulary.specs.declared.tokens.TokenKind.TheVariants.{Punctuator}
+use Rattle.qs_syntax_vocabulary.specs.declared.tokens.TokenKind.TheVariants.{Punctuator}
 use Rattle.qs_lexer.proofs.ScanTokens.{punctuator_3, punctuator_2, punctuator_1, punctuator_0}
 use Rattle.qs_lexer.proofs.scan.punctuator.Goals as goal
 

@@ -1,7 +1,7 @@
 use Rattle.std.proofs.Common.{arith}
 use Rattle.qs_lexer.proofs.TerminalLaws.{ended, number_low, seen_items}
 use Rattle.qs_lexer.proofs.TokenLaws.{tokens_of}
-use Rattle.qs_vocabulary.specs.declared.tokens.TokenKind.TheVariants as kinds
+use Rattle.qs_syntax_vocabulary.specs.declared.tokens.TokenKind.TheVariants as kinds
 use Rattle.qs_lexer.proofs.terminal_list.terminals.Goals as goal
 
 pub terminal-requires-clause-numbered : goal.terminal-requires-clause-numbered

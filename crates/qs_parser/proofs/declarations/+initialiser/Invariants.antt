@@ -1,6 +1,6 @@
 use Rattle.std.proofs.Common.{◌≡◌, ◌≤◌, length, map, ◌+◌, ◌-◌, ◌*◌, []}
 use Rattle.qs_syntax.specs.TreeOf.{initialiser_tree}
-use Rattle.qs_grammar.specs.ParseDeclarations.{initialisers, initialiser}
+use Rattle.qs_parser_grammar.specs.ParseDeclarations.{initialisers, initialiser}
 use Rattle.qs_parser.proofs.declarations.+initialiser.Given as goal
 
 abbrev pub decreases-initialisers : goal.decreases-initialisers

@@ -1,6 +1,6 @@
 use Rattle.std.proofs.Common.{◌≡◌, ◌≤◌, length, map, ◌-◌, []}
 use Rattle.qs_syntax.specs.TreeOf.{expr_tree}
-use Rattle.qs_grammar.specs.ParseDeclarations.{given_lengths}
+use Rattle.qs_parser_grammar.specs.ParseDeclarations.{given_lengths}
 use Rattle.qs_parser.proofs.declarations.given_lengths.Given as goal
 
 abbrev pub invariant-loop : goal.invariant-loop

@@ -1,6 +1,6 @@
 use Rattle.std.proofs.Common.{◌≡◌, ◌≤◌, length, map, ◌+◌, ◌-◌, []}
 use Rattle.qs_syntax.specs.TreeOf.{parameter_tree}
-use Rattle.qs_grammar.specs.ParseDeclarations.{parameters}
+use Rattle.qs_parser_grammar.specs.ParseDeclarations.{parameters}
 use Rattle.qs_parser.proofs.declarations.parameters.Given as goal
 
 abbrev pub invariant-loop : goal.invariant-loop

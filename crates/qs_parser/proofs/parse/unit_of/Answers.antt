@@ -1,8 +1,8 @@
 use Rattle.std.proofs.Common.{map, Ok, Err}
 use Rattle.qs_syntax.specs.TreeOf.{decl_tree}
 use Rattle.qs_syntax.specs.UnitTrees.{unit_tree}
-use Rattle.qs_grammar.specs.Parse.{Unexpected, Deep}
-use Rattle.qs_grammar.proofs.UnitsSound.{stops_within}
+use Rattle.qs_parser_grammar.specs.Parse.{Unexpected, Deep}
+use Rattle.qs_parser_grammar.proofs.UnitsSound.{stops_within}
 use Rattle.qs_parser.specs.Answers.{ReadsAs, IsUnexpected, IsTooDeep}
 use Rattle.qs_parser.specs.declared.syntax_fault.SyntaxFault.TheVariants as faults
 use Rattle.qs_parser.proofs.Top.{is_read, are_few, reads_as, is_unexpected, is_too_deep, decided}

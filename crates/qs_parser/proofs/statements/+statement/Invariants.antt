@@ -1,6 +1,6 @@
 use Rattle.std.proofs.Common.{◌≡◌, ◌≤◌, length, map, ◌+◌, ◌-◌, ◌*◌, []}
 use Rattle.qs_syntax.specs.TreeOf.{stmt_tree}
-use Rattle.qs_grammar.specs.ParseStatements.{items, statement}
+use Rattle.qs_parser_grammar.specs.ParseStatements.{items, statement}
 use Rattle.qs_parser.proofs.statements.+statement.Given as goal
 
 abbrev pub decreases-statement : goal.decreases-statement

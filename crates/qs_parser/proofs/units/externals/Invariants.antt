@@ -1,6 +1,6 @@
 use Rattle.std.proofs.Common.{◌≡◌, ◌≤◌, length, map, ◌+◌, ◌-◌, []}
 use Rattle.qs_syntax.specs.TreeOf.{decl_tree}
-use Rattle.qs_grammar.specs.ParseStatements.{externals}
+use Rattle.qs_parser_grammar.specs.ParseStatements.{externals}
 use Rattle.qs_parser.proofs.units.externals.Given as goal
 
 abbrev pub invariant-loop : goal.invariant-loop

@@ -1,6 +1,6 @@
 use Rattle.std.proofs.Common.{◌≡◌, ◌≤◌, length, map, ◌+◌, ◌-◌, ◌*◌, []}
 use Rattle.qs_syntax.specs.TreeOf.{expr_tree}
-use Rattle.qs_grammar.specs.Parse.{part, arguments, suffixes, operations, commas}
+use Rattle.qs_parser_grammar.specs.Parse.{part, arguments, suffixes, operations, commas}
 use Rattle.qs_parser_expressions.proofs.expressions.+parser.Given as goal
 
 abbrev pub decreases-part : goal.decreases-part

@@ -1,5 +1,5 @@
 use Rattle.std.proofs.Common.{◌≡◌, length}
-use Rattle.qs_grammar.specs.Parse.{skip_consts}
+use Rattle.qs_parser_grammar.specs.Parse.{skip_consts}
 use Rattle.qs_parser_expressions.proofs.types.skip_consts.Given as goal
 
 abbrev pub invariant-loop-rest : goal.invariant-loop-rest

@@ -1,5 +1,5 @@
 use Rattle.std.proofs.Common.{◌≡◌, length}
-use Rattle.qs_grammar.specs.ParseDeclarations.{skip_prefixes}
+use Rattle.qs_parser_grammar.specs.ParseDeclarations.{skip_prefixes}
 use Rattle.qs_parser_expressions.proofs.types.skip_prefixes.Given as goal
 
 abbrev pub invariant-loop-rest : goal.invariant-loop-rest

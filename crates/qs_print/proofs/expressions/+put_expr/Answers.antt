@@ -1,5 +1,5 @@
 use Rattle.std.proofs.Common.{◌≡◌, arith, false, sym, ◌∙◌}
-use Rattle.qs_vocabulary.specs.Operators.{stands_before}
+use Rattle.qs_syntax_vocabulary.specs.Operators.{stands_before}
 use Rattle.qs_syntax.specs.TreeOf.{expr_tree}
 use Rattle.qs_print.specs.Levels.{assignment_level}
 use Rattle.qs_print.specs.Printed.{printed_part}

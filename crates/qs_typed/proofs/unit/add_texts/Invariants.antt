@@ -1,6 +1,6 @@
 use Rattle.std.proofs.Common.{◌≡◌, ◌++◌, drop, map}
 use Rattle.qs_meaning.specs.InitialValues.{text_block}
-use Rattle.qs_findings.specs.NotedOf.{text_tree}
+use Rattle.qs_typing_findings.specs.NotedOf.{text_tree}
 use Rattle.qs_typed_trees.specs.TreeOf.{static_block_tree}
 use Rattle.qs_typed.proofs.unit.add_texts.Given as goal
 

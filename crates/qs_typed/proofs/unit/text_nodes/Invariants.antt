@@ -1,6 +1,6 @@
 use Rattle.std.proofs.Common.{◌≡◌, ◌++◌, drop, map}
-use Rattle.qs_findings.specs.NotedOf.{text_tree}
-use Rattle.qs_static_data.specs.TablesOf.{text_nodes}
+use Rattle.qs_typing_findings.specs.NotedOf.{text_tree}
+use Rattle.qs_typed_units.specs.TablesOf.{text_nodes}
 use Rattle.qs_typed.proofs.unit.text_nodes.Given as goal
 
 abbrev pub invariant-loop-t : goal.invariant-loop-t

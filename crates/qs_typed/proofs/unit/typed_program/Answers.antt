@@ -1,11 +1,11 @@
 use Rattle.std.proofs.Common.{◌≡◌, ◌++◌, Some, map, sym, ap, ◌∙◌}
 use Rattle.qs_syntax.specs.TreeOf.{decl_tree}
 use Rattle.qs_types.specs.References.{literal_blocks}
-use Rattle.qs_findings.specs.TypedOf.{typed_tree}
+use Rattle.qs_typing_findings.specs.TypedOf.{typed_tree}
 use Rattle.qs_meaning.specs.InitialValues.{text_block}
-use Rattle.qs_static_data.specs.KnownBlocks.{blocks_known}
-use Rattle.qs_static_data.specs.KnownPrograms.{functions_known}
-use Rattle.qs_static_data.specs.TablesOf.{tables_tree}
+use Rattle.qs_typed_units.specs.KnownBlocks.{blocks_known}
+use Rattle.qs_typed_units.specs.KnownPrograms.{functions_known}
+use Rattle.qs_typed_units.specs.TablesOf.{tables_tree}
 use Rattle.qs_typed_trees.specs.TreeOf.{function_tree, static_block_tree}
 use Rattle.qs_typed.proofs.UnitTrees.{is_numbered, program_is}
 use Rattle.qs_typed.proofs.unit.typed_program.Goals as goal

@@ -1,6 +1,6 @@
 use Rattle.std.proofs.Common.{◌≡◌, IfOk, map, ap, ◌∙◌, subst}
-use Rattle.qs_findings.specs.TypedOf.{typed_tree}
-use Rattle.qs_static_data.specs.TablesOf.{numbers, tables_tree}
+use Rattle.qs_typing_findings.specs.TypedOf.{typed_tree}
+use Rattle.qs_typed_units.specs.TablesOf.{numbers, tables_tree}
 use Rattle.qs_typed.specs.UnitVariables.{variables_known}
 use Rattle.qs_typed.proofs.UnitTrees.{is_numbered}
 use Rattle.qs_typed.proofs.UnitWhole.{variables_are}

@@ -1,8 +1,8 @@
 use Rattle.std.proofs.Common.{◌≡◌, map, drop}
 use Rattle.qs_syntax.specs.TreeOf.{decl_tree}
-use Rattle.qs_known.specs.Behind.{followed}
-use Rattle.qs_static_data.specs.KnownPrograms.{functions_known}
-use Rattle.qs_static_data.specs.TablesOf.{tables_tree}
+use Rattle.qs_typed_nodes.specs.Behind.{followed}
+use Rattle.qs_typed_units.specs.KnownPrograms.{functions_known}
+use Rattle.qs_typed_units.specs.TablesOf.{tables_tree}
 use Rattle.qs_typed_trees.specs.TreeOf.{function_tree}
 use Rattle.qs_typed.proofs.units.functions.Given as goal
 

@@ -1,6 +1,6 @@
 use Rattle.std.proofs.Common.{◌≡◌, ◌++◌, map, drop}
 use Rattle.qs_syntax.specs.TreeOf.{decl_tree}
-use Rattle.qs_static_data.specs.TablesOf.{numbers, tables_tree}
+use Rattle.qs_typed_units.specs.TablesOf.{numbers, tables_tree}
 use Rattle.qs_typed.specs.UnitVariables.{variables_known}
 use Rattle.qs_typed.proofs.units.variables.Given as goal
 

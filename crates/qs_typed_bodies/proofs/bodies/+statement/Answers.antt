@@ -1,10 +1,10 @@
 use Rattle.std.proofs.Common.{Some, map, refl, ap, ◌∙◌}
 use Rattle.qs_syntax.specs.TreeOf.{stmt_tree, stmts_tree}
 use Rattle.qs_meaning.specs.Typed.{no_stmts, stmt_and}
-use Rattle.qs_known.specs.KnownStatements.{statement_known, statements_known}
-use Rattle.qs_known.specs.KnownOf.{known_tree}
+use Rattle.qs_typed_nodes.specs.KnownStatements.{statement_known, statements_known}
+use Rattle.qs_typed_nodes.specs.KnownOf.{known_tree}
 use Rattle.qs_typed_trees.specs.TreeOf.{statement_tree}
-use Rattle.qs_known.proofs.Loops.{drop_item, pushed, turn, finish, all_statements}
+use Rattle.qs_typed_nodes.proofs.Loops.{drop_item, pushed, turn, finish, all_statements}
 use Rattle.qs_typed_bodies.proofs.bodies.+statement.Goals as goal
 
 pub statements-loop-s-preserved : goal.statements-loop-s-preserved

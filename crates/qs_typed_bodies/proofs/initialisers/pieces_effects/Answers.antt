@@ -1,10 +1,10 @@
 use Rattle.std.proofs.Common.{Some, map, refl, ap, ◌∙◌}
 use Rattle.qs_meaning.specs.Typed.{pointer_to, nothing, in_order}
-use Rattle.qs_known.specs.KnownStatements.{piece_set_known, pieces_set_known}
-use Rattle.qs_known.specs.KnownOf.{known_tree}
-use Rattle.qs_known.specs.PieceOf.{piece_tree}
+use Rattle.qs_typed_nodes.specs.KnownStatements.{piece_set_known, pieces_set_known}
+use Rattle.qs_typed_nodes.specs.KnownOf.{known_tree}
+use Rattle.qs_typed_nodes.specs.PieceOf.{piece_tree}
 use Rattle.qs_typed_trees.specs.TreeOf.{effect_tree, object_tree}
-use Rattle.qs_known.proofs.Loops.{drop_item, pushed, turn, finish, all_effects}
+use Rattle.qs_typed_nodes.proofs.Loops.{drop_item, pushed, turn, finish, all_effects}
 use Rattle.qs_typed_bodies.proofs.initialisers.pieces_effects.Goals as goal
 
 pub loop-p-preserved : goal.loop-p-preserved

@@ -1,10 +1,10 @@
 use Rattle.std.proofs.Common.{Some, map, refl, ap, ◌∙◌}
 use Rattle.qs_syntax.specs.TreeOf.{variable_tree}
 use Rattle.qs_meaning.specs.Typed.{nothing, in_order}
-use Rattle.qs_known.specs.KnownStatements.{variable_known, variables_known}
-use Rattle.qs_known.specs.KnownOf.{known_tree}
+use Rattle.qs_typed_nodes.specs.KnownStatements.{variable_known, variables_known}
+use Rattle.qs_typed_nodes.specs.KnownOf.{known_tree}
 use Rattle.qs_typed_trees.specs.TreeOf.{effect_tree}
-use Rattle.qs_known.proofs.Loops.{drop_item, pushed, turn, finish, all_effects}
+use Rattle.qs_typed_nodes.proofs.Loops.{drop_item, pushed, turn, finish, all_effects}
 use Rattle.qs_typed_bodies.proofs.initialisers.variables_effects.Goals as goal
 
 pub loop-v-preserved : goal.loop-v-preserved

@@ -2,9 +2,9 @@ use Rattle.std.proofs.Common.{◌≡◌, map, drop}
 use Rattle.qs_syntax.specs.TreeOf.{variable_tree}
 use Rattle.qs_meaning.specs.Typed.{in_order}
 use Rattle.qs_typed_trees.specs.TreeOf.{effect_tree}
-use Rattle.qs_known.specs.Behind.{behind}
-use Rattle.qs_known.specs.KnownOf.{known_tree}
-use Rattle.qs_known.specs.KnownStatements.{variables_known}
+use Rattle.qs_typed_nodes.specs.Behind.{behind}
+use Rattle.qs_typed_nodes.specs.KnownOf.{known_tree}
+use Rattle.qs_typed_nodes.specs.KnownStatements.{variables_known}
 use Rattle.qs_typed_bodies.proofs.initialisers.variables_effects.Given as goal
 
 abbrev pub invariant-loop-v : goal.invariant-loop-v

@@ -1,8 +1,8 @@
 use Rattle.std.proofs.Common.{[], ◌∷◌, ◌++◌, map, ap, ◌∙◌, arith}
-use Rattle.qs_forms.specs.FormOf.{typed_tree}
-use Rattle.qs_known.specs.KnownOf.{known_tree}
+use Rattle.qs_typed_forms.specs.FormOf.{typed_tree}
+use Rattle.qs_typed_nodes.specs.KnownOf.{known_tree}
 use Rattle.qs_typed_trees.specs.TreeOf.{argument_tree}
-use Rattle.qs_known.proofs.Loops.{drop_item, drop_read, pushed, arguments_turn, arguments_finish}
+use Rattle.qs_typed_nodes.proofs.Loops.{drop_item, drop_read, pushed, arguments_turn, arguments_finish}
 use Rattle.qs_typed_bodies.proofs.typed.+typed.Goals as goal
 
 pub arguments-loop-i-preserved : goal.arguments-loop-i-preserved

@@ -1,9 +1,9 @@
 use Rattle.std.proofs.Common.{◌≡◌, map, drop}
 use Rattle.qs_syntax.specs.TreeOf.{exprs_tree}
 use Rattle.qs_typed_trees.specs.TreeOf.{argument_tree}
-use Rattle.qs_known.specs.Behind.{behind}
-use Rattle.qs_known.specs.Known.{with_argument, arguments_known}
-use Rattle.qs_known.specs.KnownOf.{known_tree}
+use Rattle.qs_typed_nodes.specs.Behind.{behind}
+use Rattle.qs_typed_nodes.specs.Known.{with_argument, arguments_known}
+use Rattle.qs_typed_nodes.specs.KnownOf.{known_tree}
 use Rattle.qs_typed_bodies.proofs.typed.+typed.Given as goal
 
 abbrev pub invariant-arguments-loop-i : goal.invariant-arguments-loop-i

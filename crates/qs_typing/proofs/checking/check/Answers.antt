@@ -1,8 +1,8 @@
 use Rattle.std.proofs.Common.{sym, ◌∙◌, subst}
 use Rattle.qs_syntax.specs.UnitTrees.{unit_tree}
-use Rattle.qs_findings.specs.ContextOf.{context_tree}
-use Rattle.qs_findings.specs.Refusals.{IsAccepted}
-use Rattle.qs_findings.specs.WalkOf.{walk_tree}
+use Rattle.qs_typing_findings.specs.ContextOf.{context_tree}
+use Rattle.qs_typing_findings.specs.Refusals.{IsAccepted}
+use Rattle.qs_typing_findings.specs.WalkOf.{walk_tree}
 use Rattle.qs_typing.proofs.CheckingLaws.{is_accepted, late_told, none_told, told_of_good}
 use Rattle.qs_typing.proofs.checking.check.Goals as goal
 

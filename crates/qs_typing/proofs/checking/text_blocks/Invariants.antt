@@ -1,6 +1,6 @@
 use Rattle.std.proofs.Common.{◌≡◌, ◌++◌, drop, map}
 use Rattle.qs_types.specs.Limits.{text_block}
-use Rattle.qs_findings.specs.NotedOf.{block_tree, text_tree}
+use Rattle.qs_typing_findings.specs.NotedOf.{block_tree, text_tree}
 use Rattle.qs_typing.proofs.checking.text_blocks.Given as goal
 
 abbrev pub invariant-loop-t : goal.invariant-loop-t

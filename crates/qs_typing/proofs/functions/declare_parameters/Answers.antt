@@ -3,7 +3,7 @@ use Rattle.std.proofs.lemmas.List.{drop_all}
 use Rattle.qs_syntax.specs.TreeOf.{parameter_tree}
 use Rattle.qs_types.specs.TypeOf.{type_tree}
 use Rattle.qs_types.specs.UnitRules.{with_parameters}
-use Rattle.qs_findings.specs.ContextOf.{context_tree}
+use Rattle.qs_typing_findings.specs.ContextOf.{context_tree}
 use Rattle.qs_typing.proofs.Headers.{no_types}
 use Rattle.qs_typing.proofs.functions.declare_parameters.Goals as goal
 

@@ -2,8 +2,8 @@ use Rattle.std.proofs.Common.{◌≡◌, ◌∷◌, IfOk, is_some, map, option_m
 use Rattle.qs_syntax.specs.TreeOf.{function_tree, stmts_tree}
 use Rattle.qs_types.specs.TypeOf.{type_tree}
 use Rattle.qs_types.specs.UnitRules.{agrees_with}
-use Rattle.qs_findings.specs.ContextOf.{context_tree}
-use Rattle.qs_findings.specs.JudgedOf.{test_tree}
+use Rattle.qs_typing_findings.specs.ContextOf.{context_tree}
+use Rattle.qs_typing_findings.specs.JudgedOf.{test_tree}
 use Rattle.qs_typing.proofs.Headers.{still_some, tests_are}
 use Rattle.qs_typing.proofs.functions.header_tests.Goals as goal
 

@@ -3,8 +3,8 @@ use Rattle.std.proofs.lemmas.List.{drop_all}
 use Rattle.qs_syntax.specs.TreeOf.{parameter_tree}
 use Rattle.qs_types.specs.EnvOf.{env_tree}
 use Rattle.qs_types.specs.TypeOf.{type_tree}
-use Rattle.qs_findings.specs.Noted.{parameters_noted}
-use Rattle.qs_findings.specs.NotedOf.{local_tree}
+use Rattle.qs_typing_findings.specs.Noted.{parameters_noted}
+use Rattle.qs_typing_findings.specs.NotedOf.{local_tree}
 use Rattle.qs_typing.proofs.Headers.{none_noted}
 use Rattle.qs_typing.proofs.functions.parameters_noted.Goals as goal
 use Rattle.qs_typing.proofs.functions.parameters_noted.Goals.{then-loop-i-test+else-i-types, else-loop-i-test}

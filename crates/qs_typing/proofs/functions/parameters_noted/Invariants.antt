@@ -2,8 +2,8 @@ use Rattle.std.proofs.Common.{◌≡◌, ◌-◌, ◌++◌, drop, length, map, o
 use Rattle.qs_syntax.specs.TreeOf.{parameter_tree}
 use Rattle.qs_types.specs.EnvOf.{env_tree}
 use Rattle.qs_types.specs.TypeOf.{type_tree}
-use Rattle.qs_findings.specs.Noted.{parameters_noted}
-use Rattle.qs_findings.specs.NotedOf.{local_tree}
+use Rattle.qs_typing_findings.specs.Noted.{parameters_noted}
+use Rattle.qs_typing_findings.specs.NotedOf.{local_tree}
 use Rattle.qs_typing.proofs.functions.parameters_noted.Given as goal
 
 abbrev pub invariant-loop-i : goal.invariant-loop-i

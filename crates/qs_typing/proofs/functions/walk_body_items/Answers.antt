@@ -4,11 +4,11 @@ use Rattle.qs_syntax.specs.TreeOf.{parameter_tree, stmts_tree}
 use Rattle.qs_types.specs.Contexts.{inner_scope}
 use Rattle.qs_types.specs.TypeOf.{type_tree}
 use Rattle.qs_types.specs.UnitRules.{with_parameters}
-use Rattle.qs_findings.specs.ContextOf.{context_tree, with_result}
-use Rattle.qs_findings.specs.Noted.{parameters_noted}
-use Rattle.qs_findings.specs.UnitWalk.{statements_walked, with_body_begun, with_body_ended}
-use Rattle.qs_findings.specs.WalkOf.{walk_tree}
-use Rattle.qs_findings.proofs.ScopeEnds.{items_end, items_leave}
+use Rattle.qs_typing_findings.specs.ContextOf.{context_tree, with_result}
+use Rattle.qs_typing_findings.specs.Noted.{parameters_noted}
+use Rattle.qs_typing_findings.specs.UnitWalk.{statements_walked, with_body_begun, with_body_ended}
+use Rattle.qs_typing_findings.specs.WalkOf.{walk_tree}
+use Rattle.qs_typing_findings.proofs.ScopeEnds.{items_end, items_leave}
 use Rattle.qs_typing.proofs.functions.walk_body_items.Goals as goal
 
 pub leave_scope-requires : goal.leave_scope-requires

@@ -1,9 +1,9 @@
 use Rattle.std.proofs.Common.{ap, ◌∙◌}
 use Rattle.qs_syntax.specs.TreeOf.{parameter_tree}
 use Rattle.qs_types.specs.Declarations.{parameter_declared}
-use Rattle.qs_findings.specs.ContextOf.{context_tree}
-use Rattle.qs_findings.specs.UnitWalk.{object_typed}
-use Rattle.qs_findings.specs.WalkOf.{walk_tree}
+use Rattle.qs_typing_findings.specs.ContextOf.{context_tree}
+use Rattle.qs_typing_findings.specs.UnitWalk.{object_typed}
+use Rattle.qs_typing_findings.specs.WalkOf.{walk_tree}
 use Rattle.qs_typing.proofs.Declarators.{has_place, declarator_is}
 use Rattle.qs_typing.proofs.functions.walk_declarator.Goals as goal
 

@@ -4,13 +4,13 @@ use Rattle.qs_syntax.specs.TreeOf.{function_tree, parameter_tree, stmts_tree}
 use Rattle.qs_types.specs.Contexts.{inner_scope}
 use Rattle.qs_types.specs.TypeOf.{type_tree}
 use Rattle.qs_types.specs.UnitRules.{after_function, parameter_types, result_type}
-use Rattle.qs_findings.specs.ContextOf.{context_tree}
-use Rattle.qs_findings.specs.Functions.{items_walked}
-use Rattle.qs_findings.specs.JudgedOf.{test_tree}
-use Rattle.qs_findings.specs.UnitWalk.{function_walked}
-use Rattle.qs_findings.specs.WalkOf.{walk_tree}
+use Rattle.qs_typing_findings.specs.ContextOf.{context_tree}
+use Rattle.qs_typing_findings.specs.Functions.{items_walked}
+use Rattle.qs_typing_findings.specs.JudgedOf.{test_tree}
+use Rattle.qs_typing_findings.specs.UnitWalk.{function_walked}
+use Rattle.qs_typing_findings.specs.WalkOf.{walk_tree}
 use Rattle.qs_typing.proofs.Headers.{still_some, header_is, body_is, no_body}
-use Rattle.qs_findings.proofs.ScopeEnds.{header_ends, header_leaves}
+use Rattle.qs_typing_findings.proofs.ScopeEnds.{header_ends, header_leaves}
 use Rattle.qs_typing.proofs.functions.walk_function.Goals as goal
 
 pub leave_scope-requires : goal.leave_scope-requires

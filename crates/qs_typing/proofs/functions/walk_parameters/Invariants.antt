@@ -2,10 +2,10 @@ use Rattle.std.proofs.Common.{◌≡◌, ◌++◌, drop, map, option_map}
 use Rattle.qs_syntax.specs.TreeOf.{parameter_tree}
 use Rattle.qs_types.specs.TypeOf.{type_tree}
 use Rattle.qs_types.specs.UnitRules.{parameter_types}
-use Rattle.qs_findings.specs.ContextOf.{context_tree}
-use Rattle.qs_findings.specs.Functions.{after_parameters}
-use Rattle.qs_findings.specs.UnitWalk.{parameters_walked}
-use Rattle.qs_findings.specs.WalkOf.{walk_tree}
+use Rattle.qs_typing_findings.specs.ContextOf.{context_tree}
+use Rattle.qs_typing_findings.specs.Functions.{after_parameters}
+use Rattle.qs_typing_findings.specs.UnitWalk.{parameters_walked}
+use Rattle.qs_typing_findings.specs.WalkOf.{walk_tree}
 use Rattle.qs_typing.proofs.functions.walk_parameters.Given as goal
 
 abbrev pub invariant-loop-p : goal.invariant-loop-p

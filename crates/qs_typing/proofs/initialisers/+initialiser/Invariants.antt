@@ -2,9 +2,9 @@ use Rattle.std.proofs.Common.{◌≡◌, ◌-◌, ◌&&◌, drop, length, option
 use Rattle.qs_syntax.specs.TreeOf.{initialisers_tree}
 use Rattle.qs_types.specs.InitialiserRules.{elements_fit, elements_typed}
 use Rattle.qs_types.specs.TypeOf.{type_tree}
-use Rattle.qs_findings.specs.ContextOf.{context_tree}
-use Rattle.qs_findings.specs.UnitWalk.{elements_walked}
-use Rattle.qs_findings.specs.WalkOf.{walk_tree}
+use Rattle.qs_typing_findings.specs.ContextOf.{context_tree}
+use Rattle.qs_typing_findings.specs.UnitWalk.{elements_walked}
+use Rattle.qs_typing_findings.specs.WalkOf.{walk_tree}
 use Rattle.qs_typing.proofs.initialisers.+initialiser.Given as goal
 
 abbrev pub invariant-walk_elements-loop-i : goal.invariant-walk_elements-loop-i

@@ -1,10 +1,10 @@
 use Rattle.std.proofs.Common.{◌≡◌, ◌&&◌, drop, map}
 use Rattle.qs_syntax.specs.TreeOf.{expr_tree}
 use Rattle.qs_types.specs.Declarations.{all_typed, lengths_of}
-use Rattle.qs_findings.specs.ContextOf.{context_tree}
+use Rattle.qs_typing_findings.specs.ContextOf.{context_tree}
 use Rattle.qs_typing.specs.DeclaredOf.{all_lengths, numbers}
-use Rattle.qs_findings.specs.UnitWalk.{lengths_walked}
-use Rattle.qs_findings.specs.WalkOf.{walk_tree}
+use Rattle.qs_typing_findings.specs.UnitWalk.{lengths_walked}
+use Rattle.qs_typing_findings.specs.WalkOf.{walk_tree}
 use Rattle.qs_typing.proofs.lengths.walk_lengths.Given as goal
 
 abbrev pub invariant-loop-e : goal.invariant-loop-e

@@ -1,6 +1,6 @@
 use Rattle.qs_syntax.specs.TreeOf.{start_tree, stmt_tree, stmts_tree}
-use Rattle.qs_findings.specs.ContextOf.{context_tree}
-use Rattle.qs_findings.proofs.ScopeEnds.{part_ends, part_leaves, block_ends, block_leaves, body_ends, body_leaves, for_ends, for_leaves}
+use Rattle.qs_typing_findings.specs.ContextOf.{context_tree}
+use Rattle.qs_typing_findings.proofs.ScopeEnds.{part_ends, part_leaves, block_ends, block_leaves, body_ends, body_leaves, for_ends, for_leaves}
 use Rattle.qs_typing.proofs.statements.+stmt.Goals as goal
 
 -- ---- a part of a statement

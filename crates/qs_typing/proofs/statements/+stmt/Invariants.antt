@@ -1,10 +1,10 @@
 use Rattle.std.proofs.Common.{◌≡◌, ℕ, ◌+◌, ◌*◌, max, Option, Some, None, Box, Global, drop}
 use Rattle.qs_syntax.specs.declared.statements.Stmt.{Stmt, size-Stmt}
 use Rattle.qs_syntax.specs.TreeOf.{stmts_tree}
-use Rattle.qs_findings.specs.ContextOf.{context_tree}
-use Rattle.qs_findings.specs.Statements.{after_statements}
-use Rattle.qs_findings.specs.UnitWalk.{statements_walked}
-use Rattle.qs_findings.specs.WalkOf.{walk_tree}
+use Rattle.qs_typing_findings.specs.ContextOf.{context_tree}
+use Rattle.qs_typing_findings.specs.Statements.{after_statements}
+use Rattle.qs_typing_findings.specs.UnitWalk.{statements_walked}
+use Rattle.qs_typing_findings.specs.WalkOf.{walk_tree}
 use Rattle.qs_typing.proofs.statements.+stmt.Given as goal
 
 abbrev else_size : Option (Box Stmt Global) → ℕ

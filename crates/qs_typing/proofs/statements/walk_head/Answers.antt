@@ -1,9 +1,9 @@
 use Rattle.std.proofs.Common.{map, option_map, option_to_list}
 use Rattle.qs_syntax.specs.TreeOf.{option_tree}
 use Rattle.qs_types.specs.TypeOf.{type_tree}
-use Rattle.qs_findings.specs.ContextOf.{context_tree}
-use Rattle.qs_findings.specs.JudgedOf.{test_tree}
-use Rattle.qs_findings.specs.WalkOf.{walk_tree}
+use Rattle.qs_typing_findings.specs.ContextOf.{context_tree}
+use Rattle.qs_typing_findings.specs.JudgedOf.{test_tree}
+use Rattle.qs_typing_findings.specs.WalkOf.{walk_tree}
 use Rattle.qs_typing.proofs.Heads.{head_is}
 use Rattle.qs_typing.proofs.statements.walk_head.Goals as goal
 

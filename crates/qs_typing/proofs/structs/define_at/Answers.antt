@@ -1,7 +1,7 @@
 use Rattle.std.proofs.Common.{map, sym, ap, ◌∙◌}
 use Rattle.qs_types.specs.StructsOf.{member_tree}
 use Rattle.qs_types.specs.UnitRules.{define_at}
-use Rattle.qs_findings.specs.ContextOf.{context_tree}
+use Rattle.qs_typing_findings.specs.ContextOf.{context_tree}
 use Rattle.qs_typing.proofs.MemberDefinitions.{defined_by}
 use Rattle.qs_typing.proofs.structs.define_at.Goals as goal
 

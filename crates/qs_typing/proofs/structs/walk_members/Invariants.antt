@@ -1,10 +1,10 @@
 use Rattle.std.proofs.Common.{◌≡◌, drop, map}
 use Rattle.qs_syntax.specs.TreeOf.{members_tree}
 use Rattle.qs_types.specs.UnitRules.{after_members}
-use Rattle.qs_findings.specs.ContextOf.{context_tree}
+use Rattle.qs_typing_findings.specs.ContextOf.{context_tree}
 use Rattle.qs_typing.specs.MembersOf.{before_tree}
-use Rattle.qs_findings.specs.UnitWalk.{members_walked}
-use Rattle.qs_findings.specs.WalkOf.{walk_tree}
+use Rattle.qs_typing_findings.specs.UnitWalk.{members_walked}
+use Rattle.qs_typing_findings.specs.WalkOf.{walk_tree}
 use Rattle.qs_typing.proofs.structs.walk_members.Given as goal
 
 abbrev pub invariant-loop-m : goal.invariant-loop-m

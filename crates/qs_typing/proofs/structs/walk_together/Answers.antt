@@ -2,10 +2,10 @@ use Rattle.std.proofs.Common.{◌≡◌, ◌+◌, ◌∷◌, drop, map, sym, ap,
 use Rattle.std.proofs.lemmas.List.{drop_more}
 use Rattle.qs_syntax.specs.TreeOf.{declarator_tree}
 use Rattle.qs_types.specs.UnitRules.{after_together}
-use Rattle.qs_findings.specs.ContextOf.{context_tree}
+use Rattle.qs_typing_findings.specs.ContextOf.{context_tree}
 use Rattle.qs_typing.specs.MembersOf.{before_tree}
-use Rattle.qs_findings.specs.UnitWalk.{together_walked}
-use Rattle.qs_findings.specs.WalkOf.{walk_tree}
+use Rattle.qs_typing_findings.specs.UnitWalk.{together_walked}
+use Rattle.qs_typing_findings.specs.WalkOf.{walk_tree}
 use Rattle.qs_typing.proofs.structs.walk_together.Goals as goal
 
 pub loop-d-preserved : goal.loop-d-preserved

@@ -1,10 +1,10 @@
 use Rattle.std.proofs.Common.{◌≡◌, drop, map}
 use Rattle.qs_syntax.specs.TreeOf.{declarator_tree}
 use Rattle.qs_types.specs.UnitRules.{after_together}
-use Rattle.qs_findings.specs.ContextOf.{context_tree}
+use Rattle.qs_typing_findings.specs.ContextOf.{context_tree}
 use Rattle.qs_typing.specs.MembersOf.{before_tree}
-use Rattle.qs_findings.specs.UnitWalk.{together_walked}
-use Rattle.qs_findings.specs.WalkOf.{walk_tree}
+use Rattle.qs_typing_findings.specs.UnitWalk.{together_walked}
+use Rattle.qs_typing_findings.specs.WalkOf.{walk_tree}
 use Rattle.qs_typing.proofs.structs.walk_together.Given as goal
 
 abbrev pub invariant-loop-d : goal.invariant-loop-d

@@ -1,9 +1,9 @@
 use Rattle.std.proofs.Common.{◌≡◌, drop, map}
 use Rattle.qs_syntax.specs.TreeOf.{decl_tree}
 use Rattle.qs_types.specs.UnitRules.{context_after}
-use Rattle.qs_findings.specs.ContextOf.{context_tree}
-use Rattle.qs_findings.specs.UnitWalk.{declarations_walked}
-use Rattle.qs_findings.specs.WalkOf.{walk_tree}
+use Rattle.qs_typing_findings.specs.ContextOf.{context_tree}
+use Rattle.qs_typing_findings.specs.UnitWalk.{declarations_walked}
+use Rattle.qs_typing_findings.specs.WalkOf.{walk_tree}
 use Rattle.qs_typing.proofs.units.walk_declarations.Given as goal
 
 abbrev pub invariant-loop-d : goal.invariant-loop-d

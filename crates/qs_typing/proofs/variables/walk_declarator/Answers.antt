@@ -1,9 +1,9 @@
 use Rattle.std.proofs.Common.{map, ap, ◌∙◌}
 use Rattle.qs_syntax.specs.TreeOf.{expr_tree, variable_tree}
 use Rattle.qs_types.specs.Declarations.{variable_declared}
-use Rattle.qs_findings.specs.ContextOf.{context_tree}
-use Rattle.qs_findings.specs.UnitWalk.{declarator_walked, object_typed}
-use Rattle.qs_findings.specs.WalkOf.{walk_tree}
+use Rattle.qs_typing_findings.specs.ContextOf.{context_tree}
+use Rattle.qs_typing_findings.specs.UnitWalk.{declarator_walked, object_typed}
+use Rattle.qs_typing_findings.specs.WalkOf.{walk_tree}
 use Rattle.qs_typing.proofs.Declarators.{has_place, declarator_is}
 use Rattle.qs_typing.proofs.variables.walk_declarator.Goals as goal
 

@@ -1,9 +1,9 @@
 use Rattle.std.proofs.Common.{◌≡◌, drop, map}
 use Rattle.qs_syntax.specs.TreeOf.{variable_tree}
 use Rattle.qs_types.specs.StatementRules.{after_variables}
-use Rattle.qs_findings.specs.ContextOf.{context_tree}
-use Rattle.qs_findings.specs.UnitWalk.{variables_walked}
-use Rattle.qs_findings.specs.WalkOf.{walk_tree}
+use Rattle.qs_typing_findings.specs.ContextOf.{context_tree}
+use Rattle.qs_typing_findings.specs.UnitWalk.{variables_walked}
+use Rattle.qs_typing_findings.specs.WalkOf.{walk_tree}
 use Rattle.qs_typing.proofs.variables.walk_variables.Given as goal
 
 abbrev pub invariant-loop-v : goal.invariant-loop-v

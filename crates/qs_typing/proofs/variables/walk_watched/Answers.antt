@@ -1,8 +1,8 @@
 use Rattle.std.proofs.Common.{sym, ◌∙◌, option_map}
 use Rattle.qs_syntax.specs.TreeOf.{expr_tree}
 use Rattle.qs_types.specs.TypeOf.{type_tree}
-use Rattle.qs_findings.specs.ContextOf.{context_tree}
-use Rattle.qs_findings.specs.WalkOf.{walk_tree}
+use Rattle.qs_typing_findings.specs.ContextOf.{context_tree}
+use Rattle.qs_typing_findings.specs.WalkOf.{walk_tree}
 use Rattle.qs_typing.proofs.WatchedExpressions.{broken_is, watched_is, is_some_fault}
 use Rattle.qs_typing.proofs.variables.walk_watched.Goals as goal
 

@@ -3,8 +3,8 @@ use Rattle.std.proofs.lemmas.Result.{err_from_is_err_and}
 use Rattle.qs_image.specs.Image.{Image}
 use Rattle.qs_report.specs.Lines.{bound_line}
 use Rattle.qs_ports.proofs.Sinks.{cut_before, then_puts}
-use Rattle.qs_session.specs.Faults.{shown_of}
-use Rattle.qs_session.specs.Lines.{cost_lines}
+use Rattle.qs_driver_session.specs.Faults.{shown_of}
+use Rattle.qs_driver_session.specs.Lines.{cost_lines}
 use Rattle.qs_driver.proofs.commands.bound.put_bounded.Goals as goal
 
 pub returns-in_err-put_costs : goal.returns-in_err-put_costs

@@ -1,7 +1,7 @@
 use Rattle.std.proofs.Common.{◌≡◌, ◌∙◌, length, sym, rules}
 use Rattle.std.proofs.lemmas.List.{length-map}
 use Rattle.std.proofs.lemmas.Result.{err_from_is_err_and}
-use Rattle.qs_findings.proofs.TypedLaws.{is_read}
+use Rattle.qs_typing_findings.proofs.TypedLaws.{is_read}
 use Rattle.qs_triples.specs.TreeOf.{entry_tree, proofs_tree}
 use Rattle.qs_driver.specs.commands.Derive.{words_in}
 use Rattle.qs_driver.proofs.rooms.Derive.{not_certified, not_written, out_of_memory, was_derived}

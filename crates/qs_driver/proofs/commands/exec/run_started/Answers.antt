@@ -1,7 +1,7 @@
 use Rattle.qs_machine.specs.Run.{start}
 use Rattle.qs_machine.proofs.Runs.{shows_machine}
 use Rattle.qs_machine.specs.Arguments.{words_of}
-use Rattle.qs_session.proofs.StartingLaws.{may_run}
+use Rattle.qs_driver_session.proofs.StartingLaws.{may_run}
 use Rattle.qs_driver.specs.commands.Exec.{words_in}
 use Rattle.qs_driver.proofs.rooms.Exec.{bound_cut, run_answers}
 use Rattle.qs_driver.proofs.commands.exec.run_started.Goals as goal

@@ -1,7 +1,7 @@
 use Rattle.std.proofs.Common.{ℕ, List, ap, subst}
 use Rattle.std.proofs.lemmas.Result.{err_from_is_err_and}
 use Rattle.qs_compile.specs.Agree.{IsInput}
-use Rattle.qs_session.specs.Starting.{RunWords}
+use Rattle.qs_driver_session.specs.Starting.{RunWords}
 use Rattle.qs_driver.specs.commands.Exec.{words_in}
 use Rattle.qs_driver.proofs.rooms.Exec.{has_started, input_is_refused, no_stack, not_loaded, not_made}
 use Rattle.qs_driver.proofs.commands.exec.start_source.Goals as goal

@@ -1,5 +1,5 @@
 use Rattle.std.proofs.lemmas.Result.{err_from_is_err_and}
-use Rattle.qs_findings.proofs.TypedLaws.{is_read}
+use Rattle.qs_typing_findings.proofs.TypedLaws.{is_read}
 use Rattle.qs_driver.specs.commands.Outline.{words_in}
 use Rattle.qs_driver.proofs.rooms.Outline.{no_source, out_of_memory, was_outlined}
 use Rattle.qs_driver.proofs.commands.outline.outline_text.Goals as goal

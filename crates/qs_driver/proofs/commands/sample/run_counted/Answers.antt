@@ -4,7 +4,7 @@ use Rattle.qs_machine.specs.Run.{start}
 use Rattle.qs_machine.specs.declared.answers.RunEnd.TheVariants as end
 use Rattle.qs_machine.proofs.Runs.{shows_machine}
 use Rattle.qs_cli.specs.Numbers.{default_steps}
-use Rattle.qs_session.specs.KeptOutput.{kept_view}
+use Rattle.qs_driver_session.specs.KeptOutput.{kept_view}
 use Rattle.qs_driver.specs.commands.Sample.{outcome}
 use Rattle.qs_driver.specs.declared.commands.sample.SampleEnd.{SampleEnd}
 use Rattle.qs_driver.proofs.rooms.Sample.{comes_to}

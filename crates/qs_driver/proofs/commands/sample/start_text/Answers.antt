@@ -1,7 +1,7 @@
 use Rattle.std.proofs.Common.{Ok, subst}
 use Rattle.std.proofs.lemmas.Result.{err_from_is_err_and}
-use Rattle.qs_findings.proofs.TypedLaws.{is_read}
-use Rattle.qs_session.specs.Starting.{RunWords, LoadsImage}
+use Rattle.qs_typing_findings.proofs.TypedLaws.{is_read}
+use Rattle.qs_driver_session.specs.Starting.{RunWords, LoadsImage}
 use Rattle.qs_driver.specs.declared.commands.sample.SampleStart.{SampleStart}
 use Rattle.qs_driver.proofs.rooms.Sample.{has_started}
 use Rattle.qs_driver.proofs.SampleStarts.{not_refused, not_uncertified, not_unmade, not_without_stack, not_unloaded}

@@ -1,6 +1,0 @@
-use Rattle.std.proofs.Common.{◌≡◌, ◌++◌}
-use Rattle.std.specs.Prelude.{replicate}
-use Rattle.qs_build.proofs.data.put_zeros.Given as goal
-
-abbrev pub invariant-loop-k : goal.invariant-loop-k
-invariant-loop-k l = l.bytes.items ≡ l.fn.bytes.items ++ replicate l._k 0

@@ -1,5 +1,0 @@
-use Rattle.qs_build.proofs.FollowLaws.{agreement_goes_through}
-use Rattle.qs_build.proofs.laws.agreement_goes_through.Goals as goal
-
-pub returns : goal.returns
-returns c d = agreement_goes_through _

@@ -1,0 +1,145 @@
+-- What is put together from a unit's parts is its image.
+use Rattle.std.proofs.Common.{◌≡◌, ℕ, ◌/◌, ◌%◌, ◌^◌, ◌<◌, ◌≤◌, true, List, length, Option, None, refl, sym, ap, ◌∙◌, subst, arith}
+use Rattle.std.specs.Prelude.{◌==◌, sum_by}
+use Rattle.std.specs.Option.{option_map}
+use Rattle.std.proofs.lemmas.List.{length-map}
+use Rattle.qs_memory.specs.declared.scalar.Scalar.{Scalar}
+use Rattle.qs_asm.specs.declared.item.Item.{Item}
+use Rattle.qs_asm.specs.Items.{item_words}
+use Rattle.qs_asm.specs.Counting.{reached_words}
+use Rattle.qs_core.specs.Trees.{CoreFunctionTree, CoreParameterTree, CoreUnitTree}
+use Rattle.qs_core.specs.Units.{initial_memory}
+use Rattle.qs_core.specs.Fits.{unit_fits}
+use Rattle.qs_core.specs.Interfaces.{types_of_main, main_types}
+use Rattle.qs_core.proofs.FitLaws.{function_at_fits}
+use Rattle.qs_isa.specs.Addresses.{code_start}
+use Rattle.qs_image.specs.Image.{Image, FunctionRecord, IsWellFormed}
+use Rattle.qs_tac.specs.Trees.{TacFunctionTree, TacUnitTree}
+use Rattle.qs_tac.specs.Places.{PlacesTree}
+use Rattle.qs_lower_expressions.specs.Threads.{threaded_function}
+use Rattle.qs_lower.specs.Units.{straight_function}
+use Rattle.qs_lower.proofs.UnitFits.{types_count, function_there}
+use Rattle.qs_emit_selection.specs.Limits.{first_fault}
+use Rattle.qs_emit_selection.specs.Data.{data_address}
+use Rattle.qs_emit_selection.specs.Units.{selected}
+use Rattle.qs_emit.specs.Relation.{data_end, function_at}
+use Rattle.qs_emit.specs.Images.{IsWithinLimits}
+use Rattle.qs_emit.proofs.DataBytes.{data_length}
+use Rattle.qs_compile.specs.Units.{linear, own_slots, set_of, IsWithinSizes, MainReturns}
+use Rattle.qs_compile.specs.Built.{IsBuiltFrom}
+use Rattle.qs_compile.specs.AgreesWithCore.{DoesAsCore}
+use Rattle.qs_compile.specs.Parts.{AreParts}
+use Rattle.qs_compile.specs.Code.{IsCodeFault}
+use Rattle.qs_compile.specs.Limits.{Passes}
+use Rattle.qs_compile.specs.declared.fault.BuildFault.{BuildFault}
+use Rattle.qs_compile.specs.declared.fault.BuildFault.TheVariants.{NoMemory, TooManyFunctions, NamesTooLong, TooManyParameters, FrameTooLarge, DataTooLarge, CodeTooLong}
+use Rattle.qs_compile.proofs.UnsignedLaws.{set_holds, set_small}
+use Rattle.qs_compile.proofs.FitLaws.{IsMain, is_main, function_found, first_memory, emittable}
+use Rattle.qs_compile.proofs.SizeLaws.{data_fits, data_few, function_count, within_sizes}
+use Rattle.qs_compile.proofs.WellFormed.{well_formed}
+use Rattle.qs_compile.proofs.DoesAsCore.{images_do_as_core}
+
+-- ---- main
+
+module _ (u : CoreUnitTree) (fits : unit_fits u ≡ true) where
+  main : IsMain u
+  main = is_main u fits
+
+  main_linear : function_at (linear u) u.main ≡ threaded_function (straight_function main.function)
+  main_linear =
+      function_found (linear u).functions u.main (threaded_function (straight_function main.function))
+      (function_there u fits u.main ∙ ap (option_map (λ (g : CoreFunctionTree). threaded_function (straight_function g))) main.is)
+
+  main_count : length (main_types u) ≡ length (function_at (linear u) u.main).parameters
+  main_count =
+      ap (λ (o : Option CoreFunctionTree). length (types_of_main o)) main.is
+      ∙ types_count main.function.blocks 0 main.function.parameters main.function.variables (function_at_fits u fits u.main main.function main.is).parameters
+      ∙ sym (length-map main.function.parameters (λ (p : CoreParameterTree). p.place))
+      ∙ ap (λ (g : TacFunctionTree). length g.parameters) (sym main_linear)
+
+  pub main_few : first_fault (linear u) (own_slots (linear u)) ≡ None → length (main_types u) ≤ 8
+  main_few free =
+      let count = main_count in
+      let few = (emittable u fits (within_sizes u free)).parameters u.main in
+      omega (arith, count, few)
+
+-- ---- the image
+
+-- parts that are made by linear code and places are made by its own
+pub own_parts :
+    (u : CoreUnitTree) (t : TacUnitTree) (ps : List PlacesTree) (functions : List FunctionRecord) (code bytes : List ℕ) → t ≡ linear u → ps ≡ own_slots t
+    → AreParts u t ps functions code bytes → AreParts u (linear u) (own_slots (linear u)) functions code bytes
+own_parts u t ps functions code bytes is places m =
+    subst (λ (q : TacUnitTree). AreParts u q (own_slots q) functions code bytes) is
+    (subst (λ (p : List PlacesTree). AreParts u t p functions code bytes) places m)
+
+pub record IsMade (u : CoreUnitTree) (image : Image) : Type 0 where
+  pub fits : unit_fits u ≡ true
+  pub parts : AreParts u (linear u) (own_slots (linear u)) image.functions image.code image.bytes
+  pub entry : image.entry ≡ code_start
+  pub parameters : image.parameters ≡ length (main_types u)
+  pub unsigned : image.unsigned_set ≡ set_of (main_types u)
+
+pub image_made :
+    (u : CoreUnitTree) (functions : List FunctionRecord) (code bytes : List ℕ) (types : List Scalar) (count set : ℕ) → unit_fits u ≡ true
+    → AreParts u (linear u) (own_slots (linear u)) functions code bytes → types ≡ main_types u → count ≡ length types → set ≡ set_of types
+    → IsMade u (record { entry = code_start; parameters = count; unsigned_set = set; functions = functions; code = code; bytes = bytes })
+image_made u functions code bytes types count set fits parts is long holds = record {
+  fits = fits;
+  parts = parts;
+  entry = refl;
+  parameters = long ∙ ap length is;
+  unsigned = holds ∙ ap set_of is;
+}
+
+module _ (u : CoreUnitTree) (image : Image) (m : IsMade u image) where
+  pub built : IsBuiltFrom u image
+  built = record {
+    names = m.parts.records.names;
+    parameters = m.parameters;
+    unsigned = λ i. ap (λ (n : ℕ). n / 2 ^ i % 2 == 1) m.unsigned ∙ set_holds (main_types u) i;
+    code = record {
+      code = m.parts.assembly;
+      entry = m.entry;
+      parameters = m.parameters ∙ main_count u m.fits;
+      count =
+          sym (length-map image.functions (λ (f : FunctionRecord). f.name)) ∙ ap length m.parts.records.names
+          ∙ length-map u.functions (λ (g : CoreFunctionTree). g.name) ∙ sym (function_count u);
+      addresses = m.parts.records.addresses;
+      costs = m.parts.records.costs;
+      bytes = m.parts.octets;
+    };
+  }
+
+  pub within_limits : IsWithinLimits image
+  within_limits = record {
+    code = m.parts.reached;
+    bytes =
+        let bytes = ap length m.parts.octets ∙ data_length (data_address (linear u).data_blocks) (initial_memory u) ∙ ap data_end (first_memory u m.fits).blocks in
+        let few = data_few (linear u) (data_fits (linear u) (own_slots (linear u)) m.parts.free) in
+        omega (arith, bytes, few);
+  }
+
+  pub sizes : IsWithinSizes u
+  sizes = within_sizes u m.parts.free
+
+  pub keeps_form : IsWellFormed image
+  keeps_form =
+      well_formed u image m.fits sizes built within_limits m.parts.few m.parts.short
+      (subst (λ (n : ℕ). n < 2 ^ image.parameters) (sym m.unsigned)
+      (subst (λ (k : ℕ). set_of (main_types u) < 2 ^ k) (sym m.parameters) (set_small (main_types u)))) m.parts.words
+
+  pub does_as_core : MainReturns u → DoesAsCore u image
+  does_as_core returns = images_do_as_core u image m.fits sizes returns built within_limits
+
+-- ---- where there is none
+
+-- code that is too long is the unit's
+pub code_passes : (u : CoreUnitTree) (items : List Item) (fault : BuildFault) → items ≡ selected (linear u) (own_slots (linear u)) → IsCodeFault items fault → Passes u fault
+code_passes u items NoMemory is h = tt
+code_passes u items CodeTooLong is h = subst (λ (l : List Item). reached_words ≤ sum_by item_words l) is h
+code_passes u items TooManyFunctions is h = absurd h
+code_passes u items NamesTooLong is h = absurd h
+code_passes u items TooManyParameters is h = absurd h
+code_passes u items FrameTooLarge is h = absurd h
+code_passes u items DataTooLarge is h = absurd h

@@ -1,0 +1,44 @@
+-- The sizes that an image has room for, and which of them a unit passes.
+use Rattle.std.specs.Prelude.{◌≡◌, ℕ, ◌+◌, ◌<◌, ◌≤◌, List, [], ◌∷◌, length, sum_by, Option, Some}
+use Rattle.qs_asm.specs.Items.{item_words}
+use Rattle.qs_asm.specs.Counting.{reached_words}
+use Rattle.qs_core.specs.Trees.{CoreFunctionTree, CoreUnitTree}
+pub use Rattle.qs_image.specs.Limits.{most_functions, most_name_bytes}
+use Rattle.qs_emit_selection.specs.Limits.{first_fault}
+use Rattle.qs_emit_selection.specs.Units.{selected}
+use Rattle.qs_emit_selection.specs.declared.fault.SelectionFault.{SelectionFault}
+use Rattle.qs_emit_selection.specs.declared.fault.SelectionFault.TheVariants as selection
+use Rattle.qs_compile.specs.Units.{linear, own_slots}
+use Rattle.qs_compile.specs.declared.fault.BuildFault.{BuildFault}
+use Rattle.qs_compile.specs.declared.fault.BuildFault.TheVariants.{NoMemory, TooManyFunctions, NamesTooLong, TooManyParameters, FrameTooLarge, DataTooLarge, CodeTooLong}
+
+-- the bytes of names together
+abbrev pub bytes_of_names : List CoreFunctionTree → ℕ
+bytes_of_names [] = 0
+bytes_of_names (f ∷ functions) = length f.name + bytes_of_names functions
+
+abbrev pub name_bytes : CoreUnitTree → ℕ
+name_bytes u = bytes_of_names u.functions
+
+abbrev pub HasFewFunctions : CoreUnitTree → Type 0
+HasFewFunctions u = length u.functions ≤ most_functions
+
+abbrev pub HasShortNames : CoreUnitTree → Type 0
+HasShortNames u = name_bytes u ≤ most_name_bytes
+
+abbrev pub code_words : CoreUnitTree → ℕ
+code_words u = sum_by item_words (selected (linear u) (own_slots (linear u)))
+
+-- why no code is selected for it
+abbrev pub selection_fault : CoreUnitTree → Option SelectionFault
+selection_fault u = first_fault (linear u) (own_slots (linear u))
+
+-- the unit passes the size that the fault names; memory may be wanting for any
+abbrev pub Passes : CoreUnitTree → BuildFault → Type 0
+Passes u NoMemory = Unit {0}
+Passes u TooManyFunctions = most_functions < length u.functions
+Passes u NamesTooLong = most_name_bytes < name_bytes u
+Passes u TooManyParameters = selection_fault u ≡ Some selection.TooManyArguments
+Passes u FrameTooLarge = selection_fault u ≡ Some selection.FrameTooLarge
+Passes u DataTooLarge = selection_fault u ≡ Some selection.DataTooLarge
+Passes u CodeTooLong = reached_words ≤ code_words u

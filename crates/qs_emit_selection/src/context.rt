@@ -1,0 +1,42 @@
+// What the code of a function depends on.
+ghost use Rattle.std.specs.Prelude.{◌≡◌, true};
+ghost use Rattle.qs_tac.specs.TreeOf.{function_tree, function_trees};
+ghost use Rattle.qs_tac.specs.Places.{places_tree};
+ghost use Rattle.qs_frames.specs.Layout.{layout, block_offset, used_registers};
+ghost use Rattle.qs_frames.specs.Starts.{BeginAt};
+ghost use Rattle.qs_emit_selection.specs.Data.{data_address};
+ghost use Rattle.qs_emit_selection.specs.Emission.{first_label};
+ghost use Rattle.qs_emit_selection.specs.Limits.{places_fit};
+
+use qs_frames::{Frame, Starts};
+use qs_tac::{Places, TacFunction, TacUnit};
+
+/// A function with the places of its temporaries, its frame, and where its blocks and the unit's
+/// data lie.
+#[derive(Drop)]
+pub struct FunctionContext<'a> {
+    /// the unit
+    pub unit: &'a TacUnit,
+    /// one of its functions
+    pub function: &'a TacFunction,
+    /// where its temporaries stand
+    pub places: &'a Places,
+    /// its frame
+    pub frame: Frame,
+    /// the registers that it gives back
+    pub saved: &'a [u32],
+    /// the offsets of its blocks from x2
+    pub blocks: &'a Starts,
+    /// the addresses of the unit's data
+    pub data_starts: &'a Starts,
+    /// its number
+    pub number: u32,
+    /// the first label of each function of the unit
+    pub labels: &'a Starts,
+    ghost placed: { places_fit (places_tree places.now) ≡ true },
+    ghost framed: { frame ≡ layout (function_tree function.now) (places_tree places.now) },
+    ghost gives_back: { saved.now ≡ used_registers (places_tree places.now) },
+    ghost offsets: { BeginAt blocks.now (block_offset (function_tree function.now) frame) },
+    ghost addresses: { BeginAt data_starts.now (data_address unit.now.data_blocks.items) },
+    ghost labelled: { BeginAt labels.now (first_label (function_trees unit.now.functions.items)) },
+}

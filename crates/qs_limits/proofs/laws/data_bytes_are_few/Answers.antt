@@ -1,5 +1,0 @@
-use Rattle.qs_limits.proofs.CoreBytes.{data_bytes_are_few}
-use Rattle.qs_limits.proofs.laws.data_bytes_are_few.Goals as goal
-
-pub returns : goal.returns
-returns c = data_bytes_are_few

@@ -1,5 +1,0 @@
-use Rattle.qs_limits.proofs.CoreUnits.{functions_are_few}
-use Rattle.qs_limits.proofs.laws.functions_are_few.Goals as goal
-
-pub returns : goal.returns
-returns c = functions_are_few

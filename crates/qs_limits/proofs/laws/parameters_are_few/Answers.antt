@@ -1,5 +1,0 @@
-use Rattle.qs_limits.proofs.CoreUnits.{parameters_are_few}
-use Rattle.qs_limits.proofs.laws.parameters_are_few.Goals as goal
-
-pub returns : goal.returns
-returns c = parameters_are_few

@@ -1,5 +1,0 @@
-use Rattle.qs_limits.proofs.CoreUnits.{statements_nest_little}
-use Rattle.qs_limits.proofs.laws.statements_nest_little.Goals as goal
-
-pub returns : goal.returns
-returns c = statements_nest_little

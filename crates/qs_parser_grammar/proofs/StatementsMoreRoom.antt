@@ -1,0 +1,140 @@
+-- With more room a statement or a unit is answered in the same way, but for what was too deep.
+use Rattle.std.proofs.Common.{◌≡◌, ℕ, zero, suc, ◌+◌, ◌≤◌, Bool, true, false, cond, List, [], ◌∷◌, ◌++◌, length, refl, arith, Err}
+use Rattle.std.specs.Prelude.{max, ◌&&◌}
+use Rattle.std.proofs.lemmas.Bool.{or_parts}
+use Rattle.qs_syntax_vocabulary.specs.declared.terminal.Terminal.{Terminal}
+use Rattle.qs_base.specs.declared.keyword.Keyword.TheVariants as keywords
+use Rattle.qs_syntax_vocabulary.specs.declared.punctuator.Punctuator as punctuator
+use Rattle.qs_syntax_vocabulary.specs.declared.punctuator.Punctuator.TheVariants as punctuators
+use Rattle.qs_syntax.specs.declared.types.Base.{Base}
+use Rattle.qs_syntax.specs.Trees.{StmtTree, ParameterTree, DeclTree}
+use Rattle.qs_syntax.specs.Reads.{Expression, place}
+use Rattle.qs_parser_grammar.specs.Heads.{is_punctuator, is_keyword, starts, starts_with, begins_type}
+use Rattle.qs_parser_grammar.specs.Parse.{Parse, Unexpected, E, unexpected, deep, expect, expect_name, stars, begins_one}
+use Rattle.qs_parser_grammar.specs.ParseDeclarations.{outer_type}
+use Rattle.qs_parser_grammar.specs.ParseStatements.{S, optional, condition, start_of, begins_statement, item, items, after_then, after_if, after_while, expect_while, after_do, after_for, plain_statement, keyword_statement, statement_at, statement, is_named, struct_of, body_of, function_of, typed, external, is_empty, externals, unit}
+use Rattle.qs_parser_grammar.proofs.MoreRoom.{DeepOrSame, DeepOrSame-refl, DeepOrSame-deep, DeepOrSame-read_on, DeepOrSame-then, DeepOrSame-last, DeepOrSame-some, DeepOrSame-cond, DeepOrSame-unexpected}
+use Rattle.qs_parser_grammar.proofs.ExpressionsMoreRoom.{not_begun, more_room_part}
+use Rattle.qs_parser_grammar.proofs.DeclarationsMoreRoom.{more_room_declared, more_room_declaration_within, more_room_groups, more_room_head}
+
+module _ (m n : ℕ) (le : m ≤ n) where
+  more_room_optional : (k : punctuator.Punctuator) (ts : List Terminal) → DeepOrSame (optional m k ts) (optional n k ts)
+  more_room_optional k ts = DeepOrSame-cond (starts k ts) DeepOrSame-refl (DeepOrSame-last _ (more_room_part m n le Expression ts))
+
+  more_room_condition : (ts : List Terminal) → DeepOrSame (condition m ts) (condition n ts)
+  more_room_condition ts = DeepOrSame-then (expect punctuators.OpenParenthesis ts) _ _ (λ _ us. DeepOrSame-last _ (more_room_part m n le Expression us))
+
+  more_room_start : (ts : List Terminal) → DeepOrSame (start_of m ts) (start_of n ts)
+  more_room_start ts = DeepOrSame-cond (begins_type ts) (DeepOrSame-last _ (more_room_declaration_within m n le ts)) (DeepOrSame-cond (starts punctuators.Semicolon ts) DeepOrSame-refl (DeepOrSame-last _ (more_room_part m n le Expression ts)))
+
+  module _ (p q : Parse S) (g : (ts : List Terminal) → DeepOrSame (p ts) (q ts)) where
+    more_room_item : (ts : List Terminal) → DeepOrSame (item m p ts) (item n q ts)
+    more_room_item ts = DeepOrSame-cond (begins_type ts) (DeepOrSame-last _ (more_room_declaration_within m n le ts)) (g ts)
+
+    pub more_room_items : (k : ℕ) (done : List StmtTree) (h : ℕ) (ts : List Terminal) → DeepOrSame (items m p k done h ts) (items n q k done h ts)
+    unfolding items
+    more_room_items zero done h ts = DeepOrSame-refl
+    more_room_items (suc k) done h ts = DeepOrSame-cond (starts punctuators.CloseBrace ts) DeepOrSame-refl (DeepOrSame-read_on _ _ (more_room_item ts) (λ s us. more_room_items k (done ++ s.0 ∷ []) (max h s.1) us))
+
+    more_room_after_then : (at : ℕ) (e : E) (s : S) (ts : List Terminal) → DeepOrSame (after_then m p at e s ts) (after_then n q at e s ts)
+    more_room_after_then at e s [] = DeepOrSame-refl
+    more_room_after_then at e s (t ∷ ts) = DeepOrSame-cond (is_keyword keywords.Else t) (DeepOrSame-last _ (g ts)) DeepOrSame-refl
+
+    more_room_if : (at : ℕ) (ts : List Terminal) → DeepOrSame (after_if m p at ts) (after_if n q at ts)
+    more_room_if at ts = DeepOrSame-read_on _ _ (more_room_condition ts) (λ e us. DeepOrSame-read_on _ _ (g us) (λ s vs. more_room_after_then at e s vs))
+
+    more_room_while : (at : ℕ) (ts : List Terminal) → DeepOrSame (after_while m p at ts) (after_while n q at ts)
+    more_room_while at ts = DeepOrSame-read_on _ _ (more_room_condition ts) (λ e us. DeepOrSame-last _ (g us))
+
+    more_room_expect_while : (ts : List Terminal) → DeepOrSame (expect_while m p ts) (expect_while n q ts)
+    more_room_expect_while [] = DeepOrSame-refl
+    more_room_expect_while (t ∷ ts) = DeepOrSame-refl
+
+    more_room_do : (at : ℕ) (ts : List Terminal) → DeepOrSame (after_do m p at ts) (after_do n q at ts)
+    more_room_do at ts = DeepOrSame-read_on _ _ (g ts) (λ s us. DeepOrSame-read_on _ _ (more_room_expect_while us) (λ _ vs. DeepOrSame-last _ (more_room_condition vs)))
+
+    more_room_for : (at : ℕ) (ts : List Terminal) → DeepOrSame (after_for m p at ts) (after_for n q at ts)
+    more_room_for at ts =
+        DeepOrSame-then (expect punctuators.OpenParenthesis ts) _ _ (λ _ us. DeepOrSame-read_on _ _ (more_room_start us) (λ a vs. DeepOrSame-read_on _ _ (more_room_optional punctuators.Semicolon vs) (λ e ws. DeepOrSame-read_on _ _ (more_room_optional punctuators.CloseParenthesis ws) (λ u xs. DeepOrSame-last _ (g xs)))))
+
+    more_room_plain : (at : ℕ) (t : Terminal) (ts : List Terminal) → DeepOrSame (plain_statement m p at t ts) (plain_statement n q at t ts)
+    more_room_plain at t ts =
+        DeepOrSame-cond (is_keyword keywords.Break t) DeepOrSame-refl
+        (DeepOrSame-cond (is_keyword keywords.Continue t) DeepOrSame-refl
+        (DeepOrSame-cond (is_keyword keywords.Return t) (DeepOrSame-last _ (more_room_optional punctuators.Semicolon ts)) (DeepOrSame-last _ (more_room_part m n le Expression (t ∷ ts)))))
+
+    more_room_keyword : (at : ℕ) (t : Terminal) (ts : List Terminal) → DeepOrSame (keyword_statement m p at t ts) (keyword_statement n q at t ts)
+    more_room_keyword at t ts =
+        DeepOrSame-cond (is_keyword keywords.If t) (DeepOrSame-some (suc (length ts)) m n le (more_room_if at ts))
+        (DeepOrSame-cond (is_keyword keywords.While t) (DeepOrSame-some (suc (length ts)) m n le (more_room_while at ts))
+        (DeepOrSame-cond (is_keyword keywords.Do t) (DeepOrSame-some (suc (length ts)) m n le (more_room_do at ts))
+        (DeepOrSame-cond (is_keyword keywords.For t) (DeepOrSame-some (suc (length ts)) m n le (more_room_for at ts))
+        (more_room_plain at t ts))))
+
+    more_room_at : (ts : List Terminal) → DeepOrSame (statement_at m p ts) (statement_at n q ts)
+    more_room_at [] = DeepOrSame-refl
+    more_room_at (t ∷ ts) =
+        DeepOrSame-cond (is_punctuator punctuators.Semicolon t) DeepOrSame-refl (DeepOrSame-cond (is_punctuator punctuators.OpenBrace t) (DeepOrSame-last _ (more_room_items (length ts) [] 0 ts)) (more_room_keyword (place (t ∷ ts)) t ts))
+
+-- what begins no statement
+no_statement : (n : ℕ) (ts : List Terminal) → begins_statement ts ≡ false → statement n ts ≡ unexpected ts
+unfolding statement
+no_statement zero ts e = rw e refl
+no_statement (suc n) [] e = refl
+no_statement (suc n) (t ∷ ts) e =
+    let a = or_parts (begins_one (t ∷ ts)) _ e in
+    let b = or_parts (starts punctuators.OpenBrace (t ∷ ts)) _ a.1 in
+    let c = or_parts (starts punctuators.Semicolon (t ∷ ts)) _ b.1 in
+    let d = or_parts (starts_with keywords.If (t ∷ ts)) _ c.1 in
+    let f = or_parts (starts_with keywords.While (t ∷ ts)) _ d.1 in
+    let g = or_parts (starts_with keywords.Do (t ∷ ts)) _ f.1 in
+    let h = or_parts (starts_with keywords.For (t ∷ ts)) _ g.1 in
+    let i = or_parts (starts_with keywords.Break (t ∷ ts)) _ h.1 in
+    let j = or_parts (starts_with keywords.Continue (t ∷ ts)) _ i.1 in
+    rw (c.0, b.0, d.0, f.0, g.0, h.0, i.0, j.0, j.1, not_begun n Expression (t ∷ ts) a.0) refl
+
+pub more_room_statement : (m n : ℕ) → m ≤ n → (ts : List Terminal) → DeepOrSame (statement m ts) (statement n ts)
+unfolding statement
+more_room_statement zero n le ts = by_case (begins_statement ts) refl
+  where
+    by_case : (b : Bool) → begins_statement ts ≡ b → DeepOrSame (cond b (deep ts) (unexpected ts)) (statement n ts)
+    by_case true e = DeepOrSame-deep
+    by_case false e = rw (no_statement n ts e) DeepOrSame-refl
+more_room_statement (suc m) zero le ts = absurd (omega arith)
+more_room_statement (suc m) (suc n) le ts = more_room_at m n (omega arith) (statement m) (statement n) (λ us. more_room_statement m n (omega arith) us) ts
+
+-- ---- units
+
+module _ (k l : ℕ) (le : k ≤ l) where
+  more_room_struct : (at : ℕ) (ts : List Terminal) → DeepOrSame (struct_of k at ts) (struct_of l at ts)
+  more_room_struct at ts = DeepOrSame-then (expect_name ts) _ _ (λ x us. DeepOrSame-then (expect punctuators.OpenBrace us) _ _ (λ _ vs. DeepOrSame-last _ (more_room_groups k l le (length vs) [] 0 vs)))
+
+  more_room_body : (start : ℕ) (b : Base) (n : ℕ) (x : List ℕ) (ps : List ParameterTree × ℕ) (ts : List Terminal) → DeepOrSame (body_of k start b n x ps ts) (body_of l start b n x ps ts)
+  more_room_body start b n x ps ts =
+      DeepOrSame-cond (starts punctuators.Semicolon ts) DeepOrSame-refl (DeepOrSame-then (expect punctuators.OpenBrace ts) _ _ (λ _ us. DeepOrSame-last _ (more_room_items k l le (statement k) (statement l) (λ vs. more_room_statement k l le vs) (length us) [] 0 us)))
+
+  more_room_function : (start : ℕ) (b : Base) (n : ℕ) (ts : List Terminal) → DeepOrSame (function_of k start b n ts) (function_of l start b n ts)
+  more_room_function start b n ts = DeepOrSame-then (expect_name ts) _ _ (λ x us. DeepOrSame-then (expect punctuators.OpenParenthesis us) _ _ (λ _ vs. DeepOrSame-read_on _ _ (more_room_head k l le vs) (λ ps ws. more_room_body start b n x.1 ps ws)))
+
+  more_room_typed : (start : ℕ) (b : Base) (ts : List Terminal) → DeepOrSame (typed k start b ts) (typed l start b ts)
+  more_room_typed start b ts = DeepOrSame-cond (is_named punctuators.OpenParenthesis (stars ts).1) (more_room_function start b (stars ts).0 (stars ts).1) (DeepOrSame-last _ (more_room_declared (k + 1) (l + 1) (omega arith) b ts))
+
+  more_room_external : (ts : List Terminal) → DeepOrSame (external k ts) (external l ts)
+  unfolding external
+  more_room_external [] = DeepOrSame-refl
+  more_room_external (t ∷ ts) =
+      DeepOrSame-cond (is_keyword keywords.Struct t && is_named punctuators.OpenBrace ts) (more_room_struct (place (t ∷ ts)) ts)
+      (DeepOrSame-cond (is_keyword keywords.Struct t && is_named punctuators.Semicolon ts) DeepOrSame-refl (DeepOrSame-then (outer_type (t ∷ ts)) _ _ (λ b us. more_room_typed (place (t ∷ ts)) b us)))
+
+  more_room_externals : (n : ℕ) (done : List DeclTree) (h : ℕ) (ts : List Terminal) → DeepOrSame (externals k n done h ts) (externals l n done h ts)
+  unfolding externals
+  more_room_externals zero done h ts = DeepOrSame-refl
+  more_room_externals (suc n) done h ts = DeepOrSame-read_on _ _ (more_room_external ts) (λ d us. DeepOrSame-cond (is_empty us) DeepOrSame-refl (more_room_externals n (done ++ d.0 ∷ []) (max h d.1) us))
+
+  pub more_room_unit : (ts : List Terminal) → DeepOrSame (unit k ts) (unit l ts)
+  unfolding unit
+  more_room_unit ts = more_room_externals (length ts) [] 0 ts
+
+-- what is unexpected is so with more room too
+pub unexpected_in_all : (k l : ℕ) → k ≤ l → (ts : List Terminal) (n : ℕ) → unit k ts ≡ Err (Unexpected n) → unit l ts ≡ Err (Unexpected n)
+unexpected_in_all k l le ts n e = DeepOrSame-unexpected (unit k ts) (unit l ts) n (more_room_unit k l le ts) e

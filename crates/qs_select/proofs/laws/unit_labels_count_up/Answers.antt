@@ -1,5 +1,0 @@
-use Rattle.qs_select.proofs.LabelLaws.{unit_labels_count_up}
-use Rattle.qs_select.proofs.laws.unit_labels_count_up.Goals as goal
-
-pub returns : goal.returns
-returns c = unit_labels_count_up

@@ -1,5 +1,0 @@
-use Rattle.qs_select.proofs.Sizes.{units_keep_words}
-use Rattle.qs_select.proofs.laws.units_keep_words.Goals as goal
-
-pub returns : goal.returns
-returns c u ps data_at accepted = units_keep_words u ps data_at accepted

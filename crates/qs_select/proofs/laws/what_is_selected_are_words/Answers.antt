@@ -1,5 +1,0 @@
-use Rattle.qs_select.proofs.Ranges.{what_is_selected}
-use Rattle.qs_select.proofs.laws.what_is_selected_are_words.Goals as goal
-
-pub returns : goal.returns
-returns u c d labels ok = what_is_selected c d labels ok

@@ -1,8 +1,0 @@
-use Rattle.std.proofs.Common.{◌≡◌, ◌++◌, drop}
-use Rattle.qs_syntax.specs.TreeOf.{stmts_tree}
-use Rattle.qs_static_data.specs.Addressed.{statements_addressed}
-use Rattle.qs_static_data.proofs.addressed.+statements.Given as goal
-
-abbrev pub invariant-statements_addressed-loop-s : goal.invariant-statements_addressed-loop-s
-invariant-statements_addressed-loop-s l =
-    l.initial.nodes.items ++ statements_addressed l.names (stmts_tree l.ss) ≡ l.nodes.items ++ statements_addressed l.names (stmts_tree (drop l.s-index l.ss))

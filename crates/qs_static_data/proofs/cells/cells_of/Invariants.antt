@@ -1,7 +1,0 @@
-use Rattle.std.proofs.Common.{◌≡◌, ◌++◌, map, drop}
-use Rattle.qs_static_data.specs.CellsOf.{cell_tree}
-use Rattle.qs_typed_trees.specs.TreeOf.{contents_cells}
-use Rattle.qs_static_data.proofs.cells.cells_of.Given as goal
-
-abbrev pub invariant-loop-d : goal.invariant-loop-d
-invariant-loop-d l = map cell_tree l.cells.items ++ contents_cells (drop l.d-index l.parts) ≡ contents_cells l.parts

@@ -1,8 +1,0 @@
-use Rattle.std.proofs.Common.{◌≡◌, ◌++◌, drop}
-use Rattle.qs_syntax.specs.TreeOf.{stmts_tree}
-use Rattle.qs_known.specs.KnownFunctions.{statements_nodes}
-use Rattle.qs_static_data.proofs.locals.+nodes.Given as goal
-
-abbrev pub invariant-statements_nodes-loop-s : goal.invariant-statements_nodes-loop-s
-invariant-statements_nodes-loop-s l =
-    l.initial.nodes.items ++ statements_nodes (stmts_tree l.ss) ≡ l.nodes.items ++ statements_nodes (stmts_tree (drop l.s-index l.ss))

@@ -1,7 +1,0 @@
-use Rattle.std.proofs.Common.{◌≡◌, ◌++◌, map, drop}
-use Rattle.qs_syntax.specs.TreeOf.{decl_tree}
-use Rattle.qs_meaning.specs.Units.{file_variables_in}
-use Rattle.qs_static_data.proofs.tables.file_variables_in.Given as goal
-
-abbrev pub invariant-loop-d : goal.invariant-loop-d
-invariant-loop-d l = file_variables_in (map decl_tree l.ds) ≡ l.nodes.keys ++ file_variables_in (map decl_tree (drop l.d-index l.ds))

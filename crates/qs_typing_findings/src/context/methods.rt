@@ -1,0 +1,273 @@
+// How contexts are made, asked and changed.
+ghost use Rattle.std.specs.Prelude.{◌≡◌, ◌≤◌, IfOk, OnOk, None, Some, [], length, option_map};
+ghost use Rattle.std.specs.List.{slice_get};
+ghost use Rattle.qs_types.specs.GivenFunctions.{putchar_type, getchar_type};
+ghost use Rattle.qs_types.specs.Contexts.{given_functions, pointers, start_context, entity_of};
+ghost use Rattle.qs_types.specs.Contexts.{lookup, is_declared_here, inner_scope, tag_place};
+ghost use Rattle.qs_types.specs.Contexts.{base_type, is_void_base};
+ghost use Rattle.qs_types.specs.EnvOf.{env_tree};
+ghost use Rattle.qs_types.specs.TypeOf.{type_tree};
+ghost use Rattle.qs_types.specs.UnitRules.{with_tag};
+ghost use Rattle.qs_typing_findings.specs.EntityOf.{entity_at, signature_tree};
+ghost use Rattle.qs_typing_findings.specs.Knowing.{GivesMembers, IsSized, IsStarred, KnowsName, SetsResult};
+ghost use Rattle.qs_typing_findings.specs.ScopesOf.{inner_bindings, outer_bindings};
+ghost use Rattle.qs_typing_findings.specs.ContextOf.{context_tree, outer_scope, with_loop};
+
+use super::Context;
+use crate::entity::{Entity, Signature};
+use crate::scopes::Scopes;
+use indexmap::{IndexMap, IndexSet};
+use qs_base::{Name, NoMemory};
+use qs_syntax::{Base, TypeName};
+use qs_types::{CType, Env, tag_place};
+use std::alloc::Global;
+use std::mem;
+
+/// A type with more stars is answered as want of memory: types are copied and dropped level by
+/// level, on the native stack.
+const STAR_LIMIT: u32 = 10_000;
+
+/// The most structs that a context holds.
+const STRUCT_LIMIT: usize = 4_294_967_295;
+
+fn putchar_type(alloc: Global) -> Result<Signature, NoMemory>
+    ensures { IfOk result (λ s. signature_tree s ≡ putchar_type) }
+{
+    let mut parameters = Vec::new(alloc);
+    parameters.push(CType::Int)?;
+    Ok(Signature {
+        parameters,
+        result: CType::Int,
+    })
+}
+
+fn getchar_type(alloc: Global) -> Signature
+    ensures { signature_tree result ≡ getchar_type }
+{
+    Signature {
+        parameters: Vec::new(alloc),
+        result: CType::Int,
+    }
+}
+
+/// The names of `putchar` and `getchar`, which count as declared before the text.
+fn given_names(alloc: Global) -> Result<Scopes, NoMemory>
+    ensures inner { IfOk result (λ s. inner_bindings s ≡ given_functions) }
+    ensures outer { IfOk result (λ s. outer_bindings s ≡ []) }
+{
+    let mut names = Scopes::new(alloc);
+    let getchar = Name::new(alloc, b"getchar")?;
+    names.declare(alloc, getchar, Entity::Given(getchar_type(alloc)))?;
+    let putchar = Name::new(alloc, b"putchar")?;
+    names.declare(alloc, putchar, Entity::Given(putchar_type(alloc)?))?;
+    Ok(names)
+}
+
+/// A type with stars in front (C11 6.7.6.1).
+#[tactic(auto, using(crate::proofs::Tags::one_star))]
+fn pointers(alloc: Global, stars: u32, to: CType) -> Result<CType, NoMemory>
+    ensures { IfOk result (λ t. type_tree t ≡ pointers stars (type_tree to)) }
+{
+    if stars > STAR_LIMIT {
+        return Err(NoMemory);
+    }
+    let mut t = to;
+    for _ in 0..stars {
+        t = CType::Pointer(Box::new(alloc, t)?);
+    }
+    Ok(t)
+}
+
+/// Whether it is `void`.
+pub fn is_void_base(base: &Base) -> bool
+    ensures { result ≡ is_void_base base.now }
+{
+    match base {
+        Base::Void => true,
+        Base::Int => false,
+        Base::Unsigned => false,
+        Base::Char => false,
+        Base::Struct(_) => false,
+    }
+}
+
+impl Context {
+    /// What is known before a unit.
+    pub fn new(alloc: Global) -> Result<Context, NoMemory>
+        ensures { IfOk result (λ c. context_tree c ≡ start_context) }
+    {
+        Ok(Context {
+            structs: Env::new(alloc),
+            tags: IndexSet::new(alloc),
+            names: given_names(alloc)?,
+            result: None,
+            in_loop: false,
+        })
+    }
+
+    /// The structs.
+    pub fn structs(&self) -> &Env
+        ensures { env_tree result.now ≡ (context_tree self.now).structs }
+    {
+        &self.structs
+    }
+
+    /// The tags of the structs, each at the number of its struct (C11 6.7.2.3).
+    pub fn tags(&self) -> &IndexSet<Name>
+        ensures { result.now.keys ≡ (context_tree self.now).tags }
+    {
+        &self.tags
+    }
+
+    /// The structs with their tags.
+    pub fn into_structs(self) -> (Env, IndexSet<Name>)
+        ensures structs { env_tree result.0 ≡ (context_tree self).structs }
+        ensures tags { result.1.keys ≡ (context_tree self).tags }
+    {
+        (self.structs, self.tags)
+    }
+
+    /// What a name stands for (C11 6.2.1p4).
+    pub fn find(&self, name: &Name) -> Option<&Entity>
+        ensures { entity_at result ≡ entity_of (context_tree self.now) name.now }
+    {
+        self.names.find(name)
+    }
+
+    /// What a name stands for that is declared in the innermost scope.
+    pub fn find_here(&self, name: &Name) -> Option<&Entity>
+        ensures { entity_at result ≡ lookup name.now (context_tree self.now).inner }
+    {
+        self.names.find_here(name)
+    }
+
+    /// Whether a name is declared in the innermost scope.
+    pub fn is_declared_here(&self, name: &Name) -> bool
+        ensures { result ≡ is_declared_here (context_tree self.now) name.now }
+    {
+        self.names.find_here(name).is_some()
+    }
+
+    /// Declares a name in the innermost scope (C11 6.2.1p7).
+    pub fn declare(&mut self, alloc: Global, name: Name, entity: Entity) -> Result<(), NoMemory>
+        ensures { OnOk result (KnowsName name entity self.old self.new) }
+    {
+        self.names.declare(alloc, name, entity)
+    }
+
+    /// Begins a scope, and tells where the one around it begins: how many names stand outside of
+    /// that.
+    pub fn enter_scope(&mut self) -> usize
+        ensures around { result ≡ length (context_tree self.old).outer }
+        ensures inside { context_tree self.new ≡ inner_scope (context_tree self.old) }
+    {
+        self.names.enter()
+    }
+
+    /// Ends the innermost scope, where the one around it begins behind so many names.
+    pub fn leave_scope(&mut self, around: usize)
+        requires { around ≤ length (context_tree self.old).outer }
+        ensures { context_tree self.new ≡ outer_scope around (context_tree self.old) }
+    {
+        self.names.leave(around);
+    }
+
+    /// The result of the function, where it has a type.
+    pub fn result(&self) -> Option<&CType>
+        ensures { option_map (λ t. type_tree t.now) result ≡ (context_tree self.now).result }
+    {
+        self.result.as_ref()
+    }
+
+    /// Sets the result of the function, and gives the one that was known.
+    pub fn set_result(&mut self, to: Option<CType>) -> Option<CType>
+        ensures before { option_map type_tree result ≡ (context_tree self.old).result }
+        ensures set { SetsResult to self.old self.new }
+    {
+        mem::replace(&mut self.result, to)
+    }
+
+    /// Whether a loop is around the place.
+    pub fn in_loop(&self) -> bool
+        ensures { result ≡ (context_tree self.now).in_loop }
+    {
+        self.in_loop
+    }
+
+    /// Sets whether a loop is around the place.
+    pub fn set_loop(&mut self, to: bool)
+        ensures { context_tree self.new ≡ with_loop (context_tree self.old) to }
+    {
+        self.in_loop = to;
+    }
+
+    /// The place of a tag among the structs (C11 6.7.2.3).
+    pub fn tag_place(&self, tag: &Name) -> Option<u32>
+        ensures { result ≡ tag_place (context_tree self.now) tag.now }
+    {
+        Some(tag_place(&self.tags, tag)? as u32)
+    }
+
+    /// Declares a tag behind the others, if it is new.
+    pub fn with_tag(&mut self, tag: Name) -> Result<(), NoMemory>
+        ensures { OnOk result (context_tree self.new ≡ with_tag (context_tree self.old) tag) }
+    {
+        if self.tags.len() >= STRUCT_LIMIT {
+            return Err(NoMemory);
+        }
+        if self.tags.insert(tag)? {
+            self.structs.declare()?;
+        }
+        Ok(())
+    }
+
+    /// Gives a struct that has no members yet its members, if each member and the whole have a size
+    /// within the limit, and tells whether they have.
+    pub fn define(
+        &mut self,
+        alloc: Global,
+        k: u32,
+        members: IndexMap<Name, CType>,
+    ) -> Result<bool, NoMemory>
+        requires { slice_get (context_tree self.old).structs k ≡ Some None }
+        ensures told { IfOk result (IsSized self.old members.entries) }
+        ensures defined { IfOk result (λ d. GivesMembers k members.entries d self.old self.new) }
+    {
+        self.structs.define(alloc, k, members)
+    }
+
+    /// The type that a declaration begins with, unless its tag isn't declared (C11 6.7.2).
+    pub fn base_type(&self, base: &Base) -> Option<CType>
+        ensures { option_map type_tree result ≡ base_type (context_tree self.now) base.now }
+    {
+        match base {
+            Base::Void => Some(CType::Void),
+            Base::Int => Some(CType::Int),
+            Base::Unsigned => Some(CType::Unsigned),
+            Base::Char => Some(CType::Char),
+            Base::Struct(tag) => Some(CType::Struct(self.tag_place(tag)?)),
+        }
+    }
+
+    /// The same with stars behind it (C11 6.7.6.1).
+    pub fn starred_type(
+        &self,
+        alloc: Global,
+        base: &Base,
+        stars: u32,
+    ) -> Result<Option<CType>, NoMemory>
+        ensures { IfOk result (IsStarred self.now base.now stars) }
+    {
+        match self.base_type(base) {
+            None => Ok(None),
+            Some(t) => Ok(Some(pointers(alloc, stars, t)?)),
+        }
+    }
+
+    /// The type of a name (C11 6.7.7), unless its tag isn't declared.
+    pub fn named_type(&self, alloc: Global, name: &TypeName) -> Result<Option<CType>, NoMemory>
+        ensures { IfOk result (IsStarred self.now name.now.base name.now.stars) }
+    {
+        self.starred_type(alloc, &name.base, name.stars)
+    }
+}

@@ -1,0 +1,47 @@
+// A unit with its types.
+ghost use Rattle.std.specs.Prelude.{◌≡◌, map, option_map};
+ghost use Rattle.qs_syntax.specs.UnitTrees.{unit_tree};
+ghost use Rattle.qs_types.specs.EnvOf.{env_tree};
+ghost use Rattle.qs_types.specs.Limits.{IsWithinLimits};
+ghost use Rattle.qs_types.specs.Recorded.{global_blocks, tags_of};
+ghost use Rattle.qs_types.specs.References.{literal_blocks};
+ghost use Rattle.qs_types.specs.TypeOf.{type_tree};
+ghost use Rattle.qs_types.specs.UnitRules.{structs_of};
+ghost use Rattle.qs_types.specs.WellTyped.{WellTyped};
+ghost use Rattle.qs_typing_findings.specs.NodeReferents.{unit_addressed, unit_referents};
+ghost use Rattle.qs_typing_findings.specs.NodeTypes.{unit_types};
+ghost use Rattle.qs_typing_findings.specs.NotedOf.{block_tree, text_tree};
+ghost use Rattle.qs_typing_findings.specs.TypeSets.{blocks_prop, structs_prop, texts_prop, types_prop};
+
+mod methods;
+
+use crate::noted::{Block, TextBlock};
+use indexmap::IndexSet;
+use qs_base::Name;
+use qs_syntax::Unit;
+use qs_types::{CType, Env, Referent};
+
+/// A unit that keeps the rules and is within the limits, with the type of each expression at the
+/// number of its node and what each name and call stands for, the declarations whose names are
+/// operands of `&`, the structs with their tags, the blocks of the variables of file scope, and the
+/// texts that are blocks.
+#[derive(Drop)]
+pub struct TypedUnit {
+    unit: Unit,
+    types: Vec<Option<CType>>,
+    referents: Vec<Option<Referent>>,
+    addressed: Vec<u32>,
+    env: Env,
+    tags: IndexSet<Name>,
+    globals: Vec<Block>,
+    texts: Vec<TextBlock>,
+    ghost well_typed: { WellTyped (unit_tree unit) },
+    ghost within_limits: { IsWithinLimits (unit_tree unit) },
+    ghost are_types: { map (option_map type_tree) types.items ≡ unit_types (unit_tree unit) } by { types_prop (map (option_map type_tree) types.items) (unit_types (unit_tree unit)) },
+    ghost are_referents: { referents.items ≡ unit_referents (unit_tree unit) },
+    ghost are_addressed: { addressed.items ≡ unit_addressed (unit_tree unit) },
+    ghost are_structs: { env_tree env ≡ structs_of (unit_tree unit) } by { structs_prop (env_tree env) (structs_of (unit_tree unit)) },
+    ghost are_tags: { tags.keys ≡ tags_of (unit_tree unit) },
+    ghost are_globals: { map block_tree globals.items ≡ global_blocks (unit_tree unit) } by { blocks_prop (map block_tree globals.items) (global_blocks (unit_tree unit)) },
+    ghost are_texts: { map text_tree texts.items ≡ literal_blocks (unit_tree unit) } by { texts_prop (map text_tree texts.items) (literal_blocks (unit_tree unit)) },
+}

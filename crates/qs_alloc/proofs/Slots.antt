@@ -118,11 +118,11 @@ verified_keep u ps h = places_keep_runs u ps (verified_accepted u ps h)
 
 -- ---- slots for all functions
 
-slots_at : (functions : List TacFunctionTree) (f : ℕ) (g : TacFunctionTree) → slice_get functions f ≡ Some g → Accepted g (slice_index_or (map all_slots functions) f no_places)
+pub slots_at : (functions : List TacFunctionTree) (f : ℕ) (g : TacFunctionTree) → slice_get functions f ≡ Some g → slice_index_or (map all_slots functions) f no_places ≡ all_slots g
 slots_at [] f g e = absurd cc
-slots_at (k ∷ functions) zero g e = let is : k ≡ g = cc in subst (λ (l : TacFunctionTree). Accepted l (all_slots k)) is (record { own_slots = refl })
+slots_at (k ∷ functions) zero g e = let is : k ≡ g = cc in ap all_slots is
 slots_at (k ∷ functions) (suc f) g e = slots_at functions f g e
 
 pub all_slots_are_accepted : (u : TacUnitTree) (ps : List PlacesTree) → ps ≡ map all_slots u.functions → AreAccepted u ps
 all_slots_are_accepted u ps h =
-    subst (λ (l : List PlacesTree). AreAccepted u l) (sym h) (λ f g e. slots_at u.functions f g e)
+    subst (λ (l : List PlacesTree). AreAccepted u l) (sym h) (λ f g e. slots_are_accepted g _ (slots_at u.functions f g e))

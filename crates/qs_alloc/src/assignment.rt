@@ -29,10 +29,11 @@ pub fn all_slots(alloc: Global, f: &TacFunction) -> Result<Places, NoMemory>
     })
 }
 
-/// Places that keep what the function does. `verify` accepts them.
+/// Places that keep what the function does: for now those of `all_slots`. `verify` accepts them.
 #[tactic(auto, using(crate::proofs::Slots::slots_are_accepted))]
 pub fn assign(alloc: Global, f: &TacFunction) -> Result<Places, NoMemory>
-    ensures { IfOk result (λ places. Accepted (function_tree f.now) (places_tree places)) }
+    ensures slots { IfOk result (λ places. places_tree places ≡ all_slots (function_tree f.now)) }
+    ensures accepted { IfOk result (λ places. Accepted (function_tree f.now) (places_tree places)) }
 {
     let places = all_slots(alloc, f)?;
     Ok(places)
@@ -43,15 +44,16 @@ fn assign_all(alloc: Global, functions: &[TacFunction]) -> Result<Vec<Places>, N
 {
     let mut all = Vec::new(alloc);
     for f in functions {
-        all.push(all_slots(alloc, f)?)?;
+        all.push(assign(alloc, f)?)?;
     }
     Ok(all)
 }
 
-/// Places that keep what each function of the unit does, by the functions' numbers. `verify_unit`
-/// accepts them.
+/// The places that `assign` answers for each function of the unit, by the functions' numbers.
+/// `verify_unit` accepts them.
 pub fn assign_unit(alloc: Global, unit: &TacUnit) -> Result<Vec<Places>, NoMemory>
-    ensures { IfOk result (λ places. AreAccepted (unit_tree unit.now) (places_trees places.items)) }
+    ensures slots { IfOk result (λ all. HaveOwnSlots unit.now.functions.items all.items) }
+    ensures accepted { IfOk result (λ all. AreAccepted (unit_tree unit.now) (places_trees all.items)) }
 {
     let places = assign_all(alloc, &unit.functions)?;
     Ok(places)

@@ -1,4 +1,5 @@
-//! Where the temporaries of functions stand: for now each in a slot of its own.
+//! Where the temporaries of functions stand, for now each in a slot of its own, and the test
+//! whether places keep what functions do.
 #![tactic(auto)]
 
 mod assignment;

@@ -1,6 +1,7 @@
 -- What is given is filled in one way.
-use Rattle.std.proofs.Common.{◌≡◌, ℕ, Bool, true, false, List, ◌++◌, filter, map, refl, sym, ap, ◌∙◌}
+use Rattle.std.proofs.Common.{◌≡◌, ℕ, Bool, List, ◌++◌, filter, map, sym, ap, ◌∙◌}
 use Rattle.std.proofs.Math.Path.{fun_ext}
+use Rattle.std.specs.Cmp.{both_ways}
 use Rattle.qs_assert.specs.declared.define.Define.{Define}
 use Rattle.qs_core.specs.Trees.{CoreUnitTree}
 use Rattle.qs_triples.specs.Derivations.{EntryTree, ProofsTree}
@@ -12,14 +13,9 @@ use Rattle.qs_callgraph.proofs.DepthLaws.{one_depth_first}
 use Rattle.qs_analyse.specs.Fillable.{with_entries}
 use Rattle.qs_analyse.specs.Laws.{OneFilling}
 
-both_told : (a b : Bool) → (a ≡ true → b ≡ true) → (b ≡ true → a ≡ true) → a ≡ b
-both_told true b h k = sym (h refl)
-both_told false true h k = k refl
-both_told false false h k = refl
-
 same_open : (u : CoreUnitTree) (has_spec p q : ℕ → Bool) → TellsOpen u has_spec p → TellsOpen u has_spec q → p ≡ q
 same_open u has_spec p q a b =
-    fun_ext (λ f. both_told (p f) (q f) (λ h. b.all_there f (a.open_ones f h)) (λ h. a.all_there f (b.open_ones f h)))
+    fun_ext (λ f. both_ways (p f) (q f) (λ h. b.all_there f (a.open_ones f h)) (λ h. a.all_there f (b.open_ones f h)))
 
 same_proofs : (p q : ProofsTree) → p.defines ≡ q.defines → p.functions ≡ q.functions → p ≡ q
 same_proofs p q defines functions =

@@ -1,8 +1,9 @@
 -- Items whose labels count up have an assembly.
-use Rattle.std.proofs.Common.{◌≡◌, ◌⊎◌, inl, inr, ℕ, ◌+◌, ◌-◌, ◌*◌, ◌%◌, ◌^◌, ◌<◌, ◌≤◌, true, false, Bool, List, [], ◌∷◌, ◌++◌, Option, Some, None, refl, sym, ap, subst, ◌∙◌, arith}
-use Rattle.std.specs.Prelude.{◌==◌, ◌&&◌, nat_lt, if◌then◌else◌, sum_by}
+use Rattle.std.proofs.Common.{◌≡◌, ◌⊎◌, inl, inr, ℕ, ◌+◌, ◌-◌, ◌*◌, ◌%◌, ◌^◌, ◌<◌, ◌≤◌, true, false, Bool, List, [], ◌∷◌, ◌++◌, Option, Some, None, refl, sym, ap, subst, ◌∙◌, arith, eq-eqb, lt-ltb}
+use Rattle.std.specs.Prelude.{◌==◌, if◌then◌else◌, sum_by}
 use Rattle.std.specs.Option.{option_or}
 use Rattle.std.proofs.lemmas.List.Sums.{sum_by-cons}
+use Rattle.std.proofs.lemmas.Bool.{and_from}
 use Rattle.qs_base.specs.Words.{sub}
 use Rattle.qs_isa.specs.declared.instruction.Instr.{Instr}
 use Rattle.qs_isa.specs.declared.instruction.BranchKind.{BranchKind}
@@ -17,9 +18,6 @@ use Rattle.qs_asm.specs.Counting.{CountUp, LeadBelow, CountedItemsAreAssembled}
 other_number : (k l : ℕ) → l < k → (k == l) ≡ false
 other_number k l h = grind (arith, h)
 
-same_number : (k l : ℕ) → k ≡ l → (k == l) ≡ true
-same_number k l h = grind (arith, h)
-
 -- a distance within the words is in the reach of JAL
 distance_ahead : (k j : ℕ) → k < 2 ^ 18 → j ≤ k → sub (4 * k) (4 * j) ≡ 4 * (k - j)
 distance_ahead k j h e =
@@ -33,14 +31,8 @@ distance_back k j h e =
     let b : (2 ^ 32 - 4 * (j - k)) % 2 ^ 32 ≡ 2 ^ 32 - 4 * (j - k) = omega (arith, e, h) in
     ap (λ n. n % 2 ^ 32) a ∙ b
 
-both_true : (a b : Bool) → a ≡ true → b ≡ true → (a && b) ≡ true
-both_true a b h k = cc
-
-below_true : (n m : ℕ) → n < m → nat_lt n m ≡ true
-below_true n m h = grind (arith, h)
-
 reached_by : (d : ℕ) → (d + 2 ^ 20) % 2 ^ 32 < 2 ^ 21 → d % 2 ≡ 0 → is_reached d ≡ true
-reached_by d h e = both_true _ _ (below_true _ _ h) (same_number (d % 2) 0 e)
+reached_by d h e = and_from _ _ (lt-ltb _ _ h) (eq-eqb (d % 2) 0 e)
 
 reached : (k j : ℕ) → k < 2 ^ 18 → j < 2 ^ 18 → (j ≤ k) ⊎ (k < j) → is_reached (sub (4 * k) (4 * j)) ≡ true
 reached k j h e (inl ahead) =
@@ -98,7 +90,7 @@ itself : (k l from : ℕ) (a : Option ℕ) → a ≡ None → k ≡ l → option
 itself k l from a none e =
     let there : from ≡ from + 4 * 0 = omega arith in
     ap (λ x. option_or x (if k == l then Some from else None)) none
-    ∙ (ap (λ (z : Bool). if z then Some from else None) (same_number k l e) ∙ ap Some there)
+    ∙ (ap (λ (z : Bool). if z then Some from else None) (eq-eqb k l e) ∙ ap Some there)
 
 stands :
     (from first end l : ℕ) (items : List Item) → CountUp first items end → first ≤ l → l < end → Stands from items l
@@ -161,7 +153,7 @@ branch_has kind a b distance n h = record { list = _; is = ap (branch_code kind 
 label_has : (place : Option ℕ) (from : ℕ) → place ≡ Some from → HasCode (label_code from place)
 label_has place from h = record {
   list = [];
-  is = ap (label_code from) h ∙ ap (λ (z : Bool). if z then Some [] else None) (same_number from from refl);
+  is = ap (label_code from) h ∙ ap (λ (z : Bool). if z then Some [] else None) (eq-eqb from from refl);
 }
 
 agree_behind :

@@ -1,5 +1,5 @@
 -- The value after a substitution is the value in the state where each variable has its image's value.
-use Rattle.std.proofs.Common.{◌≡◌, refl, ap, sym, ◌∙◌, true, false}
+use Rattle.std.proofs.Common.{◌≡◌, refl, ap, sym, ◌∙◌, true, false, ap₂}
 use Rattle.std.specs.Prelude.{pos, List, [], ◌∷◌, Option, Some, None, Bool, if◌then◌else◌, ◌+ℤ◌, ◌-ℤ◌, ◌*ℤ◌, ◌&&◌, ◌||◌, int_le, int_lt}
 use Rattle.std.specs.Prelude.{not as flip}
 use Rattle.std.specs.Ordering.{int_eq}
@@ -14,15 +14,12 @@ use Rattle.qs_assert.specs.declared.images.Substituted.TheVariants.{Whole, Missi
 use Rattle.qs_assert.specs.Simultaneous.{image_in, or_others, images, or_itself, terms_for, first_without, unless_missing, substituted}
 use Rattle.qs_assert.specs.Substitution.{same_variable, one_image, in_assertion, with_value}
 
-both : {A B C : Type 0} (f : A → B → C) {a a' : A} {b b' : B} → a ≡ a' → b ≡ b' → f a b ≡ f a' b'
-both f p q = λ i. f (p i) (q i)
-
 mutual
   pub term_agrees : (m : Images) (t : TermTree) (s : State) → term_value (term_image m t) s ≡ term_value t (with_images m s)
   term_agrees m (number k) s = refl
   term_agrees m (variable y) s = refl
   term_agrees m (add ts) s = sum_agrees m ts s
-  term_agrees m (sub t v) s = both ◌-ℤ◌ (term_agrees m t s) (term_agrees m v s)
+  term_agrees m (sub t v) s = ap₂ ◌-ℤ◌ (term_agrees m t s) (term_agrees m v s)
   term_agrees m (mul ts) s = product_agrees m ts s
   term_agrees m (div t k) s = ap (λ z. quotient z k) (term_agrees m t s)
   term_agrees m (wrapu t) s = ap wrapped_unsigned (term_agrees m t s)
@@ -31,29 +28,29 @@ mutual
 
   pub sum_agrees : (m : Images) (ts : TermTrees) (s : State) → sum_of_terms (terms_image m ts) s ≡ sum_of_terms ts (with_images m s)
   sum_agrees m no_terms s = refl
-  sum_agrees m (term_and t ts) s = both ◌+ℤ◌ (term_agrees m t s) (sum_agrees m ts s)
+  sum_agrees m (term_and t ts) s = ap₂ ◌+ℤ◌ (term_agrees m t s) (sum_agrees m ts s)
 
   pub product_agrees : (m : Images) (ts : TermTrees) (s : State) → product_of_terms (terms_image m ts) s ≡ product_of_terms ts (with_images m s)
   product_agrees m no_terms s = refl
-  product_agrees m (term_and t ts) s = both ◌*ℤ◌ (term_agrees m t s) (product_agrees m ts s)
+  product_agrees m (term_and t ts) s = ap₂ ◌*ℤ◌ (term_agrees m t s) (product_agrees m ts s)
 
 mutual
   pub cond_agrees : (m : Images) (c : CondTree) (s : State) → holds (cond_image m c) s ≡ holds c (with_images m s)
-  cond_agrees m (le t v) s = both int_le (term_agrees m t s) (term_agrees m v s)
-  cond_agrees m (lt t v) s = both int_lt (term_agrees m t s) (term_agrees m v s)
-  cond_agrees m (eq t v) s = both int_eq (term_agrees m t s) (term_agrees m v s)
-  cond_agrees m (ne t v) s = ap flip (both int_eq (term_agrees m t s) (term_agrees m v s))
+  cond_agrees m (le t v) s = ap₂ int_le (term_agrees m t s) (term_agrees m v s)
+  cond_agrees m (lt t v) s = ap₂ int_lt (term_agrees m t s) (term_agrees m v s)
+  cond_agrees m (eq t v) s = ap₂ int_eq (term_agrees m t s) (term_agrees m v s)
+  cond_agrees m (ne t v) s = ap flip (ap₂ int_eq (term_agrees m t s) (term_agrees m v s))
   cond_agrees m (not c) s = ap flip (cond_agrees m c s)
   cond_agrees m (and cs) s = all_agree m cs s
   cond_agrees m (or cs) s = some_agree m cs s
 
   pub all_agree : (m : Images) (cs : CondTrees) (s : State) → all_hold (conds_image m cs) s ≡ all_hold cs (with_images m s)
   all_agree m no_conds s = refl
-  all_agree m (cond_and c cs) s = both (λ a b. a && b) (cond_agrees m c s) (all_agree m cs s)
+  all_agree m (cond_and c cs) s = ap₂ (λ a b. a && b) (cond_agrees m c s) (all_agree m cs s)
 
   pub some_agree : (m : Images) (cs : CondTrees) (s : State) → some_holds (conds_image m cs) s ≡ some_holds cs (with_images m s)
   some_agree m no_conds s = refl
-  some_agree m (cond_and c cs) s = both (λ a b. a || b) (cond_agrees m c s) (some_agree m cs s)
+  some_agree m (cond_and c cs) s = ap₂ (λ a b. a || b) (cond_agrees m c s) (some_agree m cs s)
 
 mutual
   pub value_agrees : (m : Images) (a : AssertionTree) (s : State) → value (assertion_image m a) s ≡ value a (with_images m s)
@@ -64,22 +61,22 @@ mutual
   value_agrees m (total parts) s = sum_of_agrees m parts s
   value_agrees m (greatest parts) s = greatest_of_agrees m parts s
   value_agrees m (product parts) s = product_of_agrees m parts s
-  value_agrees m (guard c a) s = both (λ b v. if b then v else infinite) (cond_agrees m c s) (value_agrees m a s)
+  value_agrees m (guard c a) s = ap₂ (λ b v. if b then v else infinite) (cond_agrees m c s) (value_agrees m a s)
   value_agrees m (choose c a b) s =
       (λ i. if cond_agrees m c s i then value_agrees m a s i else value_agrees m b s i)
   value_agrees m (named n) s = refl
 
   pub sum_of_agrees : (m : Images) (parts : AssertionTrees) (s : State) → sum_of (assertions_image m parts) s ≡ sum_of parts (with_images m s)
   sum_of_agrees m no_assertions s = refl
-  sum_of_agrees m (assertion_and a parts) s = both plus (value_agrees m a s) (sum_of_agrees m parts s)
+  sum_of_agrees m (assertion_and a parts) s = ap₂ plus (value_agrees m a s) (sum_of_agrees m parts s)
 
   pub greatest_of_agrees : (m : Images) (parts : AssertionTrees) (s : State) → greatest_of (assertions_image m parts) s ≡ greatest_of parts (with_images m s)
   greatest_of_agrees m no_assertions s = refl
-  greatest_of_agrees m (assertion_and a parts) s = both greater (value_agrees m a s) (greatest_of_agrees m parts s)
+  greatest_of_agrees m (assertion_and a parts) s = ap₂ greater (value_agrees m a s) (greatest_of_agrees m parts s)
 
   pub product_of_agrees : (m : Images) (parts : AssertionTrees) (s : State) → product_of (assertions_image m parts) s ≡ product_of parts (with_images m s)
   product_of_agrees m no_assertions s = refl
-  product_of_agrees m (assertion_and a parts) s = both times (value_agrees m a s) (product_of_agrees m parts s)
+  product_of_agrees m (assertion_and a parts) s = ap₂ times (value_agrees m a s) (product_of_agrees m parts s)
 
 -- ---- images of a list
 

@@ -4,6 +4,7 @@ use Rattle.std.specs.Prelude.{◌&&◌, ◌||◌}
 use Rattle.std.specs.List.{list_all}
 use Rattle.std.proofs.lemmas.List.Folds.{list_all-append}
 use Rattle.std.proofs.Math.Seq.{drop-cons}
+use Rattle.std.proofs.Math.Bool.{and-true}
 use Rattle.qs_assert.specs.declared.define.Define.{Define}
 use Rattle.qs_assert.specs.declared.node.TermNode.{TermNode}
 use Rattle.qs_assert.specs.declared.node.Node.{Node}
@@ -36,10 +37,6 @@ mutual
   conds_known known no_conds = refl
   conds_known known (cond_and c cs) = both known (cond_nodes c) (conds_nodes cs) true true (cond_known known c) (conds_known known cs)
 
-named_known : (b : Bool) → (b && true) ≡ b
-named_known true = refl
-named_known false = refl
-
 mutual
   pub nodes_known : (known : List ℕ → Bool) (a : AssertionTree) → list_all (node_known known) (assertion_nodes a) ≡ names_known a known
   nodes_known known (natural n) = refl
@@ -53,7 +50,7 @@ mutual
   nodes_known known (choose c a b) =
       both known (cond_nodes c) (assertion_nodes a ++ assertion_nodes b) true (names_known a known && names_known b known) (cond_known known c)
       (both known (assertion_nodes a) (assertion_nodes b) (names_known a known) (names_known b known) (nodes_known known a) (nodes_known known b))
-  nodes_known known (named n) = named_known (known n)
+  nodes_known known (named n) = and-true (known n)
 
   pub all_nodes_known : (known : List ℕ → Bool) (parts : AssertionTrees) → list_all (node_known known) (assertions_nodes parts) ≡ all_names_known parts known
   all_nodes_known known no_assertions = refl

@@ -1,9 +1,10 @@
 -- The tests of sameness tell equality.
-use Rattle.std.proofs.Common.{◌≡◌, ℕ, ℤ, refl, ap, ◌∙◌, sym, Bool, true, false, List, [], ◌∷◌, ◌↔◌, Decides}
-use Rattle.std.specs.Prelude.{◌==◌, ◌&&◌, IsTrue}
+use Rattle.std.proofs.Common.{◌≡◌, ℕ, ℤ, refl, ap, ◌∙◌, sym, Bool, true, List, [], ◌∷◌, ◌↔◌, Decides}
+use Rattle.std.specs.Prelude.{◌==◌, IsTrue}
 use Rattle.std.specs.Ordering.{int_eq}
-use Rattle.std.proofs.lemmas.Bool.{eqb-true, eq-eqb}
+use Rattle.std.proofs.lemmas.Bool.{eqb-true, eq-eqb, and_from}
 use Rattle.std.proofs.lemmas.Bool.Decides.{Decides-int_eq}
+use Rattle.std.specs.Cmp.{first_so, second_so}
 use Rattle.qs_base.proofs.Variants.{variants_exact}
 use Rattle.qs_assert.specs.declared.variable.VarKind.{VarKind}
 use Rattle.qs_assert.specs.declared.variable.VarKind.TheVariants.{Plain, Temporary, Old, Returned}
@@ -25,28 +26,16 @@ use Rattle.qs_assert.specs.Substitution.{same_kind, same_number_type, same_varia
 use Rattle.qs_assert.specs.Bounds.{same_name}
 use Rattle.qs_assert.specs.Sameness.{same_term_node, same_cond_node, same_assertion_node, same_node, all_same, same_term, same_cond, same_assertion}
 
-first_of : (a b : Bool) → a && b ≡ true → a ≡ true
-first_of true b h = refl
-first_of false b h = h
-
-second_of : (a b : Bool) → a && b ≡ true → b ≡ true
-second_of true b h = h
-second_of false b h = absurd (cc)
-
-both : (a b : Bool) → a ≡ true → b ≡ true → a && b ≡ true
-both true b h k = k
-both false b h k = h
-
 pub name_equal : (a b : List ℕ) → same_name a b ≡ true → a ≡ b
 name_equal [] [] h = refl
 name_equal [] (y ∷ b) h = absurd (cc)
 name_equal (x ∷ a) [] h = absurd (cc)
 name_equal (x ∷ a) (y ∷ b) h =
-    λ i. eqb-true x y (first_of (x == y) (same_name a b) h) i ∷ name_equal a b (second_of (x == y) (same_name a b) h) i
+    λ i. eqb-true x y (first_so (x == y) (same_name a b) h) i ∷ name_equal a b (second_so (x == y) (same_name a b) h) i
 
 name_self : (a : List ℕ) → same_name a a ≡ true
 name_self [] = refl
-name_self (x ∷ a) = both (x == x) (same_name a a) (eq-eqb x x refl) (name_self a)
+name_self (x ∷ a) = and_from (x == x) (same_name a a) (eq-eqb x x refl) (name_self a)
 
 kind_equal : (a b : VarKind) → same_kind a b ≡ true → a ≡ b
 kind_equal (Plain i) (Plain j) h = ap Plain (eqb-true i j h)
@@ -72,10 +61,10 @@ number_type_self a = (number_type_exact a a).1 refl
 
 pub variable_equal : (x y : Var) → same_variable x y ≡ true → x ≡ y
 variable_equal x y h =
-    λ i. record { kind = kind_equal x.kind y.kind (first_of (same_kind x.kind y.kind) (same_number_type x.number y.number) h) i; number = number_type_equal x.number y.number (second_of (same_kind x.kind y.kind) (same_number_type x.number y.number) h) i }
+    λ i. record { kind = kind_equal x.kind y.kind (first_so (same_kind x.kind y.kind) (same_number_type x.number y.number) h) i; number = number_type_equal x.number y.number (second_so (same_kind x.kind y.kind) (same_number_type x.number y.number) h) i }
 
 pub variable_self : (x : Var) → same_variable x x ≡ true
-variable_self x = both (same_kind x.kind x.kind) (same_number_type x.number x.number) (kind_self x.kind) (number_type_self x.number)
+variable_self x = and_from (same_kind x.kind x.kind) (same_number_type x.number x.number) (kind_self x.kind) (number_type_self x.number)
 
 integer_equal : (x y : ℤ) → int_eq x y ≡ true → x ≡ y
 integer_equal x y h = (Decides-int_eq x y).0 h
@@ -166,11 +155,11 @@ all_equal test e [] [] h = refl
 all_equal test e [] (y ∷ ys) h = absurd (cc)
 all_equal test e (x ∷ xs) [] h = absurd (cc)
 all_equal test e (x ∷ xs) (y ∷ ys) h =
-    λ i. e x y (first_of (test x y) (all_same test xs ys) h) i ∷ all_equal test e xs ys (second_of (test x y) (all_same test xs ys) h) i
+    λ i. e x y (first_so (test x y) (all_same test xs ys) h) i ∷ all_equal test e xs ys (second_so (test x y) (all_same test xs ys) h) i
 
 all_self : {A : Type 0} (test : A → A → Bool) → ((x : A) → test x x ≡ true) → (xs : List A) → all_same test xs xs ≡ true
 all_self test e [] = refl
-all_self test e (x ∷ xs) = both (test x x) (all_same test xs xs) (e x) (all_self test e xs)
+all_self test e (x ∷ xs) = and_from (test x x) (all_same test xs xs) (e x) (all_self test e xs)
 
 pub term_same : (t u : TermTree) → same_term t u ≡ true → t ≡ u
 term_same t u h =

@@ -1,5 +1,5 @@
 -- Nodes that are those of terms.
-use Rattle.std.proofs.Common.{◌≡◌, ◌≢◌, ◌≤◌, ◌<◌, ℕ, zero, suc, ◌+◌, refl, sym, ap, ◌∙◌, Bool, true, false, List, [], ◌∷◌, ◌++◌, length, map, take, drop, append_assoc, append-nil, zero-add, length-drop, arith}
+use Rattle.std.proofs.Common.{◌≡◌, ◌≢◌, ◌≤◌, ◌<◌, ℕ, zero, suc, ◌+◌, refl, sym, ap, ◌∙◌, Bool, true, false, List, [], ◌∷◌, ◌++◌, length, map, take, drop, append_assoc, append-nil, zero-add, length-drop, arith, one-add, suc-add}
 use Rattle.std.proofs.lemmas.List.{length-take-le, take-append-drop}
 use Rattle.std.proofs.Math.Seq.{drop-cons}
 use Rattle.qs_assert.specs.declared.node.TermNode.{TermNode}
@@ -15,12 +15,6 @@ use Rattle.qs_assert.specs.Shapes.{term_arity, are_terms}
 two_more : (k : ℕ) → 2 + k ≡ suc (suc k)
 two_more k = omega arith
 
-one_more : (k : ℕ) → 1 + k ≡ suc k
-one_more k = omega arith
-
-more : (n k : ℕ) → suc n + k ≡ suc (n + k)
-more n k = omega arith
-
 mutual
   filled : (t : TermTree) (k : ℕ) (rest : List TermNode) → are_terms (term_nodes t ++ rest) (suc k) ≡ are_terms rest k
   filled (number z) k rest = ap (are_terms rest) (zero-add k)
@@ -30,15 +24,15 @@ mutual
       ap (are_terms ((term_nodes t ++ term_nodes u) ++ rest)) (two_more k)
       ∙ (ap (λ (l : List TermNode). are_terms l (suc (suc k))) (append_assoc (term_nodes t) (term_nodes u) rest) ∙ (filled t (suc k) (term_nodes u ++ rest) ∙ filled u k rest))
   filled (mul ts) k rest = all_filled ts k rest
-  filled (div t n) k rest = ap (are_terms (term_nodes t ++ rest)) (one_more k) ∙ filled t k rest
-  filled (wrapu t) k rest = ap (are_terms (term_nodes t ++ rest)) (one_more k) ∙ filled t k rest
-  filled (wraps t) k rest = ap (are_terms (term_nodes t ++ rest)) (one_more k) ∙ filled t k rest
-  filled (bits t) k rest = ap (are_terms (term_nodes t ++ rest)) (one_more k) ∙ filled t k rest
+  filled (div t n) k rest = ap (are_terms (term_nodes t ++ rest)) (one-add k) ∙ filled t k rest
+  filled (wrapu t) k rest = ap (are_terms (term_nodes t ++ rest)) (one-add k) ∙ filled t k rest
+  filled (wraps t) k rest = ap (are_terms (term_nodes t ++ rest)) (one-add k) ∙ filled t k rest
+  filled (bits t) k rest = ap (are_terms (term_nodes t ++ rest)) (one-add k) ∙ filled t k rest
 
   all_filled : (ts : TermTrees) (k : ℕ) (rest : List TermNode) → are_terms (terms_nodes ts ++ rest) (length (term_list ts) + k) ≡ are_terms rest k
   all_filled no_terms k rest = ap (are_terms rest) (zero-add k)
   all_filled (term_and t ts) k rest =
-      ap (are_terms ((term_nodes t ++ terms_nodes ts) ++ rest)) (more (length (term_list ts)) k)
+      ap (are_terms ((term_nodes t ++ terms_nodes ts) ++ rest)) (suc-add (length (term_list ts)) k)
       ∙ (ap (λ (l : List TermNode). are_terms l (suc (length (term_list ts) + k))) (append_assoc (term_nodes t) (terms_nodes ts) rest)
       ∙ (filled t (length (term_list ts) + k) (terms_nodes ts ++ rest) ∙ all_filled ts k rest))
 
@@ -77,7 +71,7 @@ many n k nodes ts head tree is l e = (tree (terms_of (take n ts)) ∷ drop n ts,
 single : (k : ℕ) (nodes : List TermNode) (ts : List TermTree) (head : TermNode) (tree : TermTree → TermTree) → ((t : TermTree) → term_nodes (tree t) ≡ head ∷ term_nodes t) → length ts ≡ 1 + k → nodes ≡ terms_nodes (terms_of ts) → (us : List TermTree) × ((length us ≡ suc k) × (head ∷ nodes ≡ terms_nodes (terms_of us)))
 single k nodes [] head tree is l e = absurd (omega arith)
 single k nodes (t ∷ ts) head tree is l e =
-    (tree t ∷ ts, (l ∙ one_more k, ap (λ (ns : List TermNode). head ∷ ns) e ∙ sym (ap (λ (ns : List TermNode). ns ++ terms_nodes (terms_of ts)) (is t))))
+    (tree t ∷ ts, (l ∙ one-add k, ap (λ (ns : List TermNode). head ∷ ns) e ∙ sym (ap (λ (ns : List TermNode). ns ++ terms_nodes (terms_of ts)) (is t))))
 
 two_parts : (k : ℕ) (nodes : List TermNode) (ts : List TermTree) → length ts ≡ 2 + k → nodes ≡ terms_nodes (terms_of ts) → (us : List TermTree) × ((length us ≡ suc k) × (Sub ∷ nodes ≡ terms_nodes (terms_of us)))
 two_parts k nodes [] l e = absurd (omega arith)

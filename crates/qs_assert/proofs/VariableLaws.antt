@@ -1,11 +1,12 @@
 -- The variables among the nodes of a tree, and values where variables have other numbers.
-use Rattle.std.proofs.Common.{◌≡◌, refl, ap, sym, ◌∙◌, Bool, true, false, List, [], ◌∷◌, ◌++◌, map}
+use Rattle.std.proofs.Common.{◌≡◌, refl, ap, sym, ◌∙◌, Bool, true, false, List, [], ◌∷◌, ◌++◌, map, ap₂}
 use Rattle.std.specs.Prelude.{ℤ, pos, if◌then◌else◌, ◌+ℤ◌, ◌-ℤ◌, ◌*ℤ◌, ◌&&◌, ◌||◌, int_le, int_lt, Option, is_none}
 use Rattle.std.specs.Prelude.{not as flip}
 use Rattle.std.specs.Ordering.{int_eq}
 use Rattle.std.specs.List.{list_any, flat_map, find}
 use Rattle.std.proofs.lemmas.Grind.{flat_map-append}
 use Rattle.std.proofs.lemmas.List.{map-append}
+use Rattle.std.proofs.lemmas.Bool.{or_right, or_left, or_parts}
 use Rattle.qs_assert.specs.declared.variable.Var.{Var}
 use Rattle.qs_assert.specs.declared.node.TermNode.{TermNode}
 use Rattle.qs_assert.specs.declared.node.TermNode.TheVariants.{Number, Variable, Add, Sub, Mul, Div, WrapUnsigned, WrapSigned, Bits}
@@ -96,9 +97,6 @@ behind : (xs ys : List Var) (f g : Var → ℤ) → AgreeOn (xs ++ ys) f g → A
 behind [] ys f g h = h
 behind (x ∷ xs) ys f g h = behind xs ys f g h.1
 
-pair : {A B C : Type 0} (f : A → B → C) {a a' : A} {b b' : B} → a ≡ a' → b ≡ b' → f a b ≡ f a' b'
-pair f p q = λ i. f (p i) (q i)
-
 abbrev seeing : State → (Var → ℤ) → State
 seeing s f = record s { at = f }
 
@@ -108,7 +106,7 @@ mutual
   term_same (variable x) s f g h = h.0
   term_same (add ts) s f g h = sum_same ts s f g h
   term_same (sub t u) s f g h =
-      pair ◌-ℤ◌ (term_same t s f g (front (term_variables t) (term_variables u) f g h)) (term_same u s f g (behind (term_variables t) (term_variables u) f g h))
+      ap₂ ◌-ℤ◌ (term_same t s f g (front (term_variables t) (term_variables u) f g h)) (term_same u s f g (behind (term_variables t) (term_variables u) f g h))
   term_same (mul ts) s f g h = product_same ts s f g h
   term_same (div t k) s f g h = ap (λ z. quotient z k) (term_same t s f g h)
   term_same (wrapu t) s f g h = ap wrapped_unsigned (term_same t s f g h)
@@ -118,16 +116,16 @@ mutual
   sum_same : (ts : TermTrees) (s : State) (f g : Var → ℤ) → AgreeOn (terms_variables ts) f g → sum_of_terms ts (seeing s f) ≡ sum_of_terms ts (seeing s g)
   sum_same no_terms s f g h = refl
   sum_same (term_and t ts) s f g h =
-      pair ◌+ℤ◌ (term_same t s f g (front (term_variables t) (terms_variables ts) f g h)) (sum_same ts s f g (behind (term_variables t) (terms_variables ts) f g h))
+      ap₂ ◌+ℤ◌ (term_same t s f g (front (term_variables t) (terms_variables ts) f g h)) (sum_same ts s f g (behind (term_variables t) (terms_variables ts) f g h))
 
   product_same : (ts : TermTrees) (s : State) (f g : Var → ℤ) → AgreeOn (terms_variables ts) f g → product_of_terms ts (seeing s f) ≡ product_of_terms ts (seeing s g)
   product_same no_terms s f g h = refl
   product_same (term_and t ts) s f g h =
-      pair ◌*ℤ◌ (term_same t s f g (front (term_variables t) (terms_variables ts) f g h)) (product_same ts s f g (behind (term_variables t) (terms_variables ts) f g h))
+      ap₂ ◌*ℤ◌ (term_same t s f g (front (term_variables t) (terms_variables ts) f g h)) (product_same ts s f g (behind (term_variables t) (terms_variables ts) f g h))
 
 two_same : {A : Type 0} (r : ℤ → ℤ → A) (t u : TermTree) (s : State) (f g : Var → ℤ) → AgreeOn (term_variables t ++ term_variables u) f g → r (term_value t (seeing s f)) (term_value u (seeing s f)) ≡ r (term_value t (seeing s g)) (term_value u (seeing s g))
 two_same r t u s f g h =
-    pair r (term_same t s f g (front (term_variables t) (term_variables u) f g h)) (term_same u s f g (behind (term_variables t) (term_variables u) f g h))
+    ap₂ r (term_same t s f g (front (term_variables t) (term_variables u) f g h)) (term_same u s f g (behind (term_variables t) (term_variables u) f g h))
 
 mutual
   pub cond_same : (c : CondTree) (s : State) (f g : Var → ℤ) → AgreeOn (cond_variables c) f g → holds c (seeing s f) ≡ holds c (seeing s g)
@@ -142,12 +140,12 @@ mutual
   all_same : (cs : CondTrees) (s : State) (f g : Var → ℤ) → AgreeOn (conds_variables cs) f g → all_hold cs (seeing s f) ≡ all_hold cs (seeing s g)
   all_same no_conds s f g h = refl
   all_same (cond_and c cs) s f g h =
-      pair (λ a b. a && b) (cond_same c s f g (front (cond_variables c) (conds_variables cs) f g h)) (all_same cs s f g (behind (cond_variables c) (conds_variables cs) f g h))
+      ap₂ (λ a b. a && b) (cond_same c s f g (front (cond_variables c) (conds_variables cs) f g h)) (all_same cs s f g (behind (cond_variables c) (conds_variables cs) f g h))
 
   some_same : (cs : CondTrees) (s : State) (f g : Var → ℤ) → AgreeOn (conds_variables cs) f g → some_holds cs (seeing s f) ≡ some_holds cs (seeing s g)
   some_same no_conds s f g h = refl
   some_same (cond_and c cs) s f g h =
-      pair (λ a b. a || b) (cond_same c s f g (front (cond_variables c) (conds_variables cs) f g h)) (some_same cs s f g (behind (cond_variables c) (conds_variables cs) f g h))
+      ap₂ (λ a b. a || b) (cond_same c s f g (front (cond_variables c) (conds_variables cs) f g h)) (some_same cs s f g (behind (cond_variables c) (conds_variables cs) f g h))
 
 mutual
   pub value_same : (a : AssertionTree) (s : State) (f g : Var → ℤ) → AgreeOn (variables a) f g → value a (seeing s f) ≡ value a (seeing s g)
@@ -159,7 +157,7 @@ mutual
   value_same (greatest parts) s f g h = greatest_of_same parts s f g h
   value_same (product parts) s f g h = product_of_same parts s f g h
   value_same (guard c a) s f g h =
-      pair (λ b v. if b then v else infinite) (cond_same c s f g (front (cond_variables c) (variables a) f g h)) (value_same a s f g (behind (cond_variables c) (variables a) f g h))
+      ap₂ (λ b v. if b then v else infinite) (cond_same c s f g (front (cond_variables c) (variables a) f g h)) (value_same a s f g (behind (cond_variables c) (variables a) f g h))
   value_same (choose c a b) s f g h =
       let k = behind (cond_variables c) (variables a ++ variables b) f g h in
       let x = cond_same c s f g (front (cond_variables c) (variables a ++ variables b) f g h) in
@@ -171,32 +169,24 @@ mutual
   sum_of_same : (parts : AssertionTrees) (s : State) (f g : Var → ℤ) → AgreeOn (all_variables parts) f g → sum_of parts (seeing s f) ≡ sum_of parts (seeing s g)
   sum_of_same no_assertions s f g h = refl
   sum_of_same (assertion_and a parts) s f g h =
-      pair plus (value_same a s f g (front (variables a) (all_variables parts) f g h)) (sum_of_same parts s f g (behind (variables a) (all_variables parts) f g h))
+      ap₂ plus (value_same a s f g (front (variables a) (all_variables parts) f g h)) (sum_of_same parts s f g (behind (variables a) (all_variables parts) f g h))
 
   greatest_of_same : (parts : AssertionTrees) (s : State) (f g : Var → ℤ) → AgreeOn (all_variables parts) f g → greatest_of parts (seeing s f) ≡ greatest_of parts (seeing s g)
   greatest_of_same no_assertions s f g h = refl
   greatest_of_same (assertion_and a parts) s f g h =
-      pair greater (value_same a s f g (front (variables a) (all_variables parts) f g h)) (greatest_of_same parts s f g (behind (variables a) (all_variables parts) f g h))
+      ap₂ greater (value_same a s f g (front (variables a) (all_variables parts) f g h)) (greatest_of_same parts s f g (behind (variables a) (all_variables parts) f g h))
 
   product_of_same : (parts : AssertionTrees) (s : State) (f g : Var → ℤ) → AgreeOn (all_variables parts) f g → product_of parts (seeing s f) ≡ product_of parts (seeing s g)
   product_of_same no_assertions s f g h = refl
   product_of_same (assertion_and a parts) s f g h =
-      pair times (value_same a s f g (front (variables a) (all_variables parts) f g h)) (product_of_same parts s f g (behind (variables a) (all_variables parts) f g h))
+      ap₂ times (value_same a s f g (front (variables a) (all_variables parts) f g h)) (product_of_same parts s f g (behind (variables a) (all_variables parts) f g h))
 
 -- ---- variables that are mentioned
-
-or_true : (a b : Bool) → b ≡ true → (a || b) ≡ true
-or_true true b h = refl
-or_true false b h = h
-
-first_or : (a b : Bool) → a ≡ true → (a || b) ≡ true
-first_or true b h = refl
-first_or false b h = cc
 
 pub agree_where_mentioned : (xs : List Var) (f g : Var → ℤ) → ((x : Var) → list_any (λ y. same_variable y x) xs ≡ true → f x ≡ g x) → AgreeOn xs f g
 agree_where_mentioned [] f g h = tt
 agree_where_mentioned (x ∷ xs) f g h =
-    (h x (first_or (same_variable x x) (list_any (λ y. same_variable y x) xs) (variable_self x)), agree_where_mentioned xs f g (λ z k. h z (or_true (same_variable x z) (list_any (λ y. same_variable y z) xs) k)))
+    (h x (or_left (same_variable x x) (list_any (λ y. same_variable y x) xs) (variable_self x)), agree_where_mentioned xs f g (λ z k. h z (or_right (same_variable x z) (list_any (λ y. same_variable y z) xs) k)))
 
 pub of_its_variables : IsOfItsVariables
 of_its_variables a s f g h = value_same a s f g (agree_where_mentioned (variables a) f g h)
@@ -205,15 +195,11 @@ unlike : (b : Bool) (z w : ℤ) → b ≡ false → (if b then z else w) ≡ w
 unlike true z w h = cc
 unlike false z w h = refl
 
-neither : (a b : Bool) → (a || b) ≡ false → (a ≡ false) × (b ≡ false)
-neither true b h = cc
-neither false b h = (refl, h)
-
 -- a variable that isn't mentioned may have any number
 agree_elsewhere : (xs : List Var) (x : Var) (z : ℤ) (s : State) → list_any (λ y. same_variable y x) xs ≡ false → AgreeOn xs (λ y. if same_variable y x then z else s.at y) s.at
 agree_elsewhere [] x z s h = tt
 agree_elsewhere (y ∷ xs) x z s h =
-    let p = neither (same_variable y x) (list_any (λ w. same_variable w x) xs) h in (unlike (same_variable y x) z (s.at y) p.0, agree_elsewhere xs x z s p.1)
+    let p = or_parts (same_variable y x) (list_any (λ w. same_variable w x) xs) h in (unlike (same_variable y x) z (s.at y) p.0, agree_elsewhere xs x z s p.1)
 
 pub not_mentioned : (a : AssertionTree) (x : Var) (b : Bool) → b ≡ mentions a x → b ≡ false → (s : State) (z : ℤ) → value a (with_value x z s) ≡ value a s
 not_mentioned a x b e h s z = value_same a s (λ y. if same_variable y x then z else s.at y) s.at (agree_elsewhere (variables a) x z s (sym e ∙ h))

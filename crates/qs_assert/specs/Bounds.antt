@@ -122,7 +122,14 @@ amount_in a g = if wide a g.state g.wides then Wide else amount_of (value a g.st
 abbrev pub amount_at : AssertionTree → List Define → List ℤ → List ℕ → Amount
 amount_at a defines args costs = amount_in a (with_definitions defines (at_entry args costs))
 
--- the cost of main and the value of its precondition
-abbrev pub bound_at : AssertionTree → List Define → List ℤ → List ℕ → ℕ → Amount
-bound_at pre defines args costs main =
-    amount_at (total (assertion_and (cost main) (assertion_and pre no_assertions))) defines args costs
+-- what a call of a function takes: its cost, and what it needs
+abbrev pub with_cost : AssertionTree → (f : ℕ) → AssertionTree
+with_cost pre f = total (assertion_and (cost f) (assertion_and pre no_assertions))
+
+-- the cost of a function and the value of its precondition
+abbrev pub bound_at : AssertionTree → List Define → List ℤ → List ℕ → (f : ℕ) → Amount
+bound_at pre defines args costs f = amount_at (with_cost pre f) defines args costs
+
+-- the same as a value: a number also where a part of it is wide
+abbrev pub need_at : AssertionTree → List Define → List ℤ → List ℕ → (f : ℕ) → Extended
+need_at pre defines args costs f = value (with_cost pre f) (with_definitions defines (at_entry args costs)).state

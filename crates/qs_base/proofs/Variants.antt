@@ -1,6 +1,5 @@
 -- Enums without fields, and tables of their variants: a test that computes to true on the list of all variants holds of each.
-use Rattle.std.proofs.Common.{◌≡◌, ℕ, ◌+◌, suc, Bool, true, false, ◌&&◌, cond, List, [], ◌∷◌, Option, Some, None, refl, ap, sym, ◌∙◌, inl, inr, ◌==◌, arith, Decides}
-use Rattle.std.proofs.lemmas.Bool.Decides.{nat_tests}
+use Rattle.std.proofs.Common.{◌≡◌, ℕ, ◌+◌, suc, Bool, true, false, ◌&&◌, cond, List, [], ◌∷◌, Option, Some, None, refl, ap, sym, ◌∙◌, inl, inr, ◌==◌, arith, Decides, eqb-true}
 use Rattle.std.specs.Cmp.{first_so, second_so}
 use Rattle.std.specs.List.{find, list_all}
 use denote.Enum.Bare.{Bare, sameb, same_true, tag_one, true_same}
@@ -19,15 +18,12 @@ lists_from D at (Fs ∷ Fss) (x ∷ xs) = tag_of D x == at && lists_from D (suc 
 abbrev pub lists_all : (D : Declared) → List D.D → Bool
 lists_all D xs = lists_from D 0 D.parts xs
 
-same_number : (m n : ℕ) → (m == n) ≡ true → m ≡ n
-same_number m n h = grind (arith, nat_tests)
-
 every_from : (D : Declared) → Bare D.parts → (test : D.D → Bool) (at : ℕ) (Fss : List (List Field)) (xs : List D.D) → lists_from D at Fss xs ≡ true → list_all test xs ≡ true
     → (k : D.D) (s : Sum (rowss Fss)) → tag_of D k ≡ at + tag (rowss Fss) s → test k ≡ true
 every_from D bare test at [] xs f h k s e = absurd s
 every_from D bare test at (Fs ∷ Fss) [] f h k s e = cc
 every_from D bare test at (Fs ∷ Fss) (x ∷ xs) f h k (inl v) e =
-    let n : tag_of D x ≡ at = same_number (tag_of D x) at (first_so (tag_of D x == at) (lists_from D (suc at) Fss xs) f) in
+    let n : tag_of D x ≡ at = eqb-true (tag_of D x) at (first_so (tag_of D x == at) (lists_from D (suc at) Fss xs) f) in
     let m : tag_of D x ≡ tag_of D k = omega arith in
     sym (ap test (tag_one D bare x k m)) ∙ first_so (test x) (list_all test xs) h
 every_from D bare test at (Fs ∷ Fss) (x ∷ xs) f h k (inr s) e =

@@ -1,5 +1,6 @@
 //! What every crate shares: the fault for want of memory, classes of bytes, keywords and names, the
-//! numbers of functions, counts, places of a text, and the operations on words.
+//! numbers of functions, how many parameters they may have, counts, places of a text, and the
+//! operations on words.
 #![tactic(auto)]
 
 mod bytes;
@@ -9,6 +10,7 @@ mod keyword;
 mod memory;
 mod name;
 mod names;
+mod parameters;
 mod places;
 mod words;
 
@@ -19,5 +21,6 @@ pub use keyword::Keyword;
 pub use memory::NoMemory;
 pub use name::Name;
 pub use names::is_name;
+pub use parameters::{MOST_MAIN_PARAMETERS, MOST_PARAMETERS};
 pub use places::{Pos, position};
 pub use words::{add32, divs32, divu32, mul32, rems32, remu32, sll32, sra32, srl32, sub32};

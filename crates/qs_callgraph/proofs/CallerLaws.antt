@@ -4,6 +4,7 @@ use Rattle.std.specs.declared.alloc.Global.{Global}
 use Rattle.std.specs.declared.vec.Vec.{Vec}
 use Rattle.std.proofs.lemmas.Bool.{both_ways, eq-eqb, ne_eqb, cases_eq, cases_lt, lt-ltb, le-ltb}
 use Rattle.std.proofs.lemmas.List.{get_or-set_same, get_or-set_other, length-set, map-set, get_or-map}
+use Rattle.std.proofs.Math.Bool.{or-false, and-false, and-true}
 use Rattle.qs_base.specs.declared.function.FnId.{FnId}
 use Rattle.qs_core.specs.CallGraph.{is_member}
 use Rattle.qs_callgraph.specs.CallLists.{callees_in, numbers_in, number_lists}
@@ -19,18 +20,6 @@ or_and : (a b c d : Bool) → ((a || (b && c)) || (b && d)) ≡ (a || (b && (c |
 or_and true b c d = refl
 or_and false true c d = refl
 or_and false false c d = refl
-
-or-false : (b : Bool) → (b || false) ≡ b
-or-false true = refl
-or-false false = refl
-
-and-false : (b : Bool) → (b && false) ≡ false
-and-false true = refl
-and-false false = refl
-
-and-true : (b : Bool) → (b && true) ≡ b
-and-true true = refl
-and-true false = refl
 
 one_caller :
     (f g : ℕ) (callers : List (List ℕ)) (x y : ℕ) → g < length callers

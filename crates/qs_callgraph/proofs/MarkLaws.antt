@@ -9,6 +9,7 @@ use Rattle.qs_core.specs.Trees.{CoreFunctionTree, CoreUnitTree, CoreStmtTree, br
 use Rattle.qs_callgraph.specs.CallLists.{flag, marked}
 use Rattle.std.specs.declared.alloc.Global.{Global}
 use Rattle.std.specs.declared.boxed.Box.{Box}
+use Rattle.std.proofs.Math.Bool.{or_assoc, or-false, or-true}
 use Rattle.qs_core.specs.TreeOf.{core_expr, core_stmt, stmt_step}
 use Rattle.qs_core.specs.declared.expressions.CoreExpr.{CoreExpr}
 use Rattle.qs_core.specs.declared.statements.CoreStmt.{CoreStmt, CoreStmt-F, fold-roll-CoreStmt}
@@ -21,18 +22,6 @@ marked-append (f ∷ fs) gs marks = marked-append fs gs (set marks f true)
 pub length-marked : (fs : List ℕ) (marks : List Bool) → length (marked fs marks) ≡ length marks
 length-marked [] marks = refl
 length-marked (f ∷ fs) marks = length-marked fs (set marks f true) ∙ length-set marks f true
-
-or_assoc : (a b c : Bool) → ((a || b) || c) ≡ (a || (b || c))
-or_assoc true b c = refl
-or_assoc false b c = refl
-
-or-false : (b : Bool) → (b || false) ≡ b
-or-false true = refl
-or-false false = refl
-
-or-true : (b : Bool) → (b || true) ≡ true
-or-true true = refl
-or-true false = refl
 
 flag-set : (marks : List Bool) (f g : ℕ) → g < length marks → flag (set marks f true) g ≡ (flag marks g || (f == g))
 flag-set marks f g b =

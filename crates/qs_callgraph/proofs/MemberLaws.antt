@@ -7,13 +7,10 @@ use Rattle.std.proofs.lemmas.Map.Views.{any-filter_same}
 use Rattle.std.specs.declared.alloc.Global.{Global}
 use Rattle.std.specs.declared.vec.Vec.{Vec}
 use Rattle.std.proofs.lemmas.List.{take_at}
+use Rattle.std.proofs.Math.Bool.{or-false}
 use Rattle.qs_base.specs.declared.function.FnId.{FnId}
 use Rattle.qs_core.specs.CallGraph.{below, is_member}
 use Rattle.qs_callgraph.specs.CallLists.{numbers}
-
-or-false : (b : Bool) → (b || false) ≡ b
-or-false true = refl
-or-false false = refl
 
 pub member-push : (g f : ℕ) (fs : List ℕ) → is_member g (fs ++ f ∷ []) ≡ (is_member g fs || (f == g))
 member-push g f fs = list_any-append (λ (h : ℕ). h == g) fs (f ∷ []) ∙ ap (λ b. is_member g fs || b) (or-false (f == g))

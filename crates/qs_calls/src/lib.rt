@@ -1,5 +1,6 @@
 //! What a call is, for every language whose runs are over block memory: where its arguments go, the
-//! blocks that it makes and releases, its events, and the two functions that the environment gives.
+//! blocks that it makes and releases, its events, what a run may start from, and the two functions
+//! that the environment gives.
 #![tactic(auto)]
 
 mod callee;

@@ -4,7 +4,8 @@ use Rattle.std.specs.Prelude.{◌≤ℤ◌, ◌-ℤ◌, nat_lt, slice_index_or}
 use Rattle.std.specs.List.{slice_get, list_all}
 use Rattle.std.proofs.lemmas.Int.{ints}
 use Rattle.std.proofs.lemmas.Bool.Decides.{nat_tests}
-use Rattle.std.proofs.lemmas.Option.{slice_get-map}
+use Rattle.std.proofs.lemmas.Option.{slice_get-map, same_Some}
+use Rattle.std.proofs.lemmas.Bool.{and_parts}
 use Rattle.qs_base.specs.Words.{signed, wrap}
 use Rattle.qs_base.proofs.WordLaws.{wrap-below}
 use Rattle.qs_memory.specs.Memory.{Memory}
@@ -13,7 +14,6 @@ use Rattle.qs_memory.specs.Values.{integer}
 use Rattle.qs_memory.specs.Scalars.{is_promoted}
 use Rattle.qs_memory.specs.declared.scalar.Scalar.{Scalar}
 use Rattle.qs_memory.specs.declared.scalar.Scalar.TheVariants as scalars
-use Rattle.qs_memory.proofs.Options.{some_same}
 use Rattle.qs_calls.specs.Starts.{IsOf, AreOf}
 use Rattle.qs_assert.specs.Bounds.{argument}
 use Rattle.qs_assert.specs.Substitution.{same_number_type}
@@ -24,7 +24,6 @@ use Rattle.qs_assert.specs.declared.variable.VarKind.TheVariants as kinds
 use Rattle.qs_core.specs.Fits.{parameter_fits, parameters_fit}
 use Rattle.qs_core.specs.Interfaces.{types_of, parameter_types}
 use Rattle.qs_core.specs.Trees.{CoreParameterTree, CoreVariableTree, CoreFunctionTree}
-use Rattle.qs_core.proofs.FitLaws.{both}
 use Rattle.qs_triples.specs.Mentions.{is_plain_parameter, in_pre}
 use Rattle.qs_triples.specs.Valuations.{number_of, number_type, if_number, own_type, is_number_type, is_own, number_at, at_entry, entered}
 use Rattle.qs_triples.proofs.ArgumentLaws.{entered_at}
@@ -85,12 +84,12 @@ given_at blocks n (p ∷ ps) (x ∷ xs) [] i fit are plain = absurd are
 given_at blocks n (p ∷ ps) (x ∷ xs) (z ∷ zs) zero fit are plain =
     record { scalar = x.scalar; typed = refl; number = z; is = refl; range = are.0 }
 given_at blocks n (p ∷ ps) (x ∷ xs) (z ∷ zs) (suc i) fit are plain =
-    let g = given_at blocks (n + 1) ps xs zs i (both (parameter_fits blocks n p x) (parameters_fit blocks (n + 1) ps xs) fit).1 are.1 plain in
+    let g = given_at blocks (n + 1) ps xs zs i (and_parts (parameter_fits blocks n p x) (parameters_fit blocks (n + 1) ps xs) fit).1 are.1 plain in
     record { scalar = g.scalar; typed = g.typed; number = g.number; is = g.is; range = g.range }
 
 index_is : (zs : List ℤ) (i : ℕ) (z : ℤ) → slice_get zs i ≡ Some z → slice_index_or zs i (pos 0) ≡ z
 index_is [] i z h = cc
-index_is (y ∷ zs) zero z h = some_same y z h
+index_is (y ∷ zs) zero z h = same_Some y z h
 index_is (y ∷ zs) (suc i) z h = index_is zs i z h
 
 types_same : (n m : NumberType) → same_number_type n m ≡ true → n ≡ m
@@ -139,5 +138,5 @@ values_are m [] [] promoted are = tt
 values_are m [] (z ∷ zs) promoted are = are
 values_are m (s ∷ types) [] promoted are = are
 values_are m (s ∷ types) (z ∷ zs) promoted are =
-    let p = both (is_promoted s) (list_all is_promoted types) promoted in
+    let p = and_parts (is_promoted s) (list_all is_promoted types) promoted in
     (value_is m s z p.0, values_are m types zs p.1 are.1)

@@ -2,7 +2,7 @@
 use Rattle.std.proofs.Common.{◌≡◌, ℕ, suc, ◌+◌, ◌*◌, ◌<◌, ◌≤◌, ◌^◌, ◌==◌, ◌||◌, ◌&&◌, max, Bool, true, false, if◌then◌else◌, ℤ, List, [], ◌∷◌, map, length, Option, Some, None, ⊎_elim, refl, sym, ap, ◌∙◌, subst, arith}
 use Rattle.std.specs.Prelude.{All}
 use Rattle.std.specs.List.{list_any, AllByRecursion, IsDistinct}
-use Rattle.std.proofs.lemmas.Bool.{both_ways, false_from_ne_true, or_right, or_left, lt-leb, eqb-true, eq-eqb, cases_eq, cases_lt}
+use Rattle.std.proofs.lemmas.Bool.{both_ways, false_from_ne_true, or_right, or_left, lt-leb, eqb-true, eq-eqb, cases_eq, cases_lt, or_from}
 use Rattle.std.proofs.lemmas.List.{append-nil, get_or_past}
 use Rattle.std.proofs.lemmas.List.Elements.{All-get_or}
 use Rattle.std.proofs.lemmas.Map.Steps.{length-le_from_distinct_below}
@@ -82,9 +82,6 @@ most = 2 ^ 32
 narrow : (n : ℕ) → n < 2 ^ 127 → is_wide_value (finite n) ≡ false
 narrow n h = lt-leb (2 ^ 127) n h
 
-none_of : (a b : Bool) → a ≡ false → b ≡ false → (a || b) ≡ false
-none_of a b h k = λ i. h i || k i
-
 module _ (u : CoreUnitTree) (fits : unit_fits u ≡ true) (limit : ℕ) (few : limit < 2 ^ 63) where
   -- a name with so great a value
   record HasAmount (s : State) (f k : ℕ) : Type 0 where
@@ -118,8 +115,8 @@ module _ (u : CoreUnitTree) (fits : unit_fits u ≡ true) (limit : ℕ) (few : l
         amount = s.costs h + a.amount;
         is = is;
         small = top;
-        plain = none_of (is_wide_value (finite (s.costs h)) || (g.wides (function_name u h) || false)) (is_wide_value (value (for_call (by_name u) h) s))
-            (none_of (is_wide_value (finite (s.costs h))) (g.wides (function_name u h) || false) (narrow (s.costs h) (omega (arith, cheap))) (none_of (g.wides (function_name u h)) false plain refl))
+        plain = or_from (is_wide_value (finite (s.costs h)) || (g.wides (function_name u h) || false)) (is_wide_value (value (for_call (by_name u) h) s))
+            (or_from (is_wide_value (finite (s.costs h))) (g.wides (function_name u h) || false) (narrow (s.costs h) (omega (arith, cheap))) (or_from (g.wides (function_name u h)) false plain refl))
             (ap is_wide_value is ∙ narrow (s.costs h + a.amount) (omega (arith, top, below, few)));
       }
 
@@ -136,7 +133,7 @@ module _ (u : CoreUnitTree) (fits : unit_fits u ≡ true) (limit : ℕ) (few : l
         amount = max one.amount rest.amount;
         is = (λ i. greater (one.is i) (rest.is i));
         small = omega (arith, small, others);
-        plain = none_of (wide (for_call (by_name u) h) g.state g.wides) (some_wide (assertions_of (map (for_call (by_name u)) hs)) g.state g.wides) one.plain rest.plain;
+        plain = or_from (wide (for_call (by_name u) h) g.state g.wides) (some_wide (assertions_of (map (for_call (by_name u)) hs)) g.state g.wides) one.plain rest.plain;
       }
 
   -- what a function needs whose callees these are
@@ -153,7 +150,7 @@ module _ (u : CoreUnitTree) (fits : unit_fits u ≡ true) (limit : ℕ) (few : l
         amount = all.amount;
         is = is;
         small = all.small;
-        plain = none_of _ _ all.plain (ap is_wide_value is ∙ narrow all.amount (omega (arith, small, below, few)));
+        plain = or_from _ _ all.plain (ap is_wide_value is ∙ narrow all.amount (omega (arith, small, below, few)));
       }
 
   -- ---- a definition more

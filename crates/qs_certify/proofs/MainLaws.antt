@@ -3,12 +3,13 @@ use Rattle.std.proofs.Common.{◌≡◌, ⊎_elim, ℕ, ◌<◌, Bool, true, fal
 use Rattle.std.specs.Prelude.{◌&&◌, bytes_eq, filter, not, All}
 use Rattle.std.specs.List.{slice_get, find, list_any, list_all}
 use Rattle.std.proofs.lemmas.Option.{slice_get-map, slice_get_within}
+use Rattle.std.proofs.lemmas.Bool.{and_parts, not-false}
 use Rattle.qs_memory.specs.Scalars.{is_type, is_promoted}
 use Rattle.qs_memory.specs.declared.scalar.Scalar.TheVariants as scalars
 use Rattle.qs_events.specs.Weights.{Costs, run_weight}
 use Rattle.qs_calls.specs.World.{World}
 use Rattle.qs_calls.specs.Starts.{Signature, Takes, MayStart}
-use Rattle.qs_assert.specs.Bounds.{argument, amount_of, at_entry as setting_at, with_definitions}
+use Rattle.qs_assert.specs.Bounds.{argument, amount_of, at_entry as setting_at, with_cost, wide, with_definitions}
 use Rattle.qs_assert.specs.declared.define.Amount.TheVariants.{Finite, Wide}
 use Rattle.qs_assert.specs.declared.variable.Var.{Var}
 use Rattle.qs_assert.specs.Substitution.{same_variable}
@@ -21,19 +22,19 @@ use Rattle.qs_core.specs.Fits.{main_name, is_main, unit_fits}
 use Rattle.qs_core.specs.Interfaces.{signature, interface_of, parameter_types, types_of_main}
 use Rattle.qs_core.specs.Trees.{CoreFunctionTree, CoreUnitTree}
 use Rattle.qs_core.specs.Units.{initial_memory, main_run}
-use Rattle.qs_core.proofs.FitLaws.{both, unit_parts, function_at_fits}
+use Rattle.qs_core.proofs.FitLaws.{unit_parts, function_at_fits}
 use Rattle.qs_core.proofs.InitialLaws.{initial_memory_is_ready}
 use Rattle.qs_triples.specs.Derivations.{EntryTree, ProofsTree, is_entry_of, entry_of}
 use Rattle.qs_triples.specs.Entries.{IsDerived, IsPathEntry, IsValid, Covers}
 use Rattle.qs_triples.specs.Filled.{pre_in, pre_of}
 use Rattle.qs_triples.specs.Mentions.{may_mention, in_pre}
 use Rattle.qs_triples.specs.Valuations.{is_own, number_at, at_entry, value_at_entry}
-use Rattle.qs_triples.proofs.Answers.{none_found, not_false}
+use Rattle.qs_triples.proofs.Answers.{none_found}
 use Rattle.qs_triples.proofs.BoundLaws.{derivations_bound_runs}
 use Rattle.qs_triples.proofs.FunctionLaws.{entry_is_of, derived_parts}
 use Rattle.qs_triples.proofs.Names.{seen, state_is}
-use Rattle.qs_certify.specs.Bound.{main_bound, costs_of, values_of, AreNumbersOf, AreArguments}
-use Rattle.qs_certify.specs.Laws.{MainBoundsRuns}
+use Rattle.qs_certify.specs.Bound.{main_need, costs_of, values_of, AreNumbersOf, AreArguments}
+use Rattle.qs_certify.specs.Laws.{BoundsAreNeeds, MainBoundsRuns}
 use Rattle.qs_certify.proofs.ArgumentLaws.{argument_number, values_are}
 
 -- ---- amounts
@@ -42,6 +43,12 @@ finite_value : (wide : Bool) (v : Extended) (n : ℕ) → (if wide then Wide els
 finite_value true v n h = cc
 finite_value false (finite m) n h = let same : m ≡ n = cc in ap finite same
 finite_value false infinite n h = cc
+
+pub bounds_are_needs : BoundsAreNeeds
+bounds_are_needs f proofs costs zs bound is =
+    let setting = with_definitions proofs.defines (setting_at zs costs) in
+    let called = with_cost (pre_of proofs f) f in
+    finite_value (wide called setting.state setting.wides) (value called setting.state) bound is
 
 plus_zero : (v : Extended) → plus v (finite 0) ≡ v
 plus_zero (finite n) = ap finite (add-zero n)
@@ -68,7 +75,7 @@ mentions_parameters :
 mentions_parameters u proofs f e is valid x mention =
     ⊎_elim
     (λ (d : IsDerived u proofs e).
-    not_false (may_mention f (in_pre f) x)
+    not-false (may_mention f (in_pre f) x)
     (none_found (λ x. not (may_mention f (in_pre f) x)) (variables e.spec.pre) x (derived_parts u proofs f e is d).pre_mentions mention))
     (λ (p : IsPathEntry u proofs e).
     absurd (let none = ap (λ (xs : List Var). list_any (λ y. same_variable y x) xs) p.closed in let never : ⊥ = cc in never))
@@ -87,7 +94,7 @@ main_there u fits = by (slice_get u.functions u.main) refl (unit_parts u fits).m
     by : (o : Option CoreFunctionTree) → slice_get u.functions u.main ≡ o → is_main o ≡ true → Main u
     by None is main = cc
     by (Some f) is main =
-        record { function = f; is = is; promoted = (both (bytes_eq f.name main_name && is_type f.result_type scalars.Int) (list_all is_promoted (parameter_types f)) main).1 }
+        record { function = f; is = is; promoted = (and_parts (bytes_eq f.name main_name && is_type f.result_type scalars.Int) (list_all is_promoted (parameter_types f)) main).1 }
 
 module _ (u : CoreUnitTree) (fits : unit_fits u ≡ true) (given proofs : ProofsTree) (covers : Covers u given proofs) (costs : List ℕ) (zs : List ℤ) (are : AreArguments u zs) where
   abbrev main : Main u
@@ -120,7 +127,7 @@ module _ (u : CoreUnitTree) (fits : unit_fits u ≡ true) (given proofs : Proofs
   -- the number of a parameter is the same before the run as at its entry
   same_number : (x : Var) → mentions e.spec.pre x ≡ true → argument zs x.kind ≡ number_at f (at_entry f (values_of zs)) x
   same_number x mention =
-      let may = both (in_pre f x.kind) (is_own f x) (mentions_parameters u proofs f e here valid x mention) in
+      let may = and_parts (in_pre f x.kind) (is_own f x) (mentions_parameters u proofs f e here valid x mention) in
       argument_number f zs (function_at_fits u fits u.main f main.is).parameters numbers_are x.kind x.number may.0 may.1
 
   -- before the run, where definitions have their values
@@ -140,13 +147,12 @@ module _ (u : CoreUnitTree) (fits : unit_fits u ≡ true) (given proofs : Proofs
   whole s = plus (finite (s.costs u.main)) (plus (value (pre_of proofs u.main) s) (finite 0))
 
   bound_is :
-      (bound : ℕ) → main_bound u proofs costs zs ≡ Finite bound
+      (bound : ℕ) → main_need u proofs costs zs ≡ finite bound
       → plus (finite (costs_of costs u.main)) (value_at_entry (costs_of costs) proofs.defines f (values_of zs) e.spec.pre) ≡ finite bound
   bound_is bound is =
       let pre : pre_of proofs u.main ≡ e.spec.pre = ap pre_in has in
-      let total : whole (with_definitions proofs.defines (setting_at zs costs)).state ≡ finite bound = finite_value _ (whole (with_definitions proofs.defines (setting_at zs costs)).state) bound is in
       ap (plus (finite (costs_of costs u.main))) (sym same_value ∙ ap (λ (a : AssertionTree). value a before) (sym pre) ∙ sym (plus_zero (value (pre_of proofs u.main) before)))
-      ∙ sym (ap whole state_before) ∙ total
+      ∙ sym (ap whole state_before) ∙ is
 
   may : (input : List ℕ) → All (λ byte. byte < 256) input → MayStart (interface_of u) u.main (values_of zs) (record { memory = initial_memory u; input = input })
   may input bytes =

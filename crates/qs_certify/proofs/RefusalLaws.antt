@@ -2,6 +2,7 @@
 use Rattle.std.proofs.Common.{◌≡◌, ℕ, ◌==◌, ◌||◌, Bool, true, false, inl, inr, List, [], ◌∷◌, Option, Some, None, refl, sym, ap, ◌∙◌, subst}
 use Rattle.std.specs.Prelude.{◌⊎◌}
 use Rattle.std.proofs.lemmas.Bool.{both_ways}
+use Rattle.std.proofs.lemmas.Option.{same_Some}
 use Rattle.qs_assert.specs.Order.{order_fault, IsInOrder}
 use Rattle.qs_assert.specs.declared.define.Define.{Define}
 use Rattle.qs_core.specs.CallGraph.{IsCycle, IsWithoutRecursion, is_member}
@@ -29,9 +30,6 @@ use Rattle.qs_certify.proofs.MetLaws.{some_entry}
 
 -- ---- one file gives one list of proofs
 
-same_text : (xs ys : List ℕ) → Some xs ≡ Some ys → xs ≡ ys
-same_text xs ys h = cc
-
 pub same_given : (u : CoreUnitTree) (file : Option (List ℕ)) (given other : ProofsTree) → GivenIs u file given → GivenIs u file other → given ≡ other
 same_given u None given other g h = g ∙ sym h
 same_given u (Some text) given other g h = meanings.one_proofs u text given other g h
@@ -45,7 +43,7 @@ module _ (u : CoreUnitTree) (text : List ℕ) (fault : TextFault) (first : Fault
   only_text : (told : CertifyFault) → CannotCertify u (Some text) told → (told ≡ NoMemory) ⊎ (told ≡ Text fault)
   only_text NoMemory h = inl refl
   only_text (Text other) h =
-      inr (ap Text (meanings.one_fault u text other fault (subst (λ (t : List ℕ). Fault u t other) (sym (same_text text h.text h.is)) h.first) first))
+      inr (ap Text (meanings.one_fault u text other fault (subst (λ (t : List ℕ). Fault u t other) (sym (same_Some text h.text h.is)) h.first) first))
   only_text (Cycle fs) h = absurd (never_given h.given h.given_is)
   only_text (Order name) h = absurd (never_given h.given h.given_is)
   only_text (Entry f other) h = absurd (never_given h.given h.given_is)
@@ -58,7 +56,7 @@ text_faults_are_told u text fault first =
 
 pub no_text_fault : (u : CoreUnitTree) (file : Option (List ℕ)) (given : ProofsTree) (text : List ℕ) (fault : TextFault) → GivenIs u file given → file ≡ Some text → Fault u text fault → ⊥
 no_text_fault u None given text fault g is first = cc
-no_text_fault u (Some other) given text fault g is first = meanings.not_both u other given fault g (subst (λ (t : List ℕ). Fault u t fault) (sym (same_text other text is)) first)
+no_text_fault u (Some other) given text fault g is first = meanings.not_both u other given fault g (subst (λ (t : List ℕ). Fault u t fault) (sym (same_Some other text is)) first)
 
 module _ (u : CoreUnitTree) (file : Option (List ℕ)) (given : ProofsTree) (fs : List ℕ) (is : GivenIs u file given) (cycle : IsCycle u (has_entry given) fs) where
   never_without : (other : ProofsTree) → GivenIs u file other → HasNoCycle u other → ⊥

@@ -1,10 +1,12 @@
--- The bound of main, and main's arguments.
+-- The bound of a function, of main above all, and main's arguments.
 use Rattle.std.specs.Prelude.{ℕ, ◌≤ℤ◌, ℤ, List, [], ◌∷◌, map, slice_index_or}
 use Rattle.qs_base.specs.Words.{wrap}
+use Rattle.qs_base.specs.declared.function.FnId.{FnId}
 use Rattle.qs_memory.specs.Values.{Value, integer}
 use Rattle.qs_memory.specs.declared.scalar.Scalar.{Scalar}
 use Rattle.qs_events.specs.Weights.{Costs}
-use Rattle.qs_assert.specs.Bounds.{bound_at}
+use Rattle.qs_assert.specs.Bounds.{bound_at, need_at}
+use Rattle.qs_assert.specs.Values.{Extended}
 use Rattle.qs_assert.specs.declared.define.Amount.{Amount}
 use Rattle.qs_entail.specs.Facts.{least, greatest_of_type}
 use Rattle.qs_core.specs.Interfaces.{main_types}
@@ -17,11 +19,25 @@ use Rattle.qs_triples.specs.TreeOf.{proofs_tree}
 use Rattle.qs_triples.specs.Valuations.{number_type}
 use Rattle.qs_triples.specs.declared.derivation.Proofs.{Proofs}
 
--- what main costs, and the value of its precondition at these arguments
-abbrev pub main_bound : CoreUnitTree → ProofsTree → (costs : List ℕ) → (arguments : List ℤ) → Amount
-main_bound u proofs costs arguments = bound_at (pre_of proofs u.main) proofs.defines arguments costs u.main
+-- what a function costs, and the value of its precondition at these arguments
+abbrev pub function_bound : (f : ℕ) → ProofsTree → (costs : List ℕ) → (arguments : List ℤ) → Amount
+function_bound f proofs costs arguments = bound_at (pre_of proofs f) proofs.defines arguments costs f
 
--- the same of the code's values
+-- the same as a value: a number also where a part of it is too wide to be computed
+abbrev pub function_need : (f : ℕ) → ProofsTree → (costs : List ℕ) → (arguments : List ℤ) → Extended
+function_need f proofs costs arguments = need_at (pre_of proofs f) proofs.defines arguments costs f
+
+-- those of main
+abbrev pub main_bound : CoreUnitTree → ProofsTree → (costs : List ℕ) → (arguments : List ℤ) → Amount
+main_bound u proofs costs arguments = function_bound u.main proofs costs arguments
+
+abbrev pub main_need : CoreUnitTree → ProofsTree → (costs : List ℕ) → (arguments : List ℤ) → Extended
+main_need u proofs costs arguments = function_need u.main proofs costs arguments
+
+-- the bounds of the code's values
+abbrev pub function_bound_in : FnId → Proofs → (costs : List ℕ) → (arguments : List ℤ) → Amount
+function_bound_in f proofs costs arguments = function_bound f.0 (proofs_tree proofs) costs arguments
+
 abbrev pub bound_in : CoreUnit → Proofs → (costs : List ℕ) → (arguments : List ℤ) → Amount
 bound_in unit proofs costs arguments = main_bound (unit_tree unit) (proofs_tree proofs) costs arguments
 

@@ -2,6 +2,7 @@
 use Rattle.std.specs.Prelude.{◌≡◌, ◌≢◌, ◌⊎◌, ℕ, ◌-◌, ◌^◌, ◌<◌, ◌≤◌, true, ℤ, List, length, All, Option, Some, None}
 use Rattle.qs_events.specs.Weights.{Costs, run_weight}
 use Rattle.qs_assert.specs.Order.{IsInOrder}
+use Rattle.qs_assert.specs.Values.{finite}
 use Rattle.qs_assert.specs.declared.define.Amount.TheVariants.{Finite}
 use Rattle.qs_core.specs.CallGraph.{IsCycle, IsWithoutRecursion}
 use Rattle.qs_core.specs.Fits.{unit_fits}
@@ -19,7 +20,7 @@ use Rattle.qs_triples.specs.declared.fault.DerivFault.{DerivFault}
 use Rattle.qs_analyse.specs.Fillable.{entry_functions}
 use Rattle.qs_analyse.specs.Laws.{GivenAreDerived, HasNoCycle}
 use Rattle.qs_analyse.specs.Paths.{IsLongestPath}
-use Rattle.qs_certify.specs.Bound.{main_bound, costs_of, values_of, AreArguments}
+use Rattle.qs_certify.specs.Bound.{function_bound, function_need, main_bound, main_need, costs_of, values_of, AreArguments}
 use Rattle.qs_certify.specs.Entries.{first_fault, IsEntryFault}
 use Rattle.qs_certify.specs.Given.{GivenIs}
 use Rattle.qs_certify.specs.Certification.{AreAll, IsCertified, HasNoOrder, IsNotDerived, CannotCertify, ToldOfFunctions, IsCycleFault}
@@ -34,13 +35,19 @@ MainWeighsAtMost u costs arguments bound =
     (input : List ℕ) (n : ℕ) → All (λ byte. byte < 256) input
     → run_weight costs (main_run u (values_of arguments) input n) ≤ bound
 
--- Where the proofs cover the unit, main's bound bounds its runs, if it is finite.
+-- Where the proofs cover the unit, what main needs bounds its runs, if it is a number.
 abbrev pub MainBoundsRuns : Type 0
 MainBoundsRuns =
     (u : CoreUnitTree) (given proofs : ProofsTree) (costs : List ℕ) (arguments : List ℤ) (bound : ℕ)
     → unit_fits u ≡ true → Covers u given proofs → AreArguments u arguments
-    → main_bound u proofs costs arguments ≡ Finite bound
+    → main_need u proofs costs arguments ≡ finite bound
     → MainWeighsAtMost u (costs_of costs) arguments bound
+
+-- A bound that is a number is what the function needs.
+abbrev pub BoundsAreNeeds : Type 0
+BoundsAreNeeds =
+    (f : ℕ) (proofs : ProofsTree) (costs : List ℕ) (arguments : List ℤ) (bound : ℕ)
+    → function_bound f proofs costs arguments ≡ Finite bound → function_need f proofs costs arguments ≡ finite bound
 
 -- main's bound at these arguments is a number, the longest path of calls from main
 pub record HasLongestBound (u : CoreUnitTree) (proofs : ProofsTree) (costs : List ℕ) (arguments : List ℤ) : Type 0 where

@@ -1,15 +1,22 @@
 // Laws of what is certified: functions that do nothing, for what their clauses say.
 ghost use Rattle.qs_certify.specs.Laws.{AddedIsRight, AddedIsWritable, AllAreDerived};
-ghost use Rattle.qs_certify.specs.Laws.{BoundsAreLongestPaths, CertifiedIsRight, CyclesAreTold};
+ghost use Rattle.qs_certify.specs.Laws.{BoundsAreLongestPaths, BoundsAreNeeds, CertifiedIsRight};
+ghost use Rattle.qs_certify.specs.Laws.{CyclesAreTold};
 ghost use Rattle.qs_certify.specs.Laws.{EntriesAreTold, EntryFaultsAreTold, FaultsAreOfFunctions};
 ghost use Rattle.qs_certify.specs.Laws.{MainBoundsRuns, OneCertified, OneFillingIsEnough};
 ghost use Rattle.qs_certify.specs.Laws.{OrderIsTold, RightProofsAreCertified, TextFaultsAreTold};
 ghost use Rattle.qs_certify.specs.Laws.{UnitsWithoutRecursionAreCertified};
 
-/// Where the proofs cover the unit, main's bound bounds its runs: on each input, the weight of each
-/// run with these arguments is at most the bound, if that is finite.
+/// Where the proofs cover the unit, what main needs bounds its runs: on each input, the weight of
+/// each run with these arguments is at most its cost and the value of its precondition, if that is
+/// a number.
 pub fn main_bounds_runs()
     ensures { MainBoundsRuns }
+{}
+
+/// A bound that is a number is what the function needs: its cost and the value of its precondition.
+pub fn bounds_are_needs()
+    ensures { BoundsAreNeeds }
 {}
 
 /// Without a file main's bound is the longest path of calls from main, for all costs of 32 bits: a

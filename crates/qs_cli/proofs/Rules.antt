@@ -1,5 +1,5 @@
 -- The rules of the built command, and the rows of its matches.
-use Rattle.std.proofs.Common.{◌≡◌, ◌∙◌, ℕ, Bool, true, false, ◌||◌, refl, sym, ap, List, [], ◌∷◌, ◌++◌, map, Option, Some, None, true≢false}
+use Rattle.std.proofs.Common.{◌≡◌, ◌∙◌, ℕ, Bool, true, false, ◌||◌, refl, sym, ap, List, [], ◌∷◌, ◌++◌, map, Option, Some, None, true≢false, append-nil}
 use Rattle.std.specs.Prelude.{bytes_eq}
 use Rattle.std.proofs.lemmas.Slice.Eq.{bytes_eq-Decides}
 use Rattle.qs_cli.specs.Words.{Text, Item, operand, key, value_in, among, stands, Options, names_of}
@@ -100,14 +100,10 @@ map-row-append : (is : List Item) (i : Item) → map row is ++ row i ∷ [] ≡ 
 map-row-append [] i = refl
 map-row-append (j ∷ is) i = ap (λ x. row j ∷ x) (map-row-append is i)
 
-append-none : (rs : List Row) → rs ++ [] ≡ rs
-append-none [] = refl
-append-none (r ∷ rs) = ap (λ x. r ∷ x) (append-none rs)
-
 -- a use of an argument that has not been used
 pub used_fresh : (i : Item) (long : Option Text) (index : Option ℕ) (r : Bool) (is : List Item) → stands (key i) is ≡ false
     → used (base (key i) long index r) (value_in i ∷ []) (map row is) ≡ map row (is ++ i ∷ [])
 used_fresh i long index r is e =
     let none = has_row-map (key i) is ∙ e in
-    let kept = at_row-missing (key i) (λ _. []) [] (map row is) none ∙ append-none (map row is) in
+    let kept = at_row-missing (key i) (λ _. []) [] (map row is) none ∙ append-nil (map row is) in
     rw kept (at_row-missing (key i) (more_values CommandLine (value_in i ∷ [])) (row i ∷ []) (map row is) none ∙ map-row-append is i)

@@ -4,6 +4,7 @@ use Rattle.std.specs.List.{list_all, slice_split}
 use Rattle.std.specs.Str.Parse.{digits_value}
 use Rattle.qs_base.specs.Bytes.{is_digit}
 use Rattle.qs_base.specs.Characters.{comma, hyphen}
+use Rattle.qs_base.specs.Parameters.{most_main_parameters}
 use Rattle.qs_cli.specs.Words.{Text}
 
 -- 1 to `most` decimal digits
@@ -50,7 +51,7 @@ all_signed_of (part ∷ parts) = onto (signed_of part) (all_signed_of parts)
 
 -- the most arguments of `main` that the words can name
 abbrev pub most_arguments : ℕ
-most_arguments = 8
+most_arguments = most_main_parameters
 
 -- 1 to so many such numbers with commas between; none where nothing is given
 abbrev pub arguments_of : Option Text → Option (List ℤ)

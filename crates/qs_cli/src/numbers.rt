@@ -8,7 +8,7 @@ ghost use Rattle.qs_cli.specs.Numbers.{arguments_of};
 ghost use Rattle.qs_cli.specs.Reading.{lent_text, lent_texts, IsUsage};
 
 use crate::commands::CliFault;
-use qs_base::is_digit;
+use qs_base::{MOST_MAIN_PARAMETERS, is_digit};
 use std::alloc::{AllocError, Global};
 
 /// The most functions of a sample beside `main`.
@@ -21,7 +21,7 @@ pub const DEFAULT_STEPS: u64 = 100_000_000;
 pub const MOST_STEPS: u64 = 1_000_000_000;
 
 /// The most arguments of `main` that the words can name.
-pub const MOST_ARGUMENTS: usize = 8;
+pub const MOST_ARGUMENTS: usize = MOST_MAIN_PARAMETERS as usize;
 
 fn are_digits(text: &str) -> bool
     ensures { result ≡ list_all is_digit text.now }

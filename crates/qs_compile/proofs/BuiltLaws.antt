@@ -25,6 +25,7 @@ use Rattle.qs_emit_selection.specs.Units.{selected}
 use Rattle.qs_emit.specs.Relation.{data_end, function_at}
 use Rattle.qs_emit.specs.Images.{IsWithinLimits}
 use Rattle.qs_emit.proofs.DataBytes.{data_length}
+use Rattle.qs_emit.proofs.EmissionLaws.{data_fits, data_few}
 use Rattle.qs_compile.specs.Units.{linear, own_slots, set_of, IsWithinSizes, MainReturns}
 use Rattle.qs_compile.specs.Built.{IsBuiltFrom}
 use Rattle.qs_compile.specs.AgreesWithCore.{DoesAsCore}
@@ -35,7 +36,7 @@ use Rattle.qs_compile.specs.declared.fault.BuildFault.{BuildFault}
 use Rattle.qs_compile.specs.declared.fault.BuildFault.TheVariants.{NoMemory, TooManyFunctions, NamesTooLong, TooManyParameters, FrameTooLarge, DataTooLarge, CodeTooLong}
 use Rattle.qs_compile.proofs.UnsignedLaws.{set_holds, set_small}
 use Rattle.qs_compile.proofs.FitLaws.{IsMain, is_main, function_found, first_memory, emittable}
-use Rattle.qs_compile.proofs.SizeLaws.{data_fits, data_few, function_count, within_sizes}
+use Rattle.qs_compile.proofs.SizeLaws.{function_count, within_sizes}
 use Rattle.qs_compile.proofs.WellFormed.{well_formed}
 use Rattle.qs_compile.proofs.DoesAsCore.{images_do_as_core}
 

@@ -27,25 +27,24 @@ use Rattle.qs_elaborate_limits.specs.Measures.{bytes_in_words}
 use Rattle.qs_elaborate_limits.proofs.FrameCaps.{caps_are_kept}
 use Rattle.qs_elaborate_limits.proofs.MainReturns.{main_returns}
 use Rattle.qs_tac.specs.Trees.{TacFunctionTree, TacUnitTree}
-use Rattle.qs_tac.specs.Places.{PlacesTree, Accepted, all_slots, no_places}
+use Rattle.qs_tac.specs.Places.{all_slots}
 use Rattle.qs_lower.specs.WordLaws.{lowered_function}
 use Rattle.qs_lower.proofs.UnitWords.{lowered_sizes_are_kept}
+use Rattle.qs_alloc.proofs.Slots.{slots_are_accepted}
 use Rattle.qs_frames.specs.Layout.{total, kept, frame_cost, layout}
 use Rattle.qs_frames.proofs.FrameLaws.{no_more_is_kept}
 use Rattle.qs_image.specs.Image.{Image, FunctionRecord}
 use Rattle.qs_machine.specs.Arguments.{words_of}
 use Rattle.qs_machine.specs.Run.{machine, least_stack_pointer}
 use Rattle.qs_emit.specs.Agree.{Agree, Accounts}
-use Rattle.qs_emit.specs.Relation.{cost_at}
 use Rattle.std.proofs.lemmas.List.{length-map}
 use Rattle.qs_typing_findings.specs.TypedOf.{typed_tree}
 use Rattle.qs_typing_findings.specs.declared.typed_unit.TypedUnit.{TypedUnit}
 use Rattle.qs_typing_findings.proofs.TypedLaws.{is_read}
-use Rattle.qs_compile.proofs.FitLaws.{function_found}
-use Rattle.qs_compile.proofs.SmallUnits.{slots_at}
+use Rattle.qs_compile.proofs.SmallUnits.{stands, cost_is}
 use Rattle.qs_compile.specs.AgreesWithCore.{values_of, HasStack, DoesAsCore}
 use Rattle.qs_compile.specs.Built.{IsBuiltFrom}
-use Rattle.qs_compile.specs.Units.{linear, own_slots, MainReturns}
+use Rattle.qs_compile.specs.Units.{linear, MainReturns}
 use Rattle.qs_compile.specs.Compiled.{SourceHasStack, DoesAsSource, IsCompiled, IsImageOfSource, BuiltImagesAreCompiled, UnitsPassNoSize}
 use Rattle.qs_compile.proofs.UnitSizes.{words_total, passes_none}
 
@@ -115,23 +114,10 @@ needed_in [] i f is = absurd (cc)
 needed_in (g ∷ fs) zero f is = ap needed (some_same g f is)
 needed_in (g ∷ fs) (suc i) f is = needed_in fs i f is
 
--- a function with this number
-record Stands (fs : List CoreFunctionTree) (i : ℕ) : Type 0 where
-  function : CoreFunctionTree
-  is : slice_get fs i ≡ Some function
-
-stands : (fs : List CoreFunctionTree) (i : ℕ) → i < length fs → Stands fs i
-stands [] i h = absurd (omega (arith, h))
-stands (f ∷ fs) zero h = record { function = f; is = refl }
-stands (f ∷ fs) (suc i) h = let s = stands fs i (omega (arith, h)) in record { function = s.function; is = s.is }
-
 frame_below : (g : TacFunctionTree) (bytes values : ℕ) → total g.blocks ≡ bytes → kept (all_slots g) ≤ values
     → (layout g (all_slots g)).cost ≤ frame_size bytes values
 unfolding frame_cost
 frame_below g bytes values e le = omega (arith, e, le)
-
-own_slots_accepted : (g : TacFunctionTree) → Accepted g (all_slots g)
-own_slots_accepted g = record { own_slots = refl }
 
 module _ (unit : UnitTree) (u : CoreUnitTree) (image : Image) (read : IsRead unit) (well : WellTyped unit) (limits : IsWithinLimits unit) (is : core_of unit ≡ Some u) (built : IsBuiltFrom u image) where
   abbrev t : TacUnitTree
@@ -144,17 +130,9 @@ module _ (unit : UnitTree) (u : CoreUnitTree) (image : Image) (read : IsRead uni
   frame_needed i f there =
       let sizes = (lowered_sizes_are_kept u fits).function i f there in
       let blocks : total (lowered_function f).blocks ≡ bytes_in_words f.blocks = ap total sizes.blocks ∙ sym (words_total f.blocks) in
-      let few = no_more_is_kept (lowered_function f) (all_slots (lowered_function f)) (own_slots_accepted (lowered_function f)) in
+      let few = no_more_is_kept (lowered_function f) (all_slots (lowered_function f)) (slots_are_accepted (lowered_function f) (all_slots (lowered_function f)) refl) in
       let less = sizes.values in
       frame_below (lowered_function f) (bytes_in_words f.blocks) (values f) blocks (omega (arith, few, less))
-
-  cost_is : (i : ℕ) (f : CoreFunctionTree) → slice_get u.functions i ≡ Some f → cost_at t (own_slots t) i ≡ (layout (lowered_function f) (all_slots (lowered_function f))).cost
-  cost_is i f there =
-      let here = (lowered_sizes_are_kept u fits).there i f there in
-      let function = function_found t.functions i (lowered_function f) here in
-      let places = slots_at t.functions i (lowered_function f) here in
-      ap (λ (g : TacFunctionTree). (layout g (slice_index_or (own_slots t) i no_places)).cost) function
-      ∙ ap (λ (p : PlacesTree). (layout (lowered_function f) p).cost) places
 
   as_many : length (map (λ (r : FunctionRecord). r.cost) image.functions) ≡ length (map needed u.functions)
   as_many =
@@ -175,7 +153,7 @@ module _ (unit : UnitTree) (u : CoreUnitTree) (image : Image) (read : IsRead uni
       let in_image : i < length image.functions = omega (arith, less, records) in
       let cost = cost_in image.functions (record { name = []; address = 0; cost = 0 }) i in_image in
       let at = built.code.costs i (omega (arith, in_image, linear_many)) in
-      let frame = cost_is i s.function s.is in
+      let frame = cost_is u fits i s.function s.is in
       let below = frame_needed i s.function s.is in
       let need = needed_in u.functions i s.function s.is in
       omega (arith, cost, at, frame, below, need)

@@ -30,8 +30,8 @@ use Rattle.qs_core.proofs.InitialLaws.{initial_memory_is_ready}
 use Rattle.qs_core.proofs.RangeLaws.{runs_leave_sound}
 use Rattle.qs_tac.specs.Trees.{InstructionTree, call, TacFunctionTree, TacUnitTree}
 use Rattle.qs_tac.specs.Fits.{takes, callee_fits, taken_fits, operand_fits, instruction_fits, function_fits, data_fits, unit_fits}
-use Rattle.qs_tac.specs.Places.{Accepted, no_places, all_slots}
 use Rattle.qs_tac.specs.declared.operands.Operand.{Operand}
+use Rattle.qs_alloc.proofs.Slots.{all_slots_are_accepted}
 use Rattle.qs_lower_expressions.specs.Threads.{threaded_function}
 use Rattle.qs_lower.specs.Units.{straight_function, lower_data}
 use Rattle.qs_lower.proofs.UnitFits.{lowered_fits}
@@ -39,25 +39,16 @@ use Rattle.qs_emit_selection.specs.Laws.{HasFewArguments}
 use Rattle.qs_emit.specs.Relation.{no_function, function_at, IsEmittable}
 use Rattle.qs_emit.specs.Images.{data_of, IsFirstMemory}
 use Rattle.qs_emit.specs.Emitted.{IsInteger}
+use Rattle.qs_emit.proofs.EmissionLaws.{found_or_none}
 use Rattle.qs_compile.specs.Units.{linear, own_slots, IsWithinSizes, start_of, MainReturns}
 
 -- ---- functions of linear code
-
-pub slots_accepted : (fs : List TacFunctionTree) (f : ℕ) (g : TacFunctionTree) → slice_get fs f ≡ Some g → Accepted g (slice_index_or (map all_slots fs) f no_places)
-slots_accepted [] f g is = cc
-slots_accepted (x ∷ fs) zero g is = record { own_slots = ap (λ (y : TacFunctionTree). (all_slots y).at) (some_same x g is) }
-slots_accepted (x ∷ fs) (suc f) g is = slots_accepted fs f g is
 
 -- the function with a number, where there is one
 pub function_found : (fs : List TacFunctionTree) (f : ℕ) (g : TacFunctionTree) → slice_get fs f ≡ Some g → slice_index_or fs f no_function ≡ g
 function_found [] f g is = cc
 function_found (x ∷ fs) zero g is = some_same x g is
 function_found (x ∷ fs) (suc f) g is = function_found fs f g is
-
-found_or_none : (fs : List TacFunctionTree) (f : ℕ) → (slice_get fs f ≡ Some (slice_index_or fs f no_function)) ⊎ (slice_index_or fs f no_function ≡ no_function)
-found_or_none [] f = inr refl
-found_or_none (x ∷ fs) zero = inl refl
-found_or_none (x ∷ fs) (suc f) = found_or_none fs f
 
 pub few_parameters : (cs : List CoreFunctionTree) (f : ℕ) → All (λ (c : CoreFunctionTree). length c.parameters ≤ 8) cs → length (slice_index_or (map threaded_function (map straight_function cs)) f no_function).parameters ≤ 8
 few_parameters [] f all = omega arith
@@ -202,7 +193,7 @@ module _ (u : CoreUnitTree) (fits : core.unit_fits u ≡ true) where
     pub emittable : IsEmittable t (own_slots t)
     emittable = record {
       fits = linear_fits;
-      places = slots_accepted t.functions;
+      places = all_slots_are_accepted t (own_slots t) refl;
       cost = λ f lt. let same = length-map (map straight_function u.functions) threaded_function ∙ length-map u.functions straight_function in sizes.frames f (omega (arith, same, lt));
       parameters = parameters_few;
       arguments = few_arguments;

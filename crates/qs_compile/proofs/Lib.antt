@@ -2,7 +2,6 @@ pub mod FollowLaws
 pub mod FitLaws
 pub mod DoesAsCore
 pub mod UnsignedLaws
-pub mod SlotLaws
 pub mod ByteLaws
 pub mod RecordLaws
 pub mod CodeLaws

@@ -5,6 +5,8 @@ use Rattle.qs_syntax.specs.Units.{IsRead}
 use Rattle.qs_types.specs.Limits.{IsWithinLimits}
 use Rattle.qs_types.specs.WellTyped.{WellTyped}
 use Rattle.qs_events.specs.Weights.{Costs, run_weight}
+use Rattle.qs_typing_findings.specs.TypedOf.{typed_tree}
+use Rattle.qs_typing_findings.specs.declared.typed_unit.TypedUnit.{TypedUnit}
 use Rattle.qs_core.specs.Trees.{CoreUnitTree}
 use Rattle.qs_core.specs.Units.{initial_memory}
 use Rattle.qs_meaning.specs.Typed.{TypedProgram}
@@ -67,6 +69,11 @@ pub record IsCompiled (unit : UnitTree) (image : Image) : Type 0 where
 -- the same, as contracts have it
 unfoldable pub IsImageOfSource : UnitTree → Image → Type 0
 IsImageOfSource unit image = IsCompiled unit image
+
+-- of each typed unit that has this core
+abbrev pub IsImageOfSourcesWith : CoreUnitTree → Image → Type 0
+IsImageOfSourcesWith core image =
+    (typed : TypedUnit) → core_of (typed_tree typed) ≡ Some core → IsImageOfSource (typed_tree typed) image
 
 -- the image of the core of such a unit is the unit's, where it does what the core does
 abbrev pub BuiltImagesAreCompiled : Type 0

@@ -14,7 +14,7 @@ use Rattle.qs_core.specs.Interfaces.{interface_of}
 use Rattle.qs_tac.specs.Trees.{TacUnitTree}
 use Rattle.qs_tac.specs.Places.{PlacesTree, all_slots}
 use Rattle.qs_lower.specs.Units.{lower_unit}
-pub use Rattle.qs_image.specs.Limits.{most_parameters}
+pub use Rattle.qs_base.specs.Parameters.{most_parameters}
 use Rattle.qs_machine.specs.State.{stack_limit}
 use Rattle.qs_emit.specs.Relation.{cost_at}
 

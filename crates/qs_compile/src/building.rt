@@ -23,12 +23,13 @@ ghost use Rattle.qs_compile.specs.AgreesWithCore.{AgreesWhereMainReturns};
 use crate::data::data_bytes;
 use crate::fault::BuildFault;
 use crate::parameters::{parameter_types, unsigned_set};
-use crate::places::own_slots;
 use crate::records::{addresses, costs, records};
+use qs_alloc::assign_unit;
 use qs_asm::{AssemblyFault, Item, assemble, label_offsets};
 use qs_base::{NoMemory, count};
 use qs_core::{CoreFunction, CoreUnit};
-use qs_emit_selection::{data_sizes, first_labels, select};
+use qs_emit::emit;
+use qs_emit_selection::{check_fits, data_sizes, first_labels};
 use qs_frames::laid_from;
 use qs_image::{FunctionRecord, Image, MOST_CODE_WORDS, MOST_FUNCTIONS, MOST_NAME_BYTES};
 use qs_isa::{CODE_START, DATA_START};
@@ -175,8 +176,9 @@ pub fn build_image(alloc: Global, unit: &CoreUnit) -> Result<Image, BuildFault>
 {
     check_names(unit)?;
     let linear = lower(alloc, unit)?;
-    let places = own_slots(alloc, &linear.functions)?;
-    let items = select(alloc, &linear, &places)?;
+    let places = assign_unit(alloc, &linear)?;
+    check_fits(alloc, &linear, &places)?;
+    let items = emit(alloc, &linear, &places)?;
     let code = code_of(alloc, &items)?;
     let functions = records_of(alloc, unit, &linear, &places, &items)?;
     let bytes = bytes_of(alloc, unit, &linear)?;

@@ -8,11 +8,10 @@ mod data;
 mod fault;
 mod laws;
 mod parameters;
-mod places;
 mod records;
 
 pub use building::build_image;
-pub use compiling::compile_unit;
+pub use compiling::{compile, compile_core};
 pub use fault::BuildFault;
 pub use laws::{
     accounts_go_through, agreement_goes_through, built_images_are_compiled, images_do_as_core,

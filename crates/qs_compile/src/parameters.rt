@@ -4,7 +4,8 @@ ghost use Rattle.qs_core.specs.TreeOf.{function_tree};
 ghost use Rattle.qs_core.specs.Interfaces.{parameter_types};
 ghost use Rattle.qs_memory.specs.Scalars.{same_scalar};
 ghost use Rattle.qs_memory.specs.declared.scalar.Scalar.TheVariants as scalars;
-ghost use Rattle.qs_compile.specs.Units.{most_parameters, set_of};
+ghost use Rattle.qs_base.specs.Parameters.{most_main_parameters};
+ghost use Rattle.qs_compile.specs.Units.{set_of};
 
 use qs_base::NoMemory;
 use qs_core::CoreFunction;
@@ -39,7 +40,7 @@ pub fn parameter_types(alloc: Global, f: &CoreFunction) -> Result<Vec<Scalar>, N
 
 /// The parameters that are `unsigned`, as bits from the lowest on.
 pub fn unsigned_set(types: &[Scalar]) -> u32
-    requires { length types.now ≤ most_parameters }
+    requires { length types.now ≤ most_main_parameters }
     ensures set { result ≡ set_of types.now }
     ensures small { result < 2 ^ length types.now }
 {

@@ -3,8 +3,8 @@ use Rattle.std.proofs.Common.{◌≡◌, ℕ, zero, suc, ◌<◌, ◌≤◌, nat
 use Rattle.std.specs.List.{slice_get, list_all}
 use Rattle.std.proofs.lemmas.List.{length-map}
 use Rattle.std.proofs.lemmas.Bool.Decides.{nat_tests}
-use Rattle.std.proofs.lemmas.Option.{slice_get-map}
-use Rattle.qs_memory.proofs.Options.{some_same}
+use Rattle.std.proofs.lemmas.Option.{slice_get-map, same_Some}
+use Rattle.std.proofs.lemmas.Bool.{and_parts}
 use Rattle.qs_memory.specs.Values.{into}
 use Rattle.qs_memory.specs.Memory.{Cell, unset, byte, Block, block_at}
 use Rattle.qs_memory.specs.Soundness.{IsLive, IsSoundInto, IsSoundCell}
@@ -17,7 +17,7 @@ use Rattle.qs_calls.specs.Starts.{DataExtent, IsDataExtent, BeginsWith}
 use Rattle.qs_core.specs.Interfaces.{data_extent}
 use Rattle.qs_core.specs.Fits.{is_in_data, piece_fits, data_fits}
 use Rattle.qs_core.specs.Ranges.{InitialMemoryIsReady}
-use Rattle.qs_core.proofs.FitLaws.{both, all_at, unit_parts}
+use Rattle.qs_core.proofs.FitLaws.{all_at, unit_parts}
 
 data_at :
     (ds : List DataBlockTree) (b : ℕ) (d : DataBlockTree) → slice_get ds b ≡ Some d
@@ -63,7 +63,7 @@ data_shown ds b e is = shown (slice_get ds b) refl (sym (slice_get-map data_exte
           writable = ap (λ (k : Block). k.is_writable) at;
         } in
         subst (λ (x : DataExtent). IsDataExtent (map data_block ds) b x)
-        (some_same (data_extent d) e same) here
+        (same_Some (data_extent d) e same) here
 
 pub data_begin : (ds : List DataBlockTree) → BeginsWith (map data_extent ds) (map data_block ds)
 data_begin ds = record {
@@ -79,7 +79,7 @@ module _ (u : CoreUnitTree) where
   bytes_sound : (bs : List ℕ) → list_all (λ b. nat_lt b 256) bs ≡ true → Each Sound (map byte bs)
   bytes_sound [] h = tt
   bytes_sound (b ∷ bs) h =
-      let two = both (nat_lt b 256) (list_all (λ b. nat_lt b 256) bs) h in
+      let two = and_parts (nat_lt b 256) (list_all (λ b. nat_lt b 256) bs) h in
       (grind (arith, nat_tests, two.0), bytes_sound bs two.1)
 
   pointer_sound :
@@ -107,7 +107,7 @@ module _ (u : CoreUnitTree) where
       (ps : List PieceTree) → list_all (piece_fits u) ps ≡ true → Each Sound (cells_of_pieces ps)
   pieces_sound [] h = tt
   pieces_sound (p ∷ ps) h =
-      let two = both (piece_fits u p) (list_all (piece_fits u) ps) h in
+      let two = and_parts (piece_fits u p) (list_all (piece_fits u) ps) h in
       each_append Sound (piece_cells p) (cells_of_pieces ps) (piece_sound p two.0)
       (pieces_sound ps two.1)
 
@@ -122,7 +122,7 @@ module _ (u : CoreUnitTree) where
       (λ d i. all_at (data_fits u) u.data_blocks b d fits i) in
       let at = data_at u.data_blocks b is.0 is.1 in
       subst (λ (k : Block). Sound (k.cells o)) (sym at.1)
-      (at_index Sound (cells_of_pieces (is.0).pieces) o (pieces_sound (is.0).pieces (both (list_all (piece_fits u) (is.0).pieces) _ is.2).0)
+      (at_index Sound (cells_of_pieces (is.0).pieces) o (pieces_sound (is.0).pieces (and_parts (list_all (piece_fits u) (is.0).pieces) _ is.2).0)
       (subst (λ (k : Block). o < k.size) at.1 h))
 
 pub initial_memory_is_ready : InitialMemoryIsReady

@@ -4,7 +4,8 @@ use Rattle.std.specs.Prelude.{bytes_eq}
 use Rattle.std.specs.List.{slice_get}
 use Rattle.std.proofs.lemmas.Bool.Decides.{nat_tests}
 use Rattle.std.proofs.lemmas.List.Elements.{All-head, All-tail}
-use Rattle.std.proofs.lemmas.Option.{slice_get-map}
+use Rattle.std.proofs.lemmas.Option.{slice_get-map, same_Some}
+use Rattle.std.proofs.lemmas.Bool.{and_parts}
 use Rattle.qs_memory.specs.Values.{Pointer, into, Value, integer, address, as_pointer}
 use Rattle.qs_memory.specs.Memory.{Memory, make, release}
 use Rattle.qs_memory.specs.Memory as memory
@@ -16,7 +17,7 @@ use Rattle.qs_memory.specs.declared.scalar.Scalar.{Scalar}
 use Rattle.qs_memory.specs.declared.scalar.Scalar.TheVariants as scalars
 use Rattle.qs_memory.specs.declared.operation.Signedness.TheVariants.{Signed}
 use Rattle.qs_memory.proofs.BlockLaws.{after_make, after_release, after_same, after_next, blocks_are_fresh}
-use Rattle.qs_memory.proofs.Options.{some_same, followed}
+use Rattle.qs_memory.proofs.Options.{followed}
 use Rattle.qs_memory.proofs.StepLaws.{memory_goes_on}
 use Rattle.qs_memory.proofs.SoundLaws.{soundness_is_kept}
 use Rattle.qs_events.specs.Runs.{emit, short, given, has_ended, ending_of, Left}
@@ -38,7 +39,7 @@ use Rattle.qs_core.specs.Units.{calls_within}
 use Rattle.qs_core.specs.Interfaces.{variable_type, temporary_type, target_type, types_of, parameter_types, signature, interface_of}
 use Rattle.qs_core.specs.Fits.{expr_fits, exprs_fit, pointer_fits, call_fits, taken_fits, destination_fits, any_mentions, stmt_fits, stmts_fit, place_fits, parameter_fits, parameters_fit, unit_fits}
 use Rattle.qs_core.specs.Ranges.{VariablesAreOf, IsInRange, IsMoment, RelatedInRange, ReturnsInRange, AllInRange, CallsInRange, result_type_at, CallsStayInRange, BodiesStayInRange, RunsLeaveSound}
-use Rattle.qs_core.proofs.FitLaws.{both, function_at_fits}
+use Rattle.qs_core.proofs.FitLaws.{function_at_fits}
 use Rattle.qs_core.proofs.TypeLaws.{integer_is_of, value_is_of}
 
 -- ---- moments one after another
@@ -65,14 +66,14 @@ with_value_are_of m types e x v h of = record { each = λ y t w ty i. at y t w t
         → IsOf m t w
     at y t w ty true same i =
         let here : x ≡ y = grind (arith, nat_tests, same) in
-        subst (λ (z : Value). IsOf m t z) (some_same v w i) (of t (ap types here ∙ ty))
+        subst (λ (z : Value). IsOf m t z) (same_Some v w i) (of t (ap types here ∙ ty))
     at y t w ty false same i = h.each y t w ty i
 
 -- of one type
 pub of_type :
     (m : Memory) (o : Option Scalar) (s : Scalar) (v : Value) → o ≡ Some s → IsOf m s v
     → (t : Scalar) → o ≡ Some t → IsOf m t v
-of_type m o s v is of t j = subst (λ (z : Scalar). IsOf m z v) (some_same s t (sym is ∙ j)) of
+of_type m o s v is of t j = subst (λ (z : Scalar). IsOf m z v) (same_Some s t (sym is ∙ j)) of
 
 -- the world of a moment goes on
 pub moment_later :
@@ -139,13 +140,13 @@ pub arguments_are :
     → (es : List CoreExprTree) (vs : List Value)
     → exprs_fit u f es ≡ true → values es l w.memory ≡ Some vs → AreOf w.memory (map type_of es) vs
 arguments_are u f l w r [] vs fits h =
-    subst (λ (z : List Value). AreOf w.memory [] z) (some_same [] vs h) tt
+    subst (λ (z : List Value). AreOf w.memory [] z) (same_Some [] vs h) tt
 arguments_are u f l w r (e ∷ es) vs fits h =
-    let fit = both (expr_fits u f e) (exprs_fit u f es) fits in
+    let fit = and_parts (expr_fits u f e) (exprs_fit u f es) fits in
     let a = followed (value e l w.memory) _ vs h in
     let b = followed (values es l w.memory) _ vs a.then in
     subst (λ (z : List Value). AreOf w.memory (map type_of (e ∷ es)) z)
-    (some_same (a.value ∷ b.value) vs b.then) (
+    (same_Some (a.value ∷ b.value) vs b.then) (
       value_is_of u f e l w a.value fit.0 r a.first,
       arguments_are u f l w r es b.value fit.1 b.first,
     )
@@ -291,9 +292,9 @@ module _ (R : Relation) (keeps : Keeps R) (shorts : R short short) (u : CoreUnit
     pass_in_range i (p ∷ ps) [] vs e w k j from fit are is h = cc
     pass_in_range i (p ∷ ps) (x ∷ xs) [] e w k j from fit are is h = absurd are
     pass_in_range i (p ∷ ps) (x ∷ xs) (v ∷ vs) e w k j from fit are is h =
-        let two = both (parameter_fits f.blocks i p x)
+        let two = and_parts (parameter_fits f.blocks i p x)
         (parameters_fit f.blocks (i + 1) ps xs) fit in
-        let place = both (bytes_eq p.name x.name && x.ordinal == 1)
+        let place = and_parts (bytes_eq p.name x.name && x.ordinal == 1)
         (place_fits f.blocks i x.scalar p.place) two.0 in
         one_passed i x.scalar p.place (map (λ p. p.place) ps) v vs e w k j place.1
         (type_from i x xs from) are.0 is
@@ -336,7 +337,7 @@ module _ (R : Relation) (keeps : Keeps R) (shorts : R short short) (u : CoreUnit
     result_in_range result_type None es fit k j h l w is result v r =
         h l v (moment_later u f start l w v is r.after r.ready)
     result_in_range result_type (Some x) es fit k j h l w is result v r =
-        let first = both (taken_fits f result_type x) (not (any_mentions x es)) fit in
+        let first = and_parts (taken_fits f result_type x) (not (any_mentions x es)) fit in
         given_in_range result _ _ (λ value some.
         h _ v (moment_assigned u f start (targets.Temporary x) l v value
         (taken result_type x first.0 v.memory value
@@ -360,11 +361,11 @@ module _ (R : Relation) (keeps : Keeps R) (shorts : R short short) (u : CoreUnit
     invoke_in_range PutChar type vs w k j is are ready kj =
         put_in_range vs k j w ready
         (subst (λ (t : Signature). ReturnsInRange R u t.result_type w.memory k j)
-        (sym (some_same _ type is)) kj)
+        (sym (same_Some _ type is)) kj)
     invoke_in_range GetChar type vs w k j is are ready kj =
         get_in_range vs k j w ready
         (subst (λ (t : Signature). ReturnsInRange R u t.result_type w.memory k j)
-        (sym (some_same _ type is)) kj)
+        (sym (same_Some _ type is)) kj)
 
     call_in_range :
         (x : Option ℕ) (g : Callee) (es : List CoreExprTree) (o : Option Signature)
@@ -376,7 +377,7 @@ module _ (R : Relation) (keeps : Keeps R) (shorts : R short short) (u : CoreUnit
         → R (invoke g c vs (take_result x k l) w) (invoke g d vs (take_result x j l) w)
     call_in_range x g es None known fit fits k j h l w is vs given = cc
     call_in_range x g es (Some type) known fit fits k j h l w is vs given =
-        let two = both (same_scalars (map type_of es) type.parameters)
+        let two = and_parts (same_scalars (map type_of es) type.parameters)
         (destination_fits f type.result_type x es) fit in
         let are =
         subst (λ (types : List Scalar). AreOf w.memory types vs)
@@ -394,16 +395,16 @@ module _ (R : Relation) (keeps : Keeps R) (shorts : R short short) (u : CoreUnit
       stmt_in_range b c skip fit k j h l w is = h.next l w is
       stmt_in_range b c (seq ss) fit k j h l w is = stmts_in_range b c ss fit k j h l w is
       stmt_in_range b c (assign x e) fit k j h l w is =
-          let two = both (expr_fits u f e) (is_type (target_type f x) (type_of e)) fit in
+          let two = and_parts (expr_fits u f e) (is_type (target_type f x) (type_of e)) fit in
           given_in_range (value e l w.memory) _ _ (λ v i.
           h.next _ w (moment_assigned u f start x l w v
           (of_type w.memory (target_type f x) (type_of e) v
           (type_is (target_type f x) (type_of e) two.1)
           (value_is_of u f e l w v two.0 is.range i)) is))
       stmt_in_range b c (store s p e) fit k j h l w is =
-          let three = both (pointer_fits u f p && expr_fits u f e)
+          let three = and_parts (pointer_fits u f p && expr_fits u f e)
           (same_scalar (type_of e) s) fit in
-          let two = both (pointer_fits u f p) (expr_fits u f e) three.0 in
+          let two = and_parts (pointer_fits u f p) (expr_fits u f e) three.0 in
           pointer_in_range p l w _ _ (λ q. given_in_range (value e l w.memory) _ _
           (λ v i. given_in_range (memory.store s w.memory q v) _ _ (λ m stored.
           h.next l _ (moment_stepped u f start l w m is
@@ -423,20 +424,20 @@ module _ (R : Relation) (keeps : Keeps R) (shorts : R short short) (u : CoreUnit
           (memory_goes_on.fill blank w.memory m x filled)
           (soundness_is_kept.fill blank w.memory m x is.range.ready.sound filled))))
       stmt_in_range b c (call x g es) fit k j h l w is =
-          let two = both (exprs_fit u f es)
+          let two = and_parts (exprs_fit u f es)
           (call_fits f x (signature_of (interface_of u) g) es) fit in
           given_in_range (values es l w.memory) _ _ (λ vs i.
           call_in_range x g es (signature_of (interface_of u) g) refl two.1 two.0 k.next j.next
           h.next l w is vs i)
       stmt_in_range b c (branch e p q) fit k j h l w is =
-          let three = both (expr_fits u f e && stmt_fits u f b c p) (stmt_fits u f b c q) fit in
-          let two = both (expr_fits u f e) (stmt_fits u f b c p) three.0 in
+          let three = and_parts (expr_fits u f e && stmt_fits u f b c p) (stmt_fits u f b c q) fit in
+          let two = and_parts (expr_fits u f e) (stmt_fits u f b c p) three.0 in
           given_in_range (value e l w.memory) _ _
           (λ v i. given_in_range (truth w.memory v) _ _ (λ yes t.
           either_in_range yes _ _ _ _ (stmt_in_range b c p two.1 k j h l w is)
           (stmt_in_range b c q three.1 k j h l w is)))
       stmt_in_range b c (loop body step) fit k j h l w is =
-          let two = both (stmt_fits u f true true body) (stmt_fits u f true false step) fit in
+          let two = and_parts (stmt_fits u f true true body) (stmt_fits u f true false step) fit in
           turns_in_range turns _ _ (λ again more fg.
           let st = stmt_in_range true false step two.1 (after_step k again) (after_step j more)
           (record { next = fg; on_break = h.next; on_continue = fg; on_return = h.on_return })
@@ -449,7 +450,7 @@ module _ (R : Relation) (keeps : Keeps R) (shorts : R short short) (u : CoreUnit
       stmt_in_range b c (return None) fit k j h l w is =
           h.on_return None w (record { typed = tt; ready = is.range.ready; after = is.after })
       stmt_in_range b c (return (Some e)) fit k j h l w is =
-          let two = both (expr_fits u f e) (is_type f.result_type (type_of e)) fit in
+          let two = and_parts (expr_fits u f e) (is_type f.result_type (type_of e)) fit in
           given_in_range (value e l w.memory) _ _ (λ v i.
           h.on_return (Some v) w (record {
             typed =
@@ -467,7 +468,7 @@ module _ (R : Relation) (keeps : Keeps R) (shorts : R short short) (u : CoreUnit
           → RelatedInRange R u f start (runs_all ss one k) (runs_all ss other j)
       stmts_in_range b c no_stmts fit k j h l w is = h.next l w is
       stmts_in_range b c (stmt_and s ss) fit k j h l w is =
-          let two = both (stmt_fits u f b c s) (stmts_fit u f b c ss) fit in
+          let two = and_parts (stmt_fits u f b c s) (stmts_fit u f b c ss) fit in
           stmt_in_range b c s two.0 _ _
           (record {
             next = stmts_in_range b c ss two.1 k j h;

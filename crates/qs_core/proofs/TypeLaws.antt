@@ -2,6 +2,8 @@
 use Rattle.std.proofs.Common.{◌≡◌, ℕ, ◌^◌, ◌<◌, ◌&&◌, Bool, true, false, if◌then◌else◌, ◌≤◌, List, length, map, Option, Some, refl, sym, subst, arith}
 use Rattle.std.proofs.lemmas.List.{length-map}
 use Rattle.std.proofs.lemmas.Bool.Decides.{nat_tests}
+use Rattle.std.proofs.lemmas.Bool.{and_parts}
+use Rattle.std.proofs.lemmas.Option.{same_Some}
 use Rattle.qs_memory.specs.Partial.{◌>>=◌}
 use Rattle.qs_memory.specs.Values.{null, Value, integer, address, as_pointer, has_type}
 use Rattle.qs_memory.specs.Memory.{Memory}
@@ -14,7 +16,7 @@ use Rattle.qs_memory.specs.declared.scalar.Scalar.{Scalar}
 use Rattle.qs_memory.specs.declared.scalar.Scalar.TheVariants as scalars
 use Rattle.qs_memory.specs.declared.operation.Signedness.{Signedness}
 use Rattle.qs_memory.specs.declared.operation.Signedness.TheVariants.{Signed, Unsigned}
-use Rattle.qs_memory.proofs.Options.{some_same, followed}
+use Rattle.qs_memory.proofs.Options.{followed}
 use Rattle.qs_memory.proofs.ValueLaws.{values_are_sound}
 use Rattle.qs_memory.proofs.TypeLaws.{values_have_types}
 use Rattle.qs_calls.specs.World.{World}
@@ -26,7 +28,6 @@ use Rattle.qs_core.specs.Expressions.{Locals, block_pointer, value, truth_value,
 use Rattle.qs_core.specs.Interfaces.{variable_type, temporary_type, data_extent}
 use Rattle.qs_core.specs.Fits.{block_fits, expr_fits}
 use Rattle.qs_core.specs.Ranges.{IsInRange, ExpressionsHaveTypes}
-use Rattle.qs_core.proofs.FitLaws.{both}
 
 -- ---- single values
 
@@ -58,7 +59,7 @@ block_is_of :
     → IsOf w.memory scalars.Pointer v
 block_is_of u f (Local i) l w v fits r h =
     let room = r.blocks in
-    subst (λ (x : Value). IsOf w.memory scalars.Pointer x) (some_same _ v h)
+    subst (λ (x : Value). IsOf w.memory scalars.Pointer x) (same_Some _ v h)
     (record {
       typed = refl;
       sound = record {
@@ -68,7 +69,7 @@ block_is_of u f (Local i) l w v fits r h =
     })
 block_is_of u f (Data i) l w v fits r h =
     let room = data_count u.data_blocks (length w.memory) r.ready.data_blocks.count in
-    subst (λ (x : Value). IsOf w.memory scalars.Pointer x) (some_same _ v h)
+    subst (λ (x : Value). IsOf w.memory scalars.Pointer x) (same_Some _ v h)
     (record {
       typed = refl;
       sound = record {
@@ -83,7 +84,7 @@ second_truth :
 second_truth m o w h =
     let a = followed o (λ x. truth_value m x) w h in
     let b = followed (truth m a.value) (λ b. Some (of_truth b)) w a.then in
-    subst (λ (x : Value). IsOf m scalars.Int x) (some_same _ w b.then) (truth_is_of m b.value)
+    subst (λ (x : Value). IsOf m scalars.Int x) (same_Some _ w b.then) (truth_is_of m b.value)
 
 decided :
     (m : Memory) (yes : Bool) (o p : Option Value) (s : Scalar) (w : Value)
@@ -94,10 +95,10 @@ decided m false o p s w h f g = g h
 
 pub value_is_of : ExpressionsHaveTypes
 value_is_of u f (literal s n) l w v fits r h =
-    subst (λ (x : Value). IsOf w.memory s x) (some_same (integer n) v h)
+    subst (λ (x : Value). IsOf w.memory s x) (same_Some (integer n) v h)
     (literal_is_of w.memory s n fits)
 value_is_of u f null_pointer l w v fits r h =
-    subst (λ (x : Value). IsOf w.memory scalars.Pointer x) (some_same (address null) v h)
+    subst (λ (x : Value). IsOf w.memory scalars.Pointer x) (same_Some (address null) v h)
     (record { typed = refl; sound = tt })
 value_is_of u f (variable s x) l w v fits r h =
     r.variables.each x s v (type_is (variable_type f x) s fits) h
@@ -115,13 +116,13 @@ value_is_of u f (member offset a) l w v fits r h =
     let p = followed (value a l w.memory) _ v h in
     let q = followed (as_pointer p.value) _ v p.then in
     let o = followed (member_of w.memory q.value offset) _ v q.then in
-    subst (λ (x : Value). IsOf w.memory scalars.Pointer x) (some_same (address o.value) v o.then)
+    subst (λ (x : Value). IsOf w.memory scalars.Pointer x) (same_Some (address o.value) v o.then)
     (record {
       typed = refl;
       sound = values_are_sound.member w.memory q.value o.value offset o.first;
     })
 value_is_of u f (unary op a) l w v fits r h =
-    let fit = both (expr_fits u f a) (unary_takes op (type_of a)) fits in
+    let fit = and_parts (expr_fits u f a) (unary_takes op (type_of a)) fits in
     let p = followed (value a l w.memory) _ v h in
     let known = value_is_of u f a l w p.value fit.0 r p.first in
     record {
@@ -129,9 +130,9 @@ value_is_of u f (unary op a) l w v fits r h =
       sound = values_are_sound.unary op w.memory p.value v known.sound p.then;
     }
 value_is_of u f (binary op a b) l w v fits r h =
-    let takes = both (expr_fits u f a && expr_fits u f b)
+    let takes = and_parts (expr_fits u f a && expr_fits u f b)
     (binary_takes op (type_of a) (type_of b)) fits in
-    let fit = both (expr_fits u f a) (expr_fits u f b) takes.0 in
+    let fit = and_parts (expr_fits u f a) (expr_fits u f b) takes.0 in
     let p = followed (value a l w.memory) _ v h in
     let q = followed (value b l w.memory) _ v p.then in
     let first = value_is_of u f a l w p.value fit.0 r p.first in
@@ -142,7 +143,7 @@ value_is_of u f (binary op a b) l w v fits r h =
       sound = values_are_sound.binary op w.memory p.value q.value v first.sound second.sound q.then;
     }
 value_is_of u f (conversion s a) l w v fits r h =
-    let fit = both (expr_fits u f a) (conversion_takes s (type_of a)) fits in
+    let fit = and_parts (expr_fits u f a) (conversion_takes s (type_of a)) fits in
     let p = followed (value a l w.memory) _ v h in
     let known = value_is_of u f a l w p.value fit.0 r p.first in
     record {
@@ -154,20 +155,20 @@ value_is_of u f (logical_and a b) l w v fits r h =
     let q = followed (truth w.memory p.value) _ v p.then in
     decided w.memory q.value _ _ scalars.Int v q.then
     (second_truth w.memory (value b l w.memory) v)
-    (λ e. subst (λ (x : Value). IsOf w.memory scalars.Int x) (some_same _ v e)
+    (λ e. subst (λ (x : Value). IsOf w.memory scalars.Int x) (same_Some _ v e)
     (truth_is_of w.memory false))
 value_is_of u f (logical_or a b) l w v fits r h =
     let p = followed (value a l w.memory) _ v h in
     let q = followed (truth w.memory p.value) _ v p.then in
     decided w.memory q.value _ _ scalars.Int v q.then
-    (λ e. subst (λ (x : Value). IsOf w.memory scalars.Int x) (some_same _ v e)
+    (λ e. subst (λ (x : Value). IsOf w.memory scalars.Int x) (same_Some _ v e)
     (truth_is_of w.memory true))
     (second_truth w.memory (value b l w.memory) v)
 value_is_of u f (conditional c a b) l w v fits r h =
-    let alike = both (expr_fits u f c && expr_fits u f a && expr_fits u f b)
+    let alike = and_parts (expr_fits u f c && expr_fits u f a && expr_fits u f b)
     (same_scalar (type_of a) (type_of b)) fits in
-    let second = both (expr_fits u f c && expr_fits u f a) (expr_fits u f b) alike.0 in
-    let first = both (expr_fits u f c) (expr_fits u f a) second.0 in
+    let second = and_parts (expr_fits u f c && expr_fits u f a) (expr_fits u f b) alike.0 in
+    let first = and_parts (expr_fits u f c) (expr_fits u f a) second.0 in
     let p = followed (value c l w.memory) _ v h in
     let q = followed (truth w.memory p.value) _ v p.then in
     decided w.memory q.value _ _ (type_of a) v q.then

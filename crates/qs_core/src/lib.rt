@@ -1,5 +1,6 @@
 //! Core: statements over pure expressions, with loops, calls and temporaries; what they mean, what
-//! holds of every unit of core, and its outline as text.
+//! holds of every unit of core, its terms, sizes and nesting, who calls whom in it, and its outline
+//! as text.
 #![tactic(auto)]
 
 mod conditions;

@@ -1,10 +1,10 @@
 -- The bound of small proofs, computed from the definitions.
-use Rattle.std.proofs.Common.{◌≡◌, ℕ, ◌^◌, List, [], ◌∷◌, map, codes, pos, Some, None, refl}
+use Rattle.std.proofs.Common.{◌≡◌, ℕ, ◌^◌, List, [], ◌∷◌, codes, pos, Some, None, refl}
 use Rattle.qs_syntax.specs.Trees.{UnitTree}
 use Rattle.qs_assert.specs.declared.define.Amount.TheVariants.{Finite, Infinite, Wide}
 use Rattle.qs_assert.specs.declared.variable.NumberType.TheVariants as numbers
 use Rattle.qs_assert.specs.declared.variable.VarKind.TheVariants as kinds
-use Rattle.qs_assert.specs.Trees.{TermTree, variable, AssertionTree, natural, infinity, cost, num, total, assertions_of}
+use Rattle.qs_assert.specs.Trees.{TermTree, variable, AssertionTree, natural, infinity, cost, num, total, product, assertions_of}
 use Rattle.qs_entail.specs.Certificates.{same}
 use Rattle.qs_triples.specs.Derivations.{EntryTree, leaf}
 use Rattle.qs_prooftext_meaning.specs.Proofs.{no_proofs}
@@ -68,6 +68,16 @@ a_wide_bound unit = refl
 the_bytes : (unit : UnitTree) → bytes_by (source unit (entry_with needs ∷ [])) image (pos 7 ∷ pos 0 ∷ []) ≡ Some 55
 the_bytes unit = refl
 
--- where the bound is no number of bytes
-no_bytes : (unit : UnitTree) → map (λ pre. bytes_by (source unit (entry_with pre ∷ [])) image []) (infinity ∷ natural (2 ^ 127) ∷ []) ≡ None ∷ None ∷ []
+-- where main needs no number of bytes
+no_bytes : (unit : UnitTree) → bytes_by (source unit (entry_with infinity ∷ [])) image [] ≡ None
 no_bytes unit = refl
+
+-- no times a wide number: the bound is wide, and what f needs is its cost
+abbrev nothing : AssertionTree
+nothing = product (assertions_of (natural 0 ∷ natural (2 ^ 127) ∷ []))
+
+small_bytes : (unit : UnitTree) → bytes_by (source unit (entry_with nothing ∷ [])) image [] ≡ Some 32
+small_bytes unit = refl
+
+yet_wide : (unit : UnitTree) → bound_by (source unit (entry_with nothing ∷ [])) (32 ∷ 16 ∷ []) [] ≡ Wide
+yet_wide unit = refl

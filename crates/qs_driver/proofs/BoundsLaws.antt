@@ -10,9 +10,8 @@ use Rattle.qs_events.specs.Runs.{Left}
 use Rattle.qs_events.specs.Weights.{Costs, run_weight}
 use Rattle.qs_events.proofs.RunLaws.{longer_runs_weigh_more}
 use Rattle.qs_calls.specs.World.{RootRun}
-use Rattle.qs_assert.specs.Values.{Extended, finite, plus}
-use Rattle.qs_assert.specs.declared.define.Amount.{Amount}
-use Rattle.qs_assert.specs.declared.define.Amount.TheVariants.{Finite, Infinite, Wide}
+use Rattle.qs_assert.specs.Values.{Extended, finite, infinite, plus}
+use Rattle.qs_assert.specs.declared.define.Amount.TheVariants.{Finite}
 use Rattle.qs_entail.specs.Meaning.{AtLeast}
 use Rattle.qs_entail.proofs.Amounts.{at_least_through}
 use Rattle.qs_core.specs.Interfaces.{main_types}
@@ -30,12 +29,12 @@ use Rattle.qs_compile.specs.AgreesWithCore.{values_of}
 use Rattle.qs_compile.specs.Built.{IsBuiltFrom}
 use Rattle.qs_compile.specs.Units.{linear, start_of}
 use Rattle.qs_certify.specs.Bound as certify
-use Rattle.qs_certify.proofs.MainLaws.{BoundsMain, main_bounds_runs, entry_bounds_runs}
+use Rattle.qs_certify.proofs.MainLaws.{BoundsMain, bounds_are_needs, main_bounds_runs, entry_bounds_runs}
 use Rattle.qs_compile.specs.Agree.{AgreesFrom, IsInput}
 use Rattle.qs_compile.specs.Compiled.{IsCompiled, IsImageOfSource, SourceHasStack}
 use Rattle.qs_ports.specs.StoreView.{StoreView}
 use Rattle.qs_driver_session.specs.Lines.{record_line, cost_lines}
-use Rattle.qs_driver.specs.Bounds.{bound_by, bytes_by, costs_in, if_finite, linear_runs, main_runs, seen_runs, IsBounded, IsBoundedByMain, IsImageOf, WeighsWithin}
+use Rattle.qs_driver.specs.Bounds.{bound_by, bytes_by, need_by, costs_in, if_finite, linear_runs, main_runs, seen_runs, IsBounded, IsBoundedByMain, IsImageOf, WeighsWithin}
 use Rattle.qs_report.specs.Lines.{cost_line}
 use Rattle.qs_driver.specs.Misfits.{IsMisfit}
 use Rattle.qs_driver.specs.Certified.{CertifiedSource, CertifyWords, IsCertifiedAs, ReadsCertified}
@@ -85,10 +84,13 @@ same_values : (args : List ℤ) → certify.values_of args ≡ values_of args
 same_values [] = refl
 same_values (z ∷ zs) = ap (λ (vs : List Value). integer (wrap z) ∷ vs) (same_values zs)
 
-finite_is : (a : Amount) (bytes : ℕ) → if_finite a ≡ Some bytes → a ≡ Finite bytes
-finite_is (Finite n) bytes e = let same : n ≡ bytes = cc in ap Finite same
-finite_is Infinite bytes e = cc
-finite_is Wide bytes e = cc
+finite_is : (v : Extended) (bytes : ℕ) → if_finite v ≡ Some bytes → v ≡ finite bytes
+finite_is (finite n) bytes e = let same : n ≡ bytes = cc in ap finite same
+finite_is infinite bytes e = cc
+
+-- a bound that is a number is the bytes that main needs
+pub bytes_are : (s : CertifiedSource) (image : Image) (args : List ℤ) (bytes : ℕ) → bound_by s (costs_in image.functions) args ≡ Finite bytes → bytes_by s image args ≡ Some bytes
+bytes_are s image args bytes is = ap if_finite (bounds_are_needs s.core.main s.proofs (costs_in image.functions) args bytes is)
 
 -- the image of a source's core is built from it
 built_from : (unit : UnitTree) (u : CoreUnitTree) (image : Image) → core_of unit ≡ Some u → IsCompiled unit image → IsBuiltFrom u image
@@ -154,7 +156,7 @@ module _ (text : List ℕ) (file : Option (List ℕ)) (s : CertifiedSource) (c :
         → run_weight record_costs (core.main_run s.core (values_of args) input n) ≤ bytes
     core_weighs args input bytes n arguments is_input bound_is =
         let mains_are = (arguments_are_mains s.core image args fits (built_from s.unit s.core image core_is i)).0 arguments in
-        let is_bound = finite_is (bound_by s (costs_in image.functions) args) bytes bound_is in
+        let is_bound = finite_is (need_by s (costs_in image.functions) args) bytes bound_is in
         subst (λ (vs : List Value). run_weight record_costs (core.main_run s.core vs input n) ≤ bytes) (same_values args)
         (main_bounds_runs s.core s.given s.proofs (costs_in image.functions) args bytes fits c.certified.covers mains_are is_bound input n is_input)
 
@@ -179,7 +181,7 @@ module _ (text : List ℕ) (file : Option (List ℕ)) (s : CertifiedSource) (c :
 pub source_image : (w : CertifyWords) (v : StoreView) (s : CertifiedSource) (image : Image) → ReadsCertified w v s → IsCompiled s.unit image → IsImageOf s image
 source_image w v s image r i = compiled_is_image r.text r.file s r.is image i
 
--- what `compile_unit` promises
+-- what `compile` promises
 pub is_compiled : (unit : UnitTree) (image : Image) → IsImageOfSource unit image → IsCompiled unit image
 unfolding IsImageOfSource
 is_compiled unit image h = h

@@ -3,13 +3,14 @@ use Rattle.std.proofs.Common.{◌≡◌, ℕ, zero, suc, ◌+◌, ◌-◌, ◌^�
 use Rattle.std.specs.Prelude.{◌↔◌, ◌≤ℤ◌, ◌&&◌, int_le, bytes_eq}
 use Rattle.std.specs.List.{slice_get, list_all}
 use Rattle.std.proofs.lemmas.Int.{ints}
+use Rattle.std.proofs.lemmas.Bool.{and_parts}
 use Rattle.qs_memory.specs.Scalars.{same_scalar, is_type, is_promoted}
 use Rattle.qs_memory.specs.declared.scalar.Scalar.{Scalar}
 use Rattle.qs_memory.specs.declared.scalar.Scalar.TheVariants as scalars
 use Rattle.qs_core.specs.Fits.{main_name, is_main, unit_fits}
 use Rattle.qs_core.specs.Interfaces.{main_types, parameter_types, types_of_main}
 use Rattle.qs_core.specs.Trees.{CoreFunctionTree, CoreUnitTree}
-use Rattle.qs_core.proofs.FitLaws.{both, unit_parts}
+use Rattle.qs_core.proofs.FitLaws.{unit_parts}
 use Rattle.qs_image.specs.Image.{Image}
 use Rattle.qs_machine.specs.Arguments.{is_unsigned, is_between, fits_parameter, first_misfit}
 use Rattle.qs_machine.specs.Arguments as image_arguments
@@ -27,7 +28,7 @@ below_least : (a z : ℤ) → a ≤ℤ z → int_le a z ≡ true
 below_least a z h = grind (arith, ints)
 
 between : (low high z : ℤ) → is_between low high z ≡ true → (low ≤ℤ z) × (z ≤ℤ high)
-between low high z h = let p = both (int_le low z) (int_le z high) h in (least_below low z p.0, least_below z high p.1)
+between low high z h = let p = and_parts (int_le low z) (int_le z high) h in (least_below low z p.0, least_below z high p.1)
 
 is_within : (low high z : ℤ) → low ≤ℤ z → z ≤ℤ high → is_between low high z ≡ true
 is_within low high z more less = ap (λ b. b && int_le z high) (below_least low z more) ∙ below_least z high less
@@ -81,7 +82,7 @@ are_numbers image i [] [] promoted tells long h = tt
 are_numbers image i [] (z ∷ zs) promoted tells long h = absurd (omega (arith, long))
 are_numbers image i (s ∷ types) [] promoted tells long h = absurd (omega (arith, long))
 are_numbers image i (s ∷ types) (z ∷ zs) promoted tells long h =
-    let p = both (is_promoted s) (list_all is_promoted types) promoted in
+    let p = and_parts (is_promoted s) (list_all is_promoted types) promoted in
     let fit = all_fit image i z zs h in
     let as_long : length zs ≡ length types = omega (arith, long) in (
       number_of_type s z p.0 (ap (λ b. is_number b z) (sym (tells_first image i s types tells)) ∙ fit.first),
@@ -95,7 +96,7 @@ numbers_fit image i [] [] promoted tells are = refl
 numbers_fit image i [] (z ∷ zs) promoted tells are = absurd are
 numbers_fit image i (s ∷ types) [] promoted tells are = absurd are
 numbers_fit image i (s ∷ types) (z ∷ zs) promoted tells are =
-    let p = both (is_promoted s) (list_all is_promoted types) promoted in
+    let p = and_parts (is_promoted s) (list_all is_promoted types) promoted in
     ap (λ b. if b then first_misfit image (i + 1) zs else Some i) (ap (λ b. is_number b z) (tells_first image i s types tells) ∙ type_of_number s z p.0 are.0)
     ∙ numbers_fit image (i + 1) types zs p.1 (tells_others image i s types tells) are.1
 
@@ -134,7 +135,7 @@ unfit_from image i [] [] found promoted tells long h = absurd (let never : ⊥ =
 unfit_from image i [] (z ∷ zs) found promoted tells long h = absurd (omega (arith, long))
 unfit_from image i (s ∷ types) [] found promoted tells long h = absurd (omega (arith, long))
 unfit_from image i (s ∷ types) (z ∷ zs) found promoted tells long h =
-    let p = both (is_promoted s) (list_all is_promoted types) promoted in
+    let p = and_parts (is_promoted s) (list_all is_promoted types) promoted in
     let as_long : length zs ≡ length types = omega (arith, long) in
     unfit_here image i s types z zs found p.0 (ap (λ b. is_number b z) (tells_first image i s types tells))
     (λ later. unfit_from image (i + 1) types zs found p.1 (tells_others image i s types tells) as_long later)
@@ -159,7 +160,7 @@ none_unfit (s ∷ types) (z ∷ zs) (suc i) are h = none_unfit types zs i are.1 
 
 promoted_types : (main : Option CoreFunctionTree) → is_main main ≡ true → list_all is_promoted (types_of_main main) ≡ true
 promoted_types None is = cc
-promoted_types (Some f) is = (both (bytes_eq f.name main_name && is_type f.result_type scalars.Int) (list_all is_promoted (parameter_types f)) is).1
+promoted_types (Some f) is = (and_parts (bytes_eq f.name main_name && is_type f.result_type scalars.Int) (list_all is_promoted (parameter_types f)) is).1
 
 module _ (u : CoreUnitTree) (image : Image) (args : List ℤ) (fits : unit_fits u ≡ true) (built : IsBuiltFrom u image) where
   promoted : list_all is_promoted (main_types u) ≡ true

@@ -3,9 +3,8 @@ use Rattle.std.specs.Prelude.{◌≡◌, ℕ, ◌≤◌, ℤ, List, map, Option,
 use Rattle.std.specs.List.{slice_get}
 use Rattle.qs_events.specs.Weights.{Costs, run_weight}
 use Rattle.qs_calls.specs.World.{RootRun}
-use Rattle.qs_assert.specs.Values.{finite, plus}
+use Rattle.qs_assert.specs.Values.{Extended, finite, infinite, plus}
 use Rattle.qs_assert.specs.declared.define.Amount.{Amount}
-use Rattle.qs_assert.specs.declared.define.Amount.TheVariants.{Finite, Infinite, Wide}
 use Rattle.qs_entail.specs.Meaning.{AtLeast}
 use Rattle.qs_core.specs.Trees.{CoreFunctionTree, CoreUnitTree}
 use Rattle.qs_tac.specs.Units.{tac_run}
@@ -33,14 +32,17 @@ costs_in records = map (λ (f : FunctionRecord). f.cost) records
 abbrev pub bound_by : CertifiedSource → (costs : List ℕ) → (args : List ℤ) → Amount
 bound_by s costs args = certify.main_bound s.core s.proofs costs args
 
-abbrev pub if_finite : Amount → Option ℕ
-if_finite (Finite bytes) = Some bytes
-if_finite Infinite = None
-if_finite Wide = None
+-- the same as a value, also where a part of it is too wide to be printed
+abbrev pub need_by : CertifiedSource → (costs : List ℕ) → (args : List ℤ) → Extended
+need_by s costs args = certify.main_need s.core s.proofs costs args
+
+abbrev pub if_finite : Extended → Option ℕ
+if_finite (finite bytes) = Some bytes
+if_finite infinite = None
 
 -- the bytes of stack that main needs with each list of arguments, where that is a number
 abbrev pub bytes_by : CertifiedSource → Image → Bound
-bytes_by s image args = if_finite (bound_by s (costs_in image.functions) args)
+bytes_by s image args = if_finite (need_by s (costs_in image.functions) args)
 
 -- the source's runs of main
 abbrev pub main_runs : TypedProgram → (args : List ℤ) → (input : List ℕ) → (n : ℕ) → RootRun
@@ -56,7 +58,7 @@ linear_runs u args input m = tac_run (linear u) u.main (values_of args) (start_o
 
 -- ---- what the bound says of the source
 
--- Where the arguments are main's and their bound is a number, no run of main weighs more by the costs of the records:
+-- Where the arguments are main's and what main needs is a number, no run of main weighs more by the costs of the records:
 -- on each input, within each bound of turns and depth, also where it is undefined or short. Nor does any of its linear
 -- code, within each number of steps.
 pub record WeighsWithin (s : CertifiedSource) (program : TypedProgram) (image : Image)
@@ -102,8 +104,8 @@ pub record IsBounded (s : CertifiedSource) : Type 0 where
 
 -- ---- what it says of the image
 
--- The image is made of the source, its costs are at most the source's caps, main's bound bounds the source's runs, where
--- it is a number, and on each stack of at least the bound the image does what the source does.
+-- The image is made of the source, its costs are at most the source's caps, what main needs bounds the source's runs,
+-- where it is a number, and on each stack of at least so much the image does what the source does.
 pub record IsImageOf (s : CertifiedSource) (image : Image) : Type 0 where
   pub compiled : IsCompiled s.unit image
   pub weighs : WeighsWithin s compiled.program image

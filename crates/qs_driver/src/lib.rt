@@ -1,4 +1,5 @@
-//! The tool: one call, `run_tool`, does all that the program does.
+//! The tool: one call, `run_tool`, does all that the program does; the commands that certify or
+//! compile a source, and the promise.
 #![tactic(auto)]
 
 mod certified;

@@ -9,7 +9,7 @@ use crate::certified::{CertifiedUnit, CertifyOrder, read_certified};
 use qs_assert::Amount;
 use qs_base::NoMemory;
 use qs_certify::bound_of_main;
-use qs_compile::compile_unit;
+use qs_compile::compile;
 use qs_driver_session::{Status, image_words};
 use qs_image::{FunctionRecord, Image};
 use qs_ports::Store;
@@ -47,7 +47,7 @@ pub fn make_certified(
 ) -> Result<Made, Status>
     ensures { MakesCertified certified.now args.now result }
 {
-    let image = compile_unit(alloc, &certified.typed)?;
+    let image = compile(alloc, &certified.typed)?;
     image_words(alloc, &image, args)?;
     let costs = image_costs(alloc, &image)?;
     let proofs = &certified.certified.proofs;

@@ -1,5 +1,6 @@
 // The arguments of main as the words of the machine.
 ghost use Rattle.std.specs.Prelude.{◌≡◌, ◌<◌, ◌≤◌};
+ghost use Rattle.qs_base.specs.Parameters.{most_main_parameters};
 ghost use Rattle.qs_base.specs.Words.{wrap};
 ghost use Rattle.qs_machine.specs.Arguments.{fits_parameter};
 ghost use Rattle.qs_driver_session.specs.Arguments.{image_with, FindsWords};
@@ -37,7 +38,7 @@ fn word_of(number: i64) -> u32
 // The words of the arguments, if there are as many as main has parameters and each is a value of
 // its parameter.
 fn words_for(alloc: Global, parameters: Parameters, args: &[i64]) -> Result<Vec<u32>, Status>
-    requires { parameters.count ≤ 8 }
+    requires { parameters.count ≤ most_main_parameters }
     ensures { FindsWords (image_with parameters) args.now result }
 {
     let expected = parameters.count;

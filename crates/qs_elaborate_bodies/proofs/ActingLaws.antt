@@ -1,5 +1,6 @@
 -- An expression acts exactly where it has statements.
 use Rattle.std.proofs.Common.{◌≡◌, ◌||◌, not, Bool, true, false, List, [], ◌∷◌, ◌++◌, None, is_some, refl, sym, ap, ◌∙◌, if◌then◌else◌}
+use Rattle.std.proofs.Math.Bool.{or-true, or-false}
 use Rattle.qs_memory.specs.Partial.{◌>>=◌}
 use Rattle.qs_memory.specs.declared.scalar.Scalar.{Scalar}
 use Rattle.qs_memory.specs.declared.operation.BinaryOperation.{BinaryOperation}
@@ -18,14 +19,6 @@ use Rattle.qs_elaborate_bodies.proofs.Values.{converted_literal}
 any-append : (a b : List CoreStmtTree) → has_any (a ++ b) ≡ (has_any a || has_any b)
 any-append [] b = refl
 any-append (s ∷ a) b = refl
-
-or-true : (x : Bool) → (x || true) ≡ true
-or-true true = refl
-or-true false = refl
-
-or-false : (x : Bool) → (x || false) ≡ x
-or-false true = refl
-or-false false = refl
 
 ends_some : (a : List CoreStmtTree) (s : CoreStmtTree) (b : List CoreStmtTree) → has_any (a ++ s ∷ b) ≡ true
 ends_some [] s b = refl

@@ -1,5 +1,6 @@
 -- An expression that doesn't act has no temporaries, and its value is the same behind any.
 use Rattle.std.proofs.Common.{◌≡◌, ◌||◌, not, Bool, true, false, refl, ap, ◌∙◌, if◌then◌else◌, is_some}
+use Rattle.std.proofs.lemmas.Bool.{not-false}
 use Rattle.qs_core.specs.Trees.{CoreExprTree}
 use Rattle.qs_core.specs.Trees as core
 use Rattle.qs_meaning.specs.Typed.{Expr, constant, value, pointer_to, member, called, stepped_after, unary, cast, binary, logical_and, logical_or, conditional, assigned, sequence, Lvalue, variable, object, Effect, nothing, discard, assign, perform, copy, fill, in_order}
@@ -16,10 +17,6 @@ neither_left true y h = cc
 pub neither_right : (x y : Bool) → (x || y) ≡ false → y ≡ false
 neither_right false y h = h
 neither_right true y h = cc
-
-not_false : (x : Bool) → not x ≡ false → x ≡ true
-not_false true h = refl
-not_false false h = cc
 
 pub saved_off : (z : Bool) (g : Valued) → z ≡ false → saved_if z g ≡ g
 saved_off true g h = cc
@@ -81,7 +78,7 @@ mutual
   quiet_effect nothing ts h = refl
   quiet_effect (discard a) ts h =
       let p : acts a ≡ false = neither_left (acts a) (not (is_constant a)) h in
-      let q : is_constant a ≡ true = not_false (is_constant a) (neither_right (acts a) (not (is_constant a)) h) in
+      let q : is_constant a ≡ true = not-false (is_constant a) (neither_right (acts a) (not (is_constant a)) h) in
       let r : is_literal (expression_core a ts).value ≡ true = ap is_some (constant_exactly a ts) ∙ q in
       ap (λ (v : Valued). v.temporaries) (saved_literal (expression_core a ts) r) ∙ quiet_temporaries a ts p
   quiet_effect (assign a) ts h = cc

@@ -1,5 +1,8 @@
 -- The typed tree of an expression counts at most the nodes of the expression.
 use Rattle.std.proofs.Common.{◌≡◌, ◌≤◌, ℕ, ◌+◌, ◌==◌, Bool, true, false, not, ◌&&◌, ◌||◌, List, [], ◌∷◌, ◌++◌, Option, Some, None, is_some, length, refl, sym, ap, ◌∙◌, subst, arith, if◌then◌else◌}
+use Rattle.std.proofs.lemmas.Bool.{not-false}
+use Rattle.std.specs.Cmp.{first_so, second_so}
+use Rattle.std.proofs.lemmas.Option.{same_Some}
 use Rattle.qs_syntax.specs.declared.nodes.Node.{Node}
 use Rattle.qs_syntax.specs.declared.types.TypeName.{TypeName}
 use Rattle.qs_syntax_vocabulary.specs.declared.operators.AssignmentOperator.{AssignmentOperator}
@@ -8,7 +11,7 @@ use Rattle.qs_syntax.specs.Trees.{ExprTree, expr, ShapeTree, Exprs, no_exprs, ex
 use Rattle.qs_syntax.specs.Trees as trees
 use Rattle.qs_syntax.specs.Nodes.{expr_count, shape_count, exprs_count}
 use Rattle.qs_memory.specs.Partial.{◌>>=◌}
-use Rattle.qs_memory.proofs.Options.{some_same, followed}
+use Rattle.qs_memory.proofs.Options.{followed}
 use Rattle.qs_types.specs.Types.{TypeTree, Structs}
 use Rattle.qs_types.specs.Layout.{and_then}
 use Rattle.qs_types.specs.Conversions.{decayed}
@@ -23,9 +26,9 @@ use Rattle.qs_meaning.specs.Typed.{variable, object, pointer_to, local, Argument
 use Rattle.qs_meaning.specs.Forms.{Form, lvalue, call, TypedExpr, type_in_use}
 use Rattle.qs_meaning.specs.Names.{Scope, Locals, local_lvalue, place_among, entity_lvalue, Designator, entity_designated}
 use Rattle.qs_meaning.specs.Expressions.{arguments_of, typed, form_of, all_typed}
-use Rattle.qs_meaning.proofs.Options.{left, right, nothing, same, went}
+use Rattle.qs_meaning.proofs.Options.{nothing, went}
 use Rattle.qs_elaborate_laws.specs.Counts.{lvalue_nodes, arguments_nodes}
-use Rattle.qs_elaborate_laws.proofs.CountedTypes.{kept, not_true, first_unbroken, second_unbroken, unless, tests_kept, gave_at, typed_type, NullHasValue, null_value, scalar_value, assignable_value, cast_value, alike_values, operand_values}
+use Rattle.qs_elaborate_laws.proofs.CountedTypes.{kept, first_unbroken, second_unbroken, unless, tests_kept, gave_at, typed_type, NullHasValue, null_value, scalar_value, assignable_value, cast_value, alike_values, operand_values}
 use Rattle.qs_elaborate_laws.proofs.CountedForms.{Counted, CountedIn, counted_as, lvalue_counted, result_counted, call_counted, comma_counted, subscript_counted, binary_counted, unary_counted, member_counted, size_counted, cast_counted, conditional_counted, step_form_counted, assign_counted}
 
 -- ---- names
@@ -85,17 +88,17 @@ module _ (s : Scope) where
 
   arguments_counted : (ts : List TypeTree) (es : Exprs) (list : List TypedExpr) (us : List TypeTree) (all : Arguments) → AllCounted es list us → arguments_fit ts es us ≡ true
       → arguments_of ts list ≡ Some all → arguments_nodes all 1 ≤ exprs_count es
-  arguments_counted [] es [] us all h r e = subst (λ z. arguments_nodes z 1 ≤ exprs_count es) (same _ all e) (omega arith)
+  arguments_counted [] es [] us all h r e = subst (λ z. arguments_nodes z 1 ≤ exprs_count es) (same_Some _ all e) (omega arith)
   arguments_counted [] es (a ∷ list) us all h r e = nothing all e
   arguments_counted (t ∷ ts) es [] us all h r e = nothing all e
   arguments_counted (t ∷ ts) no_exprs (a ∷ list) us all h r e = absurd h
   arguments_counted (t ∷ ts) (expr_and x es) (a ∷ list) [] all h r e = absurd h
   arguments_counted (t ∷ ts) (expr_and x es) (a ∷ list) (u ∷ us) all h r e =
       let later = followed (arguments_of ts list) _ all e in
-      let fits = subst (λ z. is_assignable t x (decayed z) ≡ true) h.0 (left _ _ r) in
+      let fits = subst (λ z. is_assignable t x (decayed z) ≡ true) h.0 (first_so _ _ r) in
       let v = h.2.value (assignable_value t x (type_in_use a) h.1 fits) in
-      let rest = arguments_counted ts es list us later.value h.3 (right (is_assignable t x (decayed u)) _ r) later.first in
-      subst (λ z. arguments_nodes z 1 ≤ expr_count x + exprs_count es) (same _ all later.then) (omega arith)
+      let rest = arguments_counted ts es list us later.value h.3 (second_so (is_assignable t x (decayed u)) _ r) later.first in
+      subst (λ z. arguments_nodes z 1 ≤ expr_count x + exprs_count es) (same_Some _ all later.then) (omega arith)
 
   fitting : (m n : ℕ) (b : Bool) → (not (m == n) || (not b || false)) ≡ false → b ≡ true
   fitting m n b r = kept b (second_unbroken (not (m == n)) _ r)
@@ -130,7 +133,7 @@ module _ (s : Scope) where
         let f = followed (form_of s node shape) _ a t.then in
         let w = went (shape_judged c shape) (λ (j : Judged). type_unless j.tests j.type) t.value t.first in
         let u = unless w.value.tests w.value.type t.value w.gave in
-        subst (λ (z : TypedExpr). CountedIn (1 + shape_count shape) z) (some_same _ a f.then)
+        subst (λ (z : TypedExpr). CountedIn (1 + shape_count shape) z) (same_Some _ a f.then)
         (subst (λ z. Counted (1 + shape_count shape) z f.value) u.type (shape_counted shape node w.value f.value w.had u.unbroken f.first))
 
     shape_counted : (shape : ShapeTree) (node : Node) (j : Judged) (form : Form) → shape_judged c shape ≡ Some j → breaks_one j.tests ≡ false → form_of s node shape ≡ Some form
@@ -170,7 +173,7 @@ module _ (s : Scope) where
         let x = followed (typed s a) _ form t.then in
         let k = gave_at (type_of c a) x.value.type _ j (typed_type s a x.value x.first) e in
         let tests = subst (λ o. breaks_one (cast_judged_by o name a (type_in_use x.value)).tests ≡ false) t.first (tests_kept _ j k r) in
-        let may = not_true _ (first_unbroken _ _ (second_unbroken (is_void_base name.base) _ tests)) in
+        let may = not-false _ (first_unbroken _ _ (second_unbroken (is_void_base name.base) _ tests)) in
         counted_as _ j.type _ form x.then (cast_counted t.value x.value (expr_count a) j.type
         ((expression_counted a x.value x.first).value (cast_value t.value a (type_in_use x.value) (null_of a x.value x.first) may)))
     shape_counted (trees.binary operator a b) node j form e r h =
@@ -187,15 +190,15 @@ module _ (s : Scope) where
         let e1 = gave_at (type_of c d) z.value.type _ j (typed_type s d z.value z.first) e in
         let k = gave_at (type_of c b) y.value.type _ j (typed_type s b y.value y.first) (gave_at (type_of c a) x.value.type _ j (typed_type s a x.value x.first) e1) in
         let may : may_choose (type_in_use z.value) a (type_in_use x.value) b (type_in_use y.value) ≡ true = kept _ (tests_kept _ j k r) in
-        let values = alike_values a (type_in_use x.value) b (type_in_use y.value) (null_of a x.value x.first) (null_of b y.value y.first) (right _ _ may) in
+        let values = alike_values a (type_in_use x.value) b (type_in_use y.value) (null_of a x.value x.first) (null_of b y.value y.first) (second_so _ _ may) in
         counted_as _ j.type _ form y.then (conditional_counted z.value x.value y.value (expr_count d) (expr_count a) (expr_count b) j.type
-        ((expression_counted d z.value z.first).value (scalar_value (type_in_use z.value) (left _ _ may)))
+        ((expression_counted d z.value z.first).value (scalar_value (type_in_use z.value) (first_so _ _ may)))
         ((expression_counted a x.value x.first).value values.0) ((expression_counted b y.value y.first).value values.1))
     shape_counted (trees.assign operator a b) node j form e r h =
         let x = followed (typed s a) _ form h in
         let y = followed (typed s b) _ form x.then in
         let k = gave_at (type_of c b) y.value.type _ j (typed_type s b y.value y.first) (gave_at (type_of c a) x.value.type _ j (typed_type s a x.value x.first) e) in
-        let type = sym (assigned_type_is structs operator a b x.value.type y.value.type) ∙ ap (λ (z : Judged). z.type) (same _ j k) in
+        let type = sym (assigned_type_is structs operator a b x.value.type y.value.type) ∙ ap (λ (z : Judged). z.type) (same_Some _ j k) in
         subst (λ z. Counted (1 + (expr_count a + expr_count b)) z form) type
         (assign_counted structs operator a b x.value y.value (expr_count a) (expr_count b) form (expression_counted a x.value x.first) (expression_counted b y.value y.first)
         (null_of b y.value y.first) (tests_kept _ j k r) y.then)
@@ -203,16 +206,16 @@ module _ (s : Scope) where
         let x = followed (typed s a) _ form h in
         let y = followed (typed s b) _ form x.then in
         let k = gave_at (type_of c b) y.value.type _ j (typed_type s b y.value y.first) (gave_at (type_of c a) x.value.type _ j (typed_type s a x.value x.first) e) in
-        subst (λ z. Counted (1 + (expr_count a + expr_count b)) z form) (ap (λ (z : Judged). z.type) (same _ j k))
+        subst (λ z. Counted (1 + (expr_count a + expr_count b)) z form) (ap (λ (z : Judged). z.type) (same_Some _ j k))
         (counted_as _ _ _ form y.then (comma_counted (expr_count a) (expr_count b) x.value y.value (expression_counted a x.value x.first) (expression_counted b y.value y.first)))
 
     all_counted : (es : Exprs) (list : List TypedExpr) (us : List TypeTree) → all_typed s es ≡ Some list → types_of c es ≡ Some us → AllCounted es list us
-    all_counted no_exprs list us h e = subst (λ z. AllCounted no_exprs z us) (same _ list h) (sym (same _ us e))
+    all_counted no_exprs list us h e = subst (λ z. AllCounted no_exprs z us) (same_Some _ list h) (sym (same_Some _ us e))
     all_counted (expr_and x es) list us h e =
         let a = followed (typed s x) _ list h in
         let rest = followed (all_typed s es) _ list a.then in
         let f = gave_at (type_of c x) a.value.type (λ t. and_then (types_of c es) (λ ts. Some (t ∷ ts))) us (typed_type s x a.value a.first) e in
         let w = went (types_of c es) (λ ts. Some (a.value.type ∷ ts)) us f in
-        subst (λ z. AllCounted (expr_and x es) z us) (same _ list rest.then)
-        (subst (λ z. AllCounted (expr_and x es) (a.value ∷ rest.value) z) (same _ us w.gave)
+        subst (λ z. AllCounted (expr_and x es) z us) (same_Some _ list rest.then)
+        (subst (λ z. AllCounted (expr_and x es) (a.value ∷ rest.value) z) (same_Some _ us w.gave)
         (refl, null_of x a.value a.first, expression_counted x a.value a.first, all_counted es rest.value w.value rest.first w.had))

@@ -1,5 +1,8 @@
 -- The nodes that the typed tree of a form counts are at most those of its parts and one.
 use Rattle.std.proofs.Common.{◌≡◌, ◌≤◌, ℕ, ◌+◌, Bool, true, false, not, ◌&&◌, ◌||◌, List, Some, refl, sym, ap, subst, arith, if◌then◌else◌}
+use Rattle.std.proofs.lemmas.Bool.{not-false}
+use Rattle.std.specs.Cmp.{first_so, second_so}
+use Rattle.std.proofs.lemmas.Option.{same_Some}
 use Rattle.qs_syntax_vocabulary.specs.declared.operators.UnaryOperator.{UnaryOperator}
 use Rattle.qs_syntax_vocabulary.specs.declared.operators.UnaryOperator.TheVariants as unaries
 use Rattle.qs_syntax_vocabulary.specs.declared.operators.StepOperator.{StepOperator}
@@ -11,7 +14,7 @@ use Rattle.qs_syntax_vocabulary.specs.declared.operators.AssignmentOperator.TheV
 use Rattle.qs_syntax_vocabulary.specs.declared.operators.Access.{Access}
 use Rattle.qs_syntax_vocabulary.specs.declared.operators.Access.TheVariants as accesses
 use Rattle.qs_syntax.specs.Trees.{ExprTree}
-use Rattle.qs_memory.proofs.Options.{some_same, followed}
+use Rattle.qs_memory.proofs.Options.{followed}
 use Rattle.qs_calls.specs.declared.callee.Callee.{Callee}
 use Rattle.qs_types.specs.Types.{TypeTree, int, unsigned, char, void, pointer, array, struct, is_integer, is_array, is_struct, same_type, referenced, Structs}
 use Rattle.qs_types.specs.Layout.{extent_of, size_of}
@@ -23,9 +26,9 @@ use Rattle.qs_meaning.specs.Typed as typed_trees
 use Rattle.qs_meaning.specs.Forms.{Form, lvalue, result, call, assignment, step, struct_assignment, comma, TypedExpr, lvalue_of, address_in, address_of, value_in, value_of, effect_of, type_in_use, value_in_use, effect_in_use}
 use Rattle.qs_meaning.specs.Operations.{operation_of}
 use Rattle.qs_meaning.specs.Expressions.{operated, operator_value, member_offset, member_form, set_form, struct_form, plain_form, compound_form, assign_form, one, step_after_form, step_form, unary_form, size_form, cast_form, operator_form, binary_form, subscript_form, conditional_form}
-use Rattle.qs_meaning.proofs.Options.{never, left, right, nothing, same}
+use Rattle.qs_meaning.proofs.Options.{never, nothing}
 use Rattle.qs_elaborate_laws.specs.Counts.{indirection, is_object, is_fixed, is_amount, nodes, lvalue_nodes, arguments_nodes, assignment_nodes, discarded_nodes, target_nodes, effect_nodes}
-use Rattle.qs_elaborate_laws.proofs.CountedTypes.{kept, not_true, first_unbroken, HasValue, NullHasValue, integer_value, pointer_value, scalar_value, assignable_value, sum_values}
+use Rattle.qs_elaborate_laws.proofs.CountedTypes.{kept, first_unbroken, HasValue, NullHasValue, integer_value, pointer_value, scalar_value, assignable_value, sum_values}
 
 -- ---- what is counted at most
 
@@ -35,10 +38,10 @@ indirection_least (typed_trees.value s l) = omega arith
 indirection_least (pointer_to o) = omega arith
 indirection_least (member offset a) = omega arith
 indirection_least (called s f es) = omega arith
-indirection_least (stepped_after s l operation left back) = omega arith
+indirection_least (stepped_after s l operation first_so back) = omega arith
 indirection_least (unary operation c a) = omega arith
 indirection_least (cast c a) = omega arith
-indirection_least (binary operation order left right a b) = omega arith
+indirection_least (binary operation order first_so second_so a b) = omega arith
 indirection_least (logical_and a b) = omega arith
 indirection_least (logical_or a b) = omega arith
 indirection_least (conditional s a second third b c) = omega arith
@@ -70,7 +73,7 @@ abbrev pub CountedIn : ℕ → TypedExpr → Type 0
 CountedIn n a = Counted n a.type a.form
 
 pub counted_as : (n : ℕ) (t : TypeTree) (f form : Form) → Some f ≡ Some form → Counted n t f → Counted n t form
-counted_as n t f form e h = subst (λ z. Counted n t z) (some_same f form e) h
+counted_as n t f form e h = subst (λ z. Counted n t z) (same_Some f form e) h
 
 value_in_less : (t : TypeTree) (l : Lvalue) → nodes (value_in t l) 1 ≤ lvalue_nodes l 1
 value_in_less int l = omega arith
@@ -87,7 +90,7 @@ value_in_less (struct k) (object p) = omega arith
 pub lvalue_counted : (n : ℕ) (t : TypeTree) (l : Lvalue) → lvalue_nodes l 1 ≤ n → Counted n t (lvalue l)
 lvalue_counted n t l h =
     let v = value_in_less t l in
-    record { place = λ m e. subst (λ z. lvalue_nodes z 1 ≤ n) (same l m e) h; value = λ e. omega arith; effect = omega arith }
+    record { place = λ m e. subst (λ z. lvalue_nodes z 1 ≤ n) (same_Some l m e) h; value = λ e. omega arith; effect = omega arith }
 
 pub result_counted : (n : ℕ) (t : TypeTree) (e : Expr) → nodes e 1 ≤ n → Counted n t (result e)
 result_counted n t e h = record { place = λ l e. nothing l e; value = λ e. h; effect = h }
@@ -133,7 +136,7 @@ address_counted n t form p h e = let l = followed (lvalue_of form) address_in p 
   where
     go : (l : Lvalue) → lvalue_nodes l 1 ≤ n → address_in l ≡ Some p → nodes p 1 + indirection p ≤ n
     go (variable x) k e = nothing p e
-    go (object q) k e = subst (λ z. nodes z 1 + indirection z ≤ n) (same q p e) k
+    go (object q) k e = subst (λ z. nodes z 1 + indirection z ≤ n) (same_Some q p e) k
 
 object_counted : (n : ℕ) (t : TypeTree) (p : Expr) → nodes p 1 + indirection p ≤ n → Counted n t (lvalue (object p))
 object_counted n t p h = lvalue_counted n t (object p) h
@@ -143,13 +146,13 @@ object_counted n t p h = lvalue_counted n t (object p) h
 pub subscript_counted : (structs : Structs) (a b : TypedExpr) (n m : ℕ) (t : TypeTree) (form : Form) → CountedIn n a → CountedIn m b
     → breaks_one (subscript_judged structs (type_in_use a) (type_in_use b)).tests ≡ false → subscript_form structs a b ≡ Some form → Counted (1 + (n + m)) t form
 subscript_counted structs a b n m t form h k r e =
-    let values = sum_values structs (type_in_use a) (type_in_use b) (not_true _ (first_unbroken _ _ r)) in
+    let values = sum_values structs (type_in_use a) (type_in_use b) (not-false _ (first_unbroken _ _ r)) in
     let w = followed (operator_value structs binaries.Add a b) _ form e in
     let o = followed (operation_of structs binaries.Add (type_in_use a) (type_in_use b)) _ w.value w.first in
     let x = h.value values.0 in
     let y = k.value values.1 in
     let least : nodes (operated o.value a b) 1 + indirection (operated o.value a b) ≤ 1 + (n + m) = omega arith in
-    counted_as _ t _ form w.then (object_counted _ t w.value (subst (λ z. nodes z 1 + indirection z ≤ 1 + (n + m)) (some_same _ w.value o.then) least))
+    counted_as _ t _ form w.then (object_counted _ t w.value (subst (λ z. nodes z 1 + indirection z ≤ 1 + (n + m)) (same_Some _ w.value o.then) least))
 
 operator_counted : (structs : Structs) (operator : BinaryOperator) (a b : TypedExpr) (n m : ℕ) (t : TypeTree) (form : Form) → nodes (value_in_use a) 1 ≤ n → nodes (value_in_use b) 1 ≤ m
     → operator_form structs operator a b ≡ Some form → Counted (1 + (n + m)) t form
@@ -157,7 +160,7 @@ operator_counted structs operator a b n m t form x y e =
     let w = followed (operator_value structs operator a b) _ form e in
     let o = followed (operation_of structs operator (type_in_use a) (type_in_use b)) _ w.value w.first in
     let least : nodes (operated o.value a b) 1 ≤ 1 + (n + m) = omega arith in
-    counted_as _ t _ form w.then (result_counted _ t w.value (subst (λ z. nodes z 1 ≤ 1 + (n + m)) (some_same _ w.value o.then) least))
+    counted_as _ t _ form w.then (result_counted _ t w.value (subst (λ z. nodes z 1 ≤ 1 + (n + m)) (same_Some _ w.value o.then) least))
 
 pub binary_counted : (structs : Structs) (operator : BinaryOperator) (a b : TypedExpr) (n m : ℕ) (t : TypeTree) (form : Form) → nodes (value_in_use a) 1 ≤ n → nodes (value_in_use b) 1 ≤ m
     → binary_form structs operator a b ≡ Some form → Counted (1 + (n + m)) t form
@@ -189,7 +192,7 @@ unary_counted structs unaries.Address x a n t form h r e =
     let k = address_counted n a.type a.form p.value h p.first in
     counted_as _ t _ form p.then (result_counted _ t p.value (omega arith))
 unary_counted structs unaries.Indirect x a n t form h r e =
-    let v = h.value (pointer_value _ (left _ _ (kept _ r))) in
+    let v = h.value (pointer_value _ (first_so _ _ (kept _ r))) in
     let i = indirection_least (value_in_use a) in
     counted_as _ t _ form e (object_counted _ t (value_in_use a) (omega arith))
 unary_counted structs unaries.Plus x a n t form h r e =
@@ -210,7 +213,7 @@ member_counted structs accesses.Dot y a x n t form h r e =
     counted_as _ t _ form o.then (object_counted _ t (member o.value p.value) (omega arith))
 member_counted structs accesses.Arrow y a x n t form h r e =
     let o = followed (member_offset structs (referenced (type_in_use a)) x) _ form e in
-    let v = h.value (pointer_value _ (left _ _ (kept _ r))) in
+    let v = h.value (pointer_value _ (first_so _ _ (kept _ r))) in
     counted_as _ t _ form o.then (object_counted _ t (member o.value (value_in_use a)) (omega arith))
 
 pub size_counted : (structs : Structs) (u : TypeTree) (n : ℕ) (t : TypeTree) (form : Form) → size_form structs u ≡ Some form → Counted (1 + n) t form
@@ -311,14 +314,14 @@ assign_counted structs operator x y a b n m form h i null = go operator
         compound_counted structs operator a b n m a.type form h (omega arith) e
 
     combined : (not (may_combine x a.type (type_in_use b)) || false) ≡ false → HasValue (type_in_use b)
-    combined r = integer_value _ (right (is_integer a.type) _ (right (is_lvalue x) _ (kept _ r)))
+    combined r = integer_value _ (second_so (is_integer a.type) _ (second_so (is_lvalue x) _ (kept _ r)))
 
     moved : (not (may_move structs x a.type (type_in_use b)) || false) ≡ false → HasValue (type_in_use b)
-    moved r = integer_value _ (right (is_integer a.type || is_object_pointer structs a.type) _ (right (is_lvalue x) _ (kept _ r)))
+    moved r = integer_value _ (second_so (is_integer a.type || is_object_pointer structs a.type) _ (second_so (is_lvalue x) _ (kept _ r)))
 
     go : (operator : AssignmentOperator) → breaks_one (assign_judged structs operator x a.type y b.type).tests ≡ false → assign_form structs operator a b ≡ Some form
         → Counted (1 + (n + m)) a.type form
-    go assigns.Plain r e = plain_counted structs y a.type a.form b n m form h i null (right (is_lvalue x && not (is_array a.type)) _ (kept _ r)) e
+    go assigns.Plain r e = plain_counted structs y a.type a.form b n m form h i null (second_so (is_lvalue x && not (is_array a.type)) _ (kept _ r)) e
     go assigns.Multiply r e = compound binaries.Multiply (combined r) e
     go assigns.Divide r e = compound binaries.Divide (combined r) e
     go assigns.Remainder r e = compound binaries.Remainder (combined r) e
@@ -358,7 +361,7 @@ initial_set : (t : TypeTree) (l : Lvalue) (b : TypedExpr) (m : ℕ) (form : Form
     → set_form (record { type = t; form = lvalue l }) b ≡ Some form → effect_nodes (effect_of t form) 1 ≤ m
 initial_set t l b m form s v e =
     let none = target_none l s in
-    subst (λ z. effect_nodes (effect_of t z) 1 ≤ m) (some_same _ form e) (omega arith)
+    subst (λ z. effect_nodes (effect_of t z) 1 ≤ m) (same_Some _ form e) (omega arith)
 
 initial_struct : (structs : Structs) (k : ℕ) (l : Lvalue) (b : TypedExpr) (m : ℕ) (form : Form) → is_settled l ≡ true → CountedIn m b
     → struct_form structs (record { type = struct k; form = lvalue l }) b ≡ Some form → effect_nodes (effect_of (struct k) form) 1 ≤ m
@@ -369,7 +372,7 @@ initial_struct structs k (object p) b m form s h e =
     let from = followed (address_of b.form) _ form x.then in
     let none = target_none (object p) s in
     let q = address_counted m b.type b.form from.value h from.first in
-    subst (λ z. effect_nodes (effect_of (struct k) z) 1 ≤ m) (some_same _ form from.then) (omega arith)
+    subst (λ z. effect_nodes (effect_of (struct k) z) 1 ≤ m) (same_Some _ form from.then) (omega arith)
 
 -- an object of type t at its beginning, and an expression for it
 pub initial_counted : (structs : Structs) (y : ExprTree) (t : TypeTree) (l : Lvalue) (b : TypedExpr) (m : ℕ) (form : Form) → is_settled l ≡ true → CountedIn m b

@@ -1,5 +1,8 @@
 -- What initialises a local counts at most the nodes of the initialiser and one.
 use Rattle.std.proofs.Common.{◌≡◌, ◌≤◌, ℕ, ◌+◌, Bool, true, false, ◌&&◌, ◌||◌, List, [], ◌∷◌, ◌++◌, Some, is_some, refl, sym, ap, subst, arith, if◌then◌else◌}
+use Rattle.std.proofs.lemmas.Bool.{and_from}
+use Rattle.std.specs.Cmp.{first_so, second_so}
+use Rattle.std.proofs.lemmas.Option.{same_Some}
 use Rattle.qs_syntax.specs.Trees.{ExprTree, InitialiserTree, Initialisers, no_initialisers, initialiser_and}
 use Rattle.qs_syntax.specs.Trees as trees
 use Rattle.qs_syntax.specs.Nodes.{expr_count, initialiser_count, initialisers_count}
@@ -20,7 +23,7 @@ use Rattle.qs_types.specs.Placed.{is_one_of}
 use Rattle.qs_meaning.specs.Expressions.{typed, plain_form}
 use Rattle.qs_meaning.specs.Blanks.{blank_of}
 use Rattle.qs_meaning.specs.Initialisers.{part_offset, Piece, pieces, pieces_from, text_set, assigned_set, piece_set, pieces_set, object_set, local_set}
-use Rattle.qs_meaning.proofs.Options.{never, left, right, nothing, same, Known}
+use Rattle.qs_meaning.proofs.Options.{never, nothing, Known}
 use Rattle.qs_meaning.proofs.FaultlessExpressions.{none_left, none_right, unbroken}
 use Rattle.qs_elaborate_laws.specs.Counts.{is_object, is_fixed, effect_nodes}
 use Rattle.qs_elaborate_laws.specs.ExpressionCounts.{initialiser_expressions, initialisers_expressions}
@@ -28,10 +31,6 @@ use Rattle.qs_elaborate_laws.proofs.CountedLess.{effect_less}
 use Rattle.qs_elaborate_laws.proofs.CountedTypes.{kept, typed_type, null_value}
 use Rattle.qs_elaborate_laws.proofs.CountedForms.{address_counted, is_settled, is_declared, declared_settled, initial_counted}
 use Rattle.qs_elaborate_laws.proofs.CountedExpressions.{expression_counted}
-
-both : (x y : Bool) → x ≡ true → y ≡ true → (x && y) ≡ true
-both true y e f = f
-both false y e f = never e
 
 without_test : (a b : Bool) → ((a && true) || b) ≡ true → (a || b) ≡ true
 without_test true b e = refl
@@ -51,12 +50,12 @@ nodes_joined (p ∷ ps) qs = let e = nodes_joined ps qs in omega arith
 mutual
   pieces_least : (structs : Structs) (init : InitialiserTree) (t : TypeTree) (offset : ℕ) (ps : List Piece) → pieces structs t offset init ≡ Some ps
       → piece_nodes ps ≤ initialiser_count init
-  pieces_least structs (trees.value e) t offset ps q = subst (λ z. piece_nodes z ≤ expr_count e) (same _ ps q) (omega arith)
+  pieces_least structs (trees.value e) t offset ps q = subst (λ z. piece_nodes z ≤ expr_count e) (same_Some _ ps q) (omega arith)
   pieces_least structs (trees.list node is) t offset ps q = let h = elements_least structs is t offset 0 ps q in omega arith
 
   elements_least : (structs : Structs) (is : Initialisers) (t : TypeTree) (offset k : ℕ) (ps : List Piece) → pieces_from structs t offset k is ≡ Some ps
       → piece_nodes ps ≤ initialisers_count is
-  elements_least structs no_initialisers t offset k ps q = subst (λ z. piece_nodes z ≤ 0) (same _ ps q) (omega arith)
+  elements_least structs no_initialisers t offset k ps q = subst (λ z. piece_nodes z ≤ 0) (same_Some _ ps q) (omega arith)
   elements_least structs (initialiser_and first is) t offset k ps q =
       let u = followed (part_type structs t k) _ ps q in
       let at = followed (part_offset structs t k) _ ps u.then in
@@ -65,17 +64,17 @@ mutual
       let h = pieces_least structs first u.value (offset + at.value) now.value now.first in
       let i = elements_least structs is t offset (k + 1) later.value later.first in
       let e = nodes_joined now.value later.value in
-      subst (λ z. piece_nodes z ≤ initialiser_count first + initialisers_count is) (same _ ps later.then) (omega arith)
+      subst (λ z. piece_nodes z ≤ initialiser_count first + initialisers_count is) (same_Some _ ps later.then) (omega arith)
 
 mutual
   pieces_few : (structs : Structs) (init : InitialiserTree) (t : TypeTree) (offset : ℕ) (ps : List Piece) → pieces structs t offset init ≡ Some ps
       → piece_nodes ps ≤ initialiser_expressions init
-  pieces_few structs (trees.value e) t offset ps q = subst (λ z. piece_nodes z ≤ expr_count e) (same _ ps q) (omega arith)
+  pieces_few structs (trees.value e) t offset ps q = subst (λ z. piece_nodes z ≤ expr_count e) (same_Some _ ps q) (omega arith)
   pieces_few structs (trees.list node is) t offset ps q = elements_few structs is t offset 0 ps q
 
   elements_few : (structs : Structs) (is : Initialisers) (t : TypeTree) (offset k : ℕ) (ps : List Piece) → pieces_from structs t offset k is ≡ Some ps
       → piece_nodes ps ≤ initialisers_expressions is
-  elements_few structs no_initialisers t offset k ps q = subst (λ z. piece_nodes z ≤ 0) (same _ ps q) (omega arith)
+  elements_few structs no_initialisers t offset k ps q = subst (λ z. piece_nodes z ≤ 0) (same_Some _ ps q) (omega arith)
   elements_few structs (initialiser_and first is) t offset k ps q =
       let u = followed (part_type structs t k) _ ps q in
       let at = followed (part_offset structs t k) _ ps u.then in
@@ -84,7 +83,7 @@ mutual
       let h = pieces_few structs first u.value (offset + at.value) now.value now.first in
       let i = elements_few structs is t offset (k + 1) later.value later.first in
       let e = nodes_joined now.value later.value in
-      subst (λ z. piece_nodes z ≤ initialiser_expressions first + initialisers_expressions is) (same _ ps later.then) (omega arith)
+      subst (λ z. piece_nodes z ≤ initialiser_expressions first + initialisers_expressions is) (same_Some _ ps later.then) (omega arith)
 
 module _ (s : Scope) where
   abbrev c : Context
@@ -114,7 +113,7 @@ module _ (s : Scope) where
   assigned_counted t l e set settled suits no_array q =
       let a = followed (typed s e) _ set q in
       let f = followed (plain_form structs (record { type = t; form = lvalue l }) a.value) _ set a.then in
-      subst (λ z. effect_nodes z 1 ≤ expr_count e) (same _ set f.then)
+      subst (λ z. effect_nodes z 1 ≤ expr_count e) (same_Some _ set f.then)
       (initial_counted structs e t l a.value (expr_count e) f.value settled (expression_counted s e a.value a.first)
       (null_value c e a.value.type (typed_type s e a.value a.first)) (assigns t e a.value.type (suits a.value a.first) no_array) f.first)
 
@@ -128,7 +127,7 @@ module _ (s : Scope) where
       let a = followed (typed s e) _ set bytes.then in
       let from = followed (address_of a.value.form) _ set a.then in
       let h = address_counted (expr_count e) a.value.type a.value.form from.value (expression_counted s e a.value a.first) from.first in
-      subst (λ z. effect_nodes z 1 ≤ expr_count e) (same _ set from.then) (fixed_less (is_fixed to) _ _ _ fixed h)
+      subst (λ z. effect_nodes z 1 ≤ expr_count e) (same_Some _ set from.then) (fixed_less (is_fixed to) _ _ _ fixed h)
 
   -- ---- pieces of an object
 
@@ -152,13 +151,13 @@ module _ (s : Scope) where
       go false a q = assigned_counted p.type (object (member p.offset base)) p.expression set fixed suits a q
 
   set_counted : (base : Expr) (ps : List Piece) (set : Effect) → is_object base ≡ true → AllSuit ps → pieces_set s base ps ≡ Some set → effect_nodes set 1 ≤ piece_nodes ps
-  set_counted base [] set fixed h q = subst (λ z. effect_nodes z 1 ≤ 0) (same _ set q) (omega arith)
+  set_counted base [] set fixed h q = subst (λ z. effect_nodes z 1 ≤ 0) (same_Some _ set q) (omega arith)
   set_counted base (p ∷ ps) set fixed h q =
       let now = followed (piece_set s base p) _ set q in
       let later = followed (pieces_set s base ps) _ set now.then in
       let x = piece_counted base p now.value fixed h.0 now.first in
       let y = set_counted base ps later.value fixed h.1 later.first in
-      subst (λ z. effect_nodes z 1 ≤ expr_count p.expression + piece_nodes ps) (same _ set later.then) (omega arith)
+      subst (λ z. effect_nodes z 1 ≤ expr_count p.expression + piece_nodes ps) (same_Some _ set later.then) (omega arith)
 
   -- their expressions have typed trees
   abbrev AllTyped : List Piece → Type 0
@@ -207,14 +206,14 @@ module _ (s : Scope) where
       let u = followed (part_type structs t k) _ ps q in
       let at = followed (part_offset structs t k) _ ps u.then in
       let later = followed (pieces_from structs t offset (k + 1) is) _ ps at.then in
-      let all = subst AllTyped (sym (same _ ps later.then)) h in
-      both _ _ (is_known e all.0) (elements_are_typed is t offset (k + 1) later.value later.first all.1)
+      let all = subst AllTyped (sym (same_Some _ ps later.then)) h in
+      and_from _ _ (is_known e all.0) (elements_are_typed is t offset (k + 1) later.value later.first all.1)
   elements_are_typed (initialiser_and (trees.list node inner) is) t offset k ps q h =
       let u = followed (part_type structs t k) _ ps q in
       let at = followed (part_offset structs t k) _ ps u.then in
       let now = followed (pieces structs u.value (offset + at.value) (trees.list node inner)) _ ps at.then in
       let later = followed (pieces_from structs t offset (k + 1) is) _ ps now.then in
-      let all = subst AllTyped (sym (same _ ps later.then)) h in
+      let all = subst AllTyped (sym (same_Some _ ps later.then)) h in
       elements_are_typed is t offset (k + 1) later.value later.first (typed_right now.value later.value all)
 
   elements_kept : (typed takes fits : Bool) → typed ≡ true → takes ≡ true → breaks_one (if typed && takes then keeps rules.InitialiserType fits else []) ≡ false → fits ≡ true
@@ -225,29 +224,29 @@ module _ (s : Scope) where
   mutual
     pieces_suit : (init : InitialiserTree) (t : TypeTree) (offset : ℕ) (ps : List Piece) → element_fits false c (Some t) init ≡ true → initialiser_faults false c (Some t) init ≡ []
         → pieces structs t offset init ≡ Some ps → AllTyped ps → AllSuit ps
-    pieces_suit (trees.value e) t offset ps fit f q h = subst AllSuit (same _ ps q) (suits t e fit, tt)
+    pieces_suit (trees.value e) t offset ps fit f q h = subst AllSuit (same_Some _ ps q) (suits t e fit, tt)
     pieces_suit (trees.list node is) t offset ps fit f q h =
         let inner = none_right (faults_of node.id (list_tests false c t is)) (elements_faults false c (Some t) 0 is) f in
         let tests = unbroken node.id (list_tests false c t is) (none_left (faults_of node.id (list_tests false c t is)) (elements_faults false c (Some t) 0 is) f) in
         elements_suit is t offset 0 ps
-        (elements_kept (elements_typed c is) (takes_list t) (elements_fit false c (Some t) 0 is) (elements_are_typed is t offset 0 ps q h) (left _ _ fit) tests) inner q h
+        (elements_kept (elements_typed c is) (takes_list t) (elements_fit false c (Some t) 0 is) (elements_are_typed is t offset 0 ps q h) (first_so _ _ fit) tests) inner q h
 
     elements_suit : (is : Initialisers) (t : TypeTree) (offset k : ℕ) (ps : List Piece) → elements_fit false c (Some t) k is ≡ true → elements_faults false c (Some t) k is ≡ []
         → pieces_from structs t offset k is ≡ Some ps → AllTyped ps → AllSuit ps
-    elements_suit no_initialisers t offset k ps fit f q h = subst AllSuit (same _ ps q) tt
+    elements_suit no_initialisers t offset k ps fit f q h = subst AllSuit (same_Some _ ps q) tt
     elements_suit (initialiser_and first is) t offset k ps fit f q h =
         let u = followed (part_type structs t k) _ ps q in
         let at = followed (part_offset structs t k) _ ps u.then in
         let now = followed (pieces structs u.value (offset + at.value) first) _ ps at.then in
         let later = followed (pieces_from structs t offset (k + 1) is) _ ps now.then in
-        let all = subst AllTyped (sym (same _ ps later.then)) h in
-        let fit_first : element_fits false c (part_type structs t k) first ≡ true = left _ _ fit in
+        let all = subst AllTyped (sym (same_Some _ ps later.then)) h in
+        let fit_first : element_fits false c (part_type structs t k) first ≡ true = first_so _ _ fit in
         let faults_first : initialiser_faults false c (part_type structs t k) first ≡ [] = none_left _ _ f in
-        subst AllSuit (same _ ps later.then) (suit_both now.value later.value
+        subst AllSuit (same_Some _ ps later.then) (suit_both now.value later.value
         (pieces_suit first u.value (offset + at.value) now.value
         (subst (λ o. element_fits false c o first ≡ true) u.first fit_first)
         (subst (λ o. initialiser_faults false c o first ≡ []) u.first faults_first) now.first (typed_left now.value later.value all))
-        (elements_suit is t offset (k + 1) later.value (right (element_fits false c (part_type structs t k) first) _ fit)
+        (elements_suit is t offset (k + 1) later.value (second_so (element_fits false c (part_type structs t k) first) _ fit)
         (none_right (initialiser_faults false c (part_type structs t k) first) _ f) later.first (typed_right now.value later.value all)))
 
   -- ---- locals
@@ -268,7 +267,7 @@ module _ (s : Scope) where
       let suit = pieces_suit init t 0 ps.value fit f ps.first (all_typed base ps.value sets.value sets.first) in
       let h = set_counted base ps.value sets.value settled suit sets.first in
       let k = least ps.value ps.first in
-      subst (λ z. effect_nodes z 1 ≤ 1 + n) (same _ set sets.then) (fill_less (is_object base) _ _ n settled (omega arith))
+      subst (λ z. effect_nodes z 1 ≤ 1 + n) (same_Some _ set sets.then) (fill_less (is_object base) _ _ n settled (omega arith))
 
   pub local_counted : (t : TypeTree) (l : Lvalue) (init : InitialiserTree) (set : Effect) → is_declared l ≡ true → element_fits false c (Some t) init ≡ true
       → initialiser_faults false c (Some t) init ≡ [] → local_set s (record { type = t; form = lvalue l }) init ≡ Some set → effect_nodes set 1 ≤ 1 + initialiser_count init
@@ -316,7 +315,7 @@ module _ (s : Scope) where
       let h = set_counted (pointer_to o) ps.value sets.value refl suit sets.first in
       let i = effect_less sets.value in
       let k = least ps.value ps.first in
-      subst (λ z. effect_nodes z 0 ≤ n) (same _ set sets.then) (omega arith)
+      subst (λ z. effect_nodes z 0 ≤ n) (same_Some _ set sets.then) (omega arith)
 
   placed_parts : (t : TypeTree) (o : Object) (init : InitialiserTree) (set : Effect) → element_fits false c (Some t) init ≡ true
       → initialiser_faults false c (Some t) init ≡ [] → local_set s (record { type = t; form = lvalue (object (pointer_to o)) }) init ≡ Some set

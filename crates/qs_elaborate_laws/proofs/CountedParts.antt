@@ -1,5 +1,6 @@
 -- Where statements count nothing, their typed trees count at most the expressions in them.
 use Rattle.std.proofs.Common.{◌≡◌, ◌≤◌, ℕ, ◌+◌, false, List, [], ◌∷◌, Option, Some, None, sym, subst, arith}
+use Rattle.std.proofs.lemmas.Option.{same_Some}
 use Rattle.qs_syntax.specs.declared.nodes.Node.{Node}
 use Rattle.qs_syntax.specs.declared.types.Base.{Base}
 use Rattle.qs_syntax.specs.Trees.{ExprTree, InitialiserTree, VariableTree, StartTree, no_start, start_expression, start_declaration, StmtTree, empty, expression, declaration, block, branch, while_loop, do_loop, for_loop, break, continue, return, Stmts, no_stmts, stmt_and, Else, no_else, else_by}
@@ -19,7 +20,6 @@ use Rattle.qs_meaning.specs.Forms.{value_in_use}
 use Rattle.qs_meaning.specs.Names.{Scope, within, local_lvalue}
 use Rattle.qs_meaning.specs.Expressions.{typed}
 use Rattle.qs_meaning.specs.Statements.{initialised, behind_variable, variable_typed, variables_typed, effect_typed, option_effect, condition_typed, option_condition, start_typed, return_typed, inner, loop_body, in_for, statement_typed, statements_typed, else_typed}
-use Rattle.qs_meaning.proofs.Options.{same}
 use Rattle.qs_meaning.proofs.FaultlessExpressions.{none_left, none_right, unbroken}
 use Rattle.qs_elaborate_laws.specs.Counts.{nodes, effect_nodes, option_nodes, statement_nodes, statements_nodes}
 use Rattle.qs_elaborate_laws.specs.ExpressionCounts.{initialiser_expressions, variable_expressions, start_expressions, stmt_expressions, stmts_expressions, else_expressions}
@@ -28,10 +28,10 @@ use Rattle.qs_elaborate_laws.proofs.CountedInitialisers.{local_parts, local_type
 use Rattle.qs_elaborate_laws.proofs.CountedStatements.{initialiser_unbroken, initialiser_faultless, effect_counted, option_effect_counted, condition_counted, option_condition_counted, condition_kept, return_counted, start_known, option_known, if_tests}
 
 effect_as : (n : ℕ) (x set : Effect) → Some x ≡ Some set → effect_nodes x 0 ≤ n → effect_nodes set 0 ≤ n
-effect_as n x set e h = subst (λ z. effect_nodes z 0 ≤ n) (same x set e) h
+effect_as n x set e h = subst (λ z. effect_nodes z 0 ≤ n) (same_Some x set e) h
 
 statement_as : (n : ℕ) (x a : Stmt) → Some x ≡ Some a → statement_nodes x 0 ≤ n → statement_nodes a 0 ≤ n
-statement_as n x a e h = subst (λ z. statement_nodes z 0 ≤ n) (same x a e) h
+statement_as n x a e h = subst (λ z. statement_nodes z 0 ≤ n) (same_Some x a e) h
 
 -- ---- variables
 
@@ -78,7 +78,7 @@ return_parts s node (Some e) a f q =
     let t = followed s.context.result _ a q in
     let x = followed (typed s e) _ a t.then in
     let h = return_counted s node (Some e) a f q in
-    let v : 1 + nodes (value_in_use x.value) 1 ≤ 1 + expr_count e = subst (λ z. statement_nodes z 1 ≤ 1 + expr_count e) (sym (same _ a x.then)) h in
+    let v : 1 + nodes (value_in_use x.value) 1 ≤ 1 + expr_count e = subst (λ z. statement_nodes z 1 ≤ 1 + expr_count e) (sym (same_Some _ a x.then)) h in
     let i = nodes_less (value_in_use x.value) in
     statement_as (expr_count e) _ a x.then (omega arith)
 
@@ -147,14 +147,14 @@ mutual
 
   pub statements_parts : (ss : Stmts) (s : Scope) (list : typed_trees.Stmts) → statements_faults s.context ss ≡ [] → statements_typed s ss ≡ Some list
       → statements_nodes list 0 ≤ stmts_expressions ss
-  statements_parts no_stmts s list f q = subst (λ z. statements_nodes z 0 ≤ 0) (same _ list q) (omega arith)
+  statements_parts no_stmts s list f q = subst (λ z. statements_nodes z 0 ≤ 0) (same_Some _ list q) (omega arith)
   statements_parts (stmt_and t ts) s list f q =
       let after = within s (after_statement s.context t) in
       let x = followed (statement_typed s t) _ list q in
       let y = followed (statements_typed after ts) _ list x.then in
       let i = statement_parts t s x.value (none_left (statement_faults s.context t) (statements_faults after.context ts) f) x.first in
       let j = statements_parts ts after y.value (none_right (statement_faults s.context t) (statements_faults after.context ts) f) y.first in
-      subst (λ z. statements_nodes z 0 ≤ stmt_expressions t + stmts_expressions ts) (same _ list y.then) (omega arith)
+      subst (λ z. statements_nodes z 0 ≤ stmt_expressions t + stmts_expressions ts) (same_Some _ list y.then) (omega arith)
 
   else_parts : (r : Else) (s : Scope) (a : Stmt) → else_faults s.context r ≡ [] → else_typed s r ≡ Some a → statement_nodes a 0 ≤ else_expressions r
   else_parts no_else s a f q = statement_as 0 _ a q (omega arith)

@@ -1,5 +1,7 @@
 -- The typed trees of statements count at most the nodes of the statements.
 use Rattle.std.proofs.Common.{◌≡◌, ◌≤◌, ℕ, ◌+◌, Bool, true, false, not, ◌&&◌, List, [], ◌∷◌, ◌++◌, Option, Some, None, is_some, refl, sym, ap, ◌∙◌, subst, arith, if◌then◌else◌}
+use Rattle.std.specs.Cmp.{second_so}
+use Rattle.std.proofs.lemmas.Option.{same_Some}
 use Rattle.qs_syntax.specs.declared.nodes.Node.{Node}
 use Rattle.qs_syntax.specs.declared.types.Base.{Base}
 use Rattle.qs_syntax.specs.Trees.{ExprTree, InitialiserTree, VariableTree, StartTree, no_start, start_expression, start_declaration, StmtTree, empty, expression, declaration, block, branch, while_loop, do_loop, for_loop, break, continue, return, Stmts, no_stmts, stmt_and, Else, no_else, else_by}
@@ -20,7 +22,7 @@ use Rattle.qs_meaning.specs.Forms.{type_in_use}
 use Rattle.qs_meaning.specs.Names.{Scope, Locals, within, place_among, local_lvalue}
 use Rattle.qs_meaning.specs.Expressions.{typed}
 use Rattle.qs_meaning.specs.Statements.{initialised, behind_variable, variable_typed, variables_typed, effect_typed, option_effect, condition_typed, option_condition, start_typed, return_typed, inner, loop_body, in_for, statement_typed, statements_typed, else_typed}
-use Rattle.qs_meaning.proofs.Options.{never, right, same}
+use Rattle.qs_meaning.proofs.Options.{never}
 use Rattle.qs_meaning.proofs.FaultlessExpressions.{none_left, none_right, unbroken, second_unbroken}
 use Rattle.qs_meaning.proofs.Bodies.{not_held_back}
 use Rattle.qs_elaborate_laws.specs.Counts.{nodes, effect_nodes, option_nodes, statement_nodes, statements_nodes}
@@ -30,13 +32,13 @@ use Rattle.qs_elaborate_laws.proofs.CountedExpressions.{expression_counted}
 use Rattle.qs_elaborate_laws.proofs.CountedInitialisers.{local_counted, local_typed, kept_fit}
 
 effect_as : (n : ℕ) (x set : Effect) → Some x ≡ Some set → effect_nodes x 1 ≤ n → effect_nodes set 1 ≤ n
-effect_as n x set e h = subst (λ z. effect_nodes z 1 ≤ n) (same x set e) h
+effect_as n x set e h = subst (λ z. effect_nodes z 1 ≤ n) (same_Some x set e) h
 
 value_as : (n : ℕ) (x y : Expr) → Some x ≡ Some y → nodes x 1 ≤ n → nodes y 1 ≤ n
-value_as n x y e h = subst (λ z. nodes z 1 ≤ n) (same x y e) h
+value_as n x y e h = subst (λ z. nodes z 1 ≤ n) (same_Some x y e) h
 
 statement_as : (n : ℕ) (x a : Stmt) → Some x ≡ Some a → statement_nodes x 1 ≤ n → statement_nodes a 1 ≤ n
-statement_as n x a e h = subst (λ z. statement_nodes z 1 ≤ n) (same x a e) h
+statement_as n x a e h = subst (λ z. statement_nodes z 1 ≤ n) (same_Some x a e) h
 
 -- ---- variables
 
@@ -108,10 +110,10 @@ condition_counted s e x tests q =
 
 pub option_condition_counted : (s : Scope) (e : Option ExprTree) (x : Option Expr) → breaks_one (option_condition_tests s.context e) ≡ false → option_condition s e ≡ Some x
     → option_nodes x 1 ≤ option_count expr_count e
-option_condition_counted s None x tests q = subst (λ z. option_nodes z 1 ≤ 0) (same _ x q) (omega arith)
+option_condition_counted s None x tests q = subst (λ z. option_nodes z 1 ≤ 0) (same_Some _ x q) (omega arith)
 option_condition_counted s (Some e) x tests q =
     let y = followed (condition_typed s e) _ x q in
-    subst (λ z. option_nodes z 1 ≤ expr_count e) (same _ x y.then) (condition_counted s e y.value tests y.first)
+    subst (λ z. option_nodes z 1 ≤ expr_count e) (same_Some _ x y.then) (condition_counted s e y.value tests y.first)
 
 pub condition_kept : (c : Context) (node : Node) (e : ExprTree) → condition_faults c node e ≡ [] → breaks_one (condition_tests (type_of c e)) ≡ false
 condition_kept c node e f = unbroken node.id (condition_tests (type_of c e)) (none_left (faults_of node.id (condition_tests (type_of c e))) _ f)
@@ -125,7 +127,7 @@ return_counted s node (Some e) a f q =
     let tests = subst (λ o. breaks_one (returns t.value e o) ≡ false) (typed_type s e x.value x.first)
     (subst (λ o. breaks_one (return_tests s.context o (Some e)) ≡ false) t.first (unbroken node.id (return_tests s.context s.context.result (Some e)) f)) in
     let v = (expression_counted s e x.value x.first).value
-    (assignable_value t.value e (type_in_use x.value) (null_value s.context e x.value.type (typed_type s e x.value x.first)) (right (not (is_void t.value)) _ (kept _ tests))) in
+    (assignable_value t.value e (type_in_use x.value) (null_value s.context e x.value.type (typed_type s e x.value x.first)) (second_so (not (is_void t.value)) _ (kept _ tests))) in
     statement_as (1 + expr_count e) _ a x.then (omega arith)
 
 start_counted : (s : Scope) (start : StartTree) (set : Effect) → start_faults s.context start ≡ [] → start_typed s start ≡ Some set → effect_nodes set 1 ≤ start_count start
@@ -208,14 +210,14 @@ mutual
 
   pub statements_counted : (ss : Stmts) (s : Scope) (list : typed_trees.Stmts) → statements_faults s.context ss ≡ [] → statements_typed s ss ≡ Some list
       → statements_nodes list 1 ≤ stmts_count ss
-  statements_counted no_stmts s list f q = subst (λ z. statements_nodes z 1 ≤ 0) (same _ list q) (omega arith)
+  statements_counted no_stmts s list f q = subst (λ z. statements_nodes z 1 ≤ 0) (same_Some _ list q) (omega arith)
   statements_counted (stmt_and t ts) s list f q =
       let after = within s (after_statement s.context t) in
       let x = followed (statement_typed s t) _ list q in
       let y = followed (statements_typed after ts) _ list x.then in
       let i = statement_counted t s x.value (none_left (statement_faults s.context t) (statements_faults after.context ts) f) x.first in
       let j = statements_counted ts after y.value (none_right (statement_faults s.context t) (statements_faults after.context ts) f) y.first in
-      subst (λ z. statements_nodes z 1 ≤ stmt_count t + stmts_count ts) (same _ list y.then) (omega arith)
+      subst (λ z. statements_nodes z 1 ≤ stmt_count t + stmts_count ts) (same_Some _ list y.then) (omega arith)
 
   else_counted : (r : Else) (s : Scope) (a : Stmt) → else_faults s.context r ≡ [] → else_typed s r ≡ Some a → statement_nodes a 1 ≤ else_count r
   else_counted no_else s a f q = statement_as 0 _ a q (omega arith)

@@ -6,6 +6,8 @@ use Rattle.std.proofs.lemmas.Slice.Eq.{bytes_eq-Decides}
 use Rattle.std.proofs.lemmas.List.{map-append}
 use Rattle.std.proofs.lemmas.List.Folds.{list_all-append}
 use Rattle.std.proofs.Math.Logic.{∥∥₁_elim}
+use Rattle.std.proofs.lemmas.Bool.{and_parts, and_from}
+use Rattle.std.proofs.lemmas.Option.{same_Some}
 use mathlib.Core.Bool.{Bool-set}
 use Rattle.qs_base.specs.Names.{is_name}
 use Rattle.qs_base.specs.Bytes.{same_bytes}
@@ -14,10 +16,9 @@ use Rattle.qs_syntax.specs.declared.nodes.Node.{Node}
 use Rattle.qs_syntax.specs.Trees.{ParameterTree, Stmts, FunctionTree, DeclTree, structure, forward, function, variables, UnitTree}
 use Rattle.qs_syntax.specs.Nodes.{function_nodes, decl_nodes, unit_nodes}
 use Rattle.qs_memory.specs.Partial.{◌>>=◌}
-use Rattle.qs_memory.proofs.Options.{some_same, followed}
+use Rattle.qs_memory.proofs.Options.{followed}
 use Rattle.qs_core.specs.Fits as fits
 use Rattle.qs_core.specs.Fits.{differ}
-use Rattle.qs_core.proofs.FitLaws.{both}
 use Rattle.qs_types.specs.Types.{TypeTree, int}
 use Rattle.qs_types.specs.declared.rules.Rule.{Rule}
 use Rattle.qs_types.specs.declared.rules.Rule.TheVariants as rules
@@ -49,7 +50,6 @@ use Rattle.qs_meaning.proofs.FitTexts.{texts_of_literals}
 use Rattle.qs_elaborate_bodies.specs.Names.{parameter_name, declared_parameter, statements_declare, function_declares, FunctionNames, body_names, function_names, declaration_names, declarations_names, names_in}
 use Rattle.qs_elaborate_bodies.specs.Units.{unit_core}
 use Rattle.qs_elaborate_laws.specs.FitLaws.{IsNamed, AreNamed, is_main_function, has_name, option_has_name, parameter_has_name, body_has_names, declaration_has_names, has_names, HasCore, UnitsHaveCores}
-use Rattle.qs_elaborate_laws.proofs.FitParts.{together}
 use Rattle.qs_elaborate_laws.proofs.FitDeclarations.{part_self, part_behind, part_front, part_different, ids}
 use Rattle.qs_elaborate_laws.proofs.FitFunctionNames.{parameters_count, parameters_differ, named_function}
 use Rattle.qs_elaborate_laws.proofs.FitRules.{is_new, parameters_new, main_type_kept, bodies_differ}
@@ -64,9 +64,9 @@ use Rattle.qs_elaborate_laws.proofs.Units.{core_follows, main_follows}
 all_have_names : (c : Context) (ps : List ParameterTree) → list_all parameter_has_name ps ≡ true → list_all (is_new c) ps ≡ true → list_all has_name (map declared_parameter ps) ≡ true
 all_have_names c [] h k = refl
 all_have_names c (p ∷ ps) h k =
-    let named = both (parameter_has_name p) _ h in
-    let new = both (is_new c p) _ k in
-    together (by_name p.name named.0 new.0) (all_have_names c ps named.1 new.1)
+    let named = and_parts (parameter_has_name p) _ h in
+    let new = and_parts (is_new c p) _ k in
+    and_from _ _ (by_name p.name named.0 new.0) (all_have_names c ps named.1 new.1)
   where
     by_name : (o : Option (List ℕ)) → option_has_name o ≡ true → (is_some o && not (is_name_declared c o)) ≡ true → is_name (parameter_name o) ≡ true
     by_name None h k = cc
@@ -110,9 +110,9 @@ module _ (s : Scope) (h : IsFileScope s.context) (f : FunctionTree) (body : Stmt
 
   whole_names : body_has_names f (Some body) ≡ true → (is_name f.name && list_all has_name (function_declares f body)) ≡ true
   whole_names h =
-      let two = both (is_name f.name && list_all parameter_has_name f.parameters) _ h in
-      let own = both (is_name f.name) _ two.0 in
-      together own.0 (list_all-append has_name (map declared_parameter f.parameters) (statements_declare body) ∙ together (all_have_names (inner_scope c) f.parameters own.1 new.0) two.1)
+      let two = and_parts (is_name f.name && list_all parameter_has_name f.parameters) _ h in
+      let own = and_parts (is_name f.name) _ two.0 in
+      and_from _ _ own.0 (list_all-append has_name (map declared_parameter f.parameters) (statements_declare body) ∙ and_from _ _ (all_have_names (inner_scope c) f.parameters own.1 new.0) two.1)
 
   result : Known (result_type c f)
   result = result_known c f (first_unbroken (result_tests c f) (main_tests f (header_of c f))
@@ -129,14 +129,14 @@ module _ (s : Scope) (h : IsFileScope s.context) (f : FunctionTree) (body : Stmt
       let v = followed (scalars_of (variables_among operands parameters in_statements)) _ g p.then in
       let z = followed (sizes_of c.structs (placed_among operands (parameters ++ in_statements))) _ g v.then in
       let b = followed (statements_typed (in_body s f (locals_of operands parameters in_statements)) body) _ g z.then in
-      let same = some_same _ g b.then in
+      let same = same_Some _ g b.then in
       record {
         named = named_function s f body is (whole_names names) nodes new.1 g k;
         marked = subst (λ (g : Function). g.is_main ≡ same_bytes g.name main_name) same refl;
         main = subst (λ (g : Function). same_bytes g.name main_name ≡ true → is_main_function (Some g) ≡ true) same (λ e.
             let tested = main_tested rules.MainType (same_bytes f.name main_name) (is_main_type (header_of c f)) e (main_type_kept c f faultless) in
-            let two = both (may_be int (result_type c f)) _ tested in
-            together (together ((bytes_eq-Decides f.name fits.main_name).1 ((bytes_exact f.name main_name).0 e))
+            let two = and_parts (may_be int (result_type c f)) _ tested in
+            and_from _ _ (and_from _ _ ((bytes_eq-Decides f.name fits.main_name).1 ((bytes_exact f.name main_name).0 e))
             (int_result (result_type c f) result.value result.is two.0))
             (parameters_promoted f.parameters (inner_scope c) (plain_among operands in_statements) p.value v.value
             (parameters_count (locals_of operands parameters in_statements) f.parameters types p.value p.first) v.first two.1));
@@ -166,11 +166,11 @@ none_given gs e = subst (λ (gs : List Function). GivesFunctions [] [] gs) e (re
 
 body_gives : (s : Scope) → IsFileScope s.context → (f : FunctionTree) → function_faults s.context f ≡ [] → declaration_has_names (function f) ≡ true → are_different (ids (function_nodes f)) ≡ true
     → (o : Option Stmts) → f.body ≡ o → (fs : List Function) → function_typed s f o ≡ Some fs → GivesFunctions (function_names s.context f o) (name_with_body f.name o) fs
-body_gives s h f faultless names nodes None is fs k = none_given fs (some_same [] fs k)
+body_gives s h f faultless names nodes None is fs k = none_given fs (same_Some [] fs k)
 body_gives s h f faultless names nodes (Some body) is fs k =
     let g = followed (function_with s f body (addressed_in s.context f body) (parameters_in s.context f) (statements_locals (body_context s.context f) body)) _ fs k in
     let one = whole_function s h f body is faultless (ap (body_has_names f) (sym is) ∙ names) nodes g.value g.first in
-    subst (λ (fs : List Function). GivesFunctions (body_names s.context f body ∷ []) (f.name ∷ []) fs) (some_same (g.value ∷ []) fs g.then)
+    subst (λ (fs : List Function). GivesFunctions (body_names s.context f body ∷ []) (f.name ∷ []) fs) (same_Some (g.value ∷ []) fs g.then)
     (record { whole = function_and _ _ [] [] one no_functions_more; called = ap (λ (x : List ℕ). x ∷ []) (name_is body g.value g.first) })
   where
     name_is : (body : Stmts) (g : Function) → function_with s f body (addressed_in s.context f body) (parameters_in s.context f) (statements_locals (body_context s.context f) body) ≡ Some g → g.name ≡ f.name
@@ -182,7 +182,7 @@ body_gives s h f faultless names nodes (Some body) is fs k =
         let v = followed (scalars_of (variables_among operands parameters in_statements)) _ g p.then in
         let z = followed (sizes_of s.context.structs (placed_among operands (parameters ++ in_statements))) _ g v.then in
         let b = followed (statements_typed (in_body s f (locals_of operands parameters in_statements)) body) _ g z.then in
-        sym (ap (λ (g : Function). g.name) (some_same _ g b.then))
+        sym (ap (λ (g : Function). g.name) (same_Some _ g b.then))
 
 abbrev names_with_body : DeclTree → List (List ℕ)
 names_with_body (structure d) = []
@@ -192,14 +192,14 @@ names_with_body (variables d) = []
 
 declaration_gives : (s : Scope) → IsFileScope s.context → (d : DeclTree) → declaration_faults s.context d ≡ [] → declaration_has_names d ≡ true → are_different (ids (decl_nodes d)) ≡ true
     → (now : TypedProgram) → declaration_typed s d ≡ Some now → GivesFunctions (declaration_names s.context d) (names_with_body d) now.functions
-declaration_gives s h (structure d) faultless names nodes now k = none_given now.functions (ap (λ (p : TypedProgram). p.functions) (some_same _ now k))
-declaration_gives s h (forward d) faultless names nodes now k = none_given now.functions (ap (λ (p : TypedProgram). p.functions) (some_same _ now k))
+declaration_gives s h (structure d) faultless names nodes now k = none_given now.functions (ap (λ (p : TypedProgram). p.functions) (same_Some _ now k))
+declaration_gives s h (forward d) faultless names nodes now k = none_given now.functions (ap (λ (p : TypedProgram). p.functions) (same_Some _ now k))
 declaration_gives s h (function f) faultless names nodes now k =
     let fs = followed (function_typed s f f.body) _ now k in
-    subst (λ (p : TypedProgram). GivesFunctions (function_names s.context f f.body) (name_with_body f.name f.body) p.functions) (some_same _ now fs.then)
+    subst (λ (p : TypedProgram). GivesFunctions (function_names s.context f f.body) (name_with_body f.name f.body) p.functions) (same_Some _ now fs.then)
     (body_gives s h f faultless names nodes f.body refl fs.value fs.first)
 declaration_gives s h (variables d) faultless names nodes now k =
-    let bs = followed (file_variables_typed s d.base d.variables) _ now k in none_given now.functions (ap (λ (p : TypedProgram). p.functions) (some_same _ now bs.then))
+    let bs = followed (file_variables_typed s d.base d.variables) _ now k in none_given now.functions (ap (λ (p : TypedProgram). p.functions) (same_Some _ now bs.then))
 
 functions_of : (d : DeclTree) (ds : UnitTree) → names_with_body d ++ functions_in ds ≡ functions_in (d ∷ ds)
 functions_of (structure d) ds = refl
@@ -210,12 +210,12 @@ functions_of (variables d) ds = refl
 module _ (s₀ : Scope) where
   declarations_give : (ds : UnitTree) (c : Context) → IsFileScope c → declarations_faults c ds ≡ [] → list_all declaration_has_names ds ≡ true → are_different (ids (unit_nodes ds)) ≡ true
       → (p : TypedProgram) → declarations_typed (within s₀ c) ds ≡ Some p → GivesFunctions (declarations_names c ds) (functions_in ds) p.functions
-  declarations_give [] c h f names nodes p k = none_given p.functions (ap (λ (p : TypedProgram). p.functions) (some_same _ p k))
+  declarations_give [] c h f names nodes p k = none_given p.functions (ap (λ (p : TypedProgram). p.functions) (same_Some _ p k))
   declarations_give (d ∷ ds) c h f names nodes p k =
       let own = none_left (declaration_faults c d) (declarations_faults (after_declaration c d) ds) f in
       let later = none_right (declaration_faults c d) (declarations_faults (after_declaration c d) ds) f in
       let scope = (declaration_known s₀ d c h own).scope in
-      let two = both (declaration_has_names d) _ names in
+      let two = and_parts (declaration_has_names d) _ names in
       let split = map-append (λ (n : Node). n.id) (decl_nodes d) (unit_nodes ds) in
       let apart = subst (λ (xs : List ℕ). are_different xs ≡ true) split nodes in
       let first_apart = part_different (ids (decl_nodes d)) (ids (decl_nodes d) ++ ids (unit_nodes ds))
@@ -226,7 +226,7 @@ module _ (s₀ : Scope) where
       let rest = followed (declarations_typed (within s₀ (after_declaration c d)) ds) _ p now.then in
       let here = declaration_gives (within s₀ c) h d own two.0 first_apart now.value now.first in
       let others = declarations_give ds (after_declaration c d) scope later two.1 rest_apart rest.value rest.first in
-      subst (λ (p : TypedProgram). GivesFunctions (declaration_names c d ++ declarations_names (after_declaration c d) ds) (functions_in (d ∷ ds)) p.functions) (some_same _ p rest.then)
+      subst (λ (p : TypedProgram). GivesFunctions (declaration_names c d ++ declarations_names (after_declaration c d) ds) (functions_in (d ∷ ds)) p.functions) (same_Some _ p rest.then)
       (record {
         whole = wholes_append (declaration_names c d) (declarations_names (after_declaration c d) ds) now.value.functions rest.value.functions here.whole others.whole;
         called = map-append (λ (g : Function). g.name) now.value.functions rest.value.functions
@@ -256,7 +256,7 @@ main_at ns gs whole k g is marked = ap is_main_function is ∙ found ns gs whole
     found : (ns : List FunctionNames) (gs : List Function) → AreWholeFunctions ns gs → (k : ℕ) (g : Function) → slice_get gs k ≡ Some g → g.is_main ≡ true → is_main_function (Some g) ≡ true
     found _ _ no_functions_more k g is marked = cc
     found _ _ (function_and n f ns gs one rest) zero g is marked =
-        let same = some_same f g is in
+        let same = same_Some f g is in
         subst (λ (f : Function). is_main_function (Some f) ≡ true) same (one.main (sym one.marked ∙ ap (λ (f : Function). f.is_main) same ∙ marked))
     found _ _ (function_and n f ns gs one rest) (suc k) g is marked = found ns gs rest k g is marked
 
@@ -267,7 +267,7 @@ has_core unit read names texts well limits =
     let t = units_typed unit well in
     let u = t.0 in
     let d = followed (declarations_typed (start_scope unit) unit) _ u t.1 in
-    let same : d.value.functions ≡ u.functions = ap (λ (p : TypedProgram). p.functions) (some_same _ u d.then) in
+    let same : d.value.functions ≡ u.functions = ap (λ (p : TypedProgram). p.functions) (same_Some _ u d.then) in
     let gives = declarations_give (start_scope unit) unit start_context start_known well.keeps_rules names read.numbers d.value d.first in
     let functions = subst (λ (gs : List Function). GivesFunctions (names_in unit) (functions_in unit) gs) same gives in
     let apart = (bodies_differ (start_scope unit) unit start_context start_known well.keeps_rules).1 in

@@ -4,6 +4,7 @@ use Rattle.std.specs.List.{slice_get, list_all}
 use Rattle.std.proofs.lemmas.Bool.Decides.{nat_tests}
 use Rattle.std.proofs.lemmas.Option.{slice_get-map}
 use Rattle.std.proofs.lemmas.List.{length-map}
+use Rattle.std.proofs.lemmas.Bool.{and_parts, and_from}
 use Rattle.qs_memory.specs.Values.{Pointer, null, into}
 use Rattle.qs_memory.specs.Memory.{Cell, unset, BlankTree, zeros, nulls, repeated, nothing, joined, Block, block_at}
 use Rattle.qs_memory.specs.Soundness.{IsLive, IsSoundInto, IsSoundPointer, IsSoundCell}
@@ -12,7 +13,7 @@ use Rattle.qs_memory.proofs.CellLaws.{Each}
 use Rattle.qs_core.specs.Trees.{PieceTree, blank, bytes, pointer, DataBlockTree, CoreUnitTree}
 use Rattle.qs_core.specs.Units.{data_block}
 use Rattle.qs_core.specs.Fits.{is_in_data, piece_fits, data_fits}
-use Rattle.qs_core.proofs.FitLaws.{both, all_at}
+use Rattle.qs_core.proofs.FitLaws.{all_at}
 use Rattle.qs_meaning.specs.Typed.{StaticBlock, TypedProgram}
 use Rattle.qs_meaning.specs.Units.{block_of, initial_memory}
 use Rattle.qs_elaborate_bodies.specs.Names.{FunctionNames}
@@ -21,7 +22,6 @@ use Rattle.qs_elaborate_bodies.specs.Units.{unit_core}
 use Rattle.qs_meaning.specs.Whole.{AreWhole, no_cells, byte_before, pointer_before}
 use Rattle.qs_elaborate_laws.specs.FitLaws.{AreBlocks}
 use Rattle.qs_elaborate_laws.proofs.Data.{cells_kept}
-use Rattle.qs_elaborate_laws.proofs.FitParts.{together}
 
 -- ---- blocks by their numbers
 
@@ -53,7 +53,7 @@ each_cell P (c ∷ cells) h = (h 0 (omega arith), each_cell P cells (λ o lt. h 
 
 all_blocks : (test : DataBlockTree → Bool) (bs : List StaticBlock) → ((k : ℕ) (b : StaticBlock) → slice_get bs k ≡ Some b → test (data_core b) ≡ true) → list_all test (map data_core bs) ≡ true
 all_blocks test [] h = refl
-all_blocks test (b ∷ bs) h = together (h 0 b refl) (all_blocks test bs (λ k c is. h (suc k) c is))
+all_blocks test (b ∷ bs) h = and_from _ _ (h 0 b refl) (all_blocks test bs (λ k c is. h (suc k) c is))
 
 module _ (names : List FunctionNames) (p : TypedProgram) (main : ℕ) (blocks : AreBlocks p) where
   abbrev unit : CoreUnitTree
@@ -83,11 +83,11 @@ module _ (names : List FunctionNames) (p : TypedProgram) (main : ℕ) (blocks : 
   Fit ps = list_all (piece_fits unit) ps ≡ true
 
   byte_kept : (b : ℕ) → b < 256 → (ps : List PieceTree) → Fit ps → Fit (with_byte b ps)
-  byte_kept b small [] h = together (together (grind (arith, nat_tests, small)) refl) refl
+  byte_kept b small [] h = and_from _ _ (and_from _ _ (grind (arith, nat_tests, small)) refl) refl
   byte_kept b small (bytes bs ∷ ps) h =
-      let two = both (piece_fits unit (bytes bs)) _ h in together (together (grind (arith, nat_tests, small)) two.0) two.1
-  byte_kept b small (blank c ∷ ps) h = together (together (grind (arith, nat_tests, small)) refl) h
-  byte_kept b small (pointer block offset ∷ ps) h = together (together (grind (arith, nat_tests, small)) refl) h
+      let two = and_parts (piece_fits unit (bytes bs)) _ h in and_from _ _ (and_from _ _ (grind (arith, nat_tests, small)) two.0) two.1
+  byte_kept b small (blank c ∷ ps) h = and_from _ _ (and_from _ _ (grind (arith, nat_tests, small)) refl) h
+  byte_kept b small (pointer block offset ∷ ps) h = and_from _ _ (and_from _ _ (grind (arith, nat_tests, small)) refl) h
 
   null_before_kept : (b : BlankTree) (ps : List PieceTree) → Fit ps → Fit (with_null_before b ps)
   null_before_kept (nulls n) ps h = h
@@ -104,7 +104,7 @@ module _ (names : List FunctionNames) (p : TypedProgram) (main : ℕ) (blocks : 
 
   piece_kept : (q : Pointer) → IsSoundPointer (initial_memory p) q → (ps : List PieceTree) → Fit ps → Fit (with_pointer q ps)
   piece_kept null sound ps h = null_kept ps h
-  piece_kept (into block offset) sound ps h = together (pointer_kept block offset sound) h
+  piece_kept (into block offset) sound ps h = and_from _ _ (pointer_kept block offset sound) h
 
   pieces_fit : (cells : List Cell) → AreWhole cells → Each (IsSoundCell (initial_memory p)) cells → Fit (pieces_behind 0 cells)
   pieces_fit _ no_cells each = refl
@@ -120,7 +120,7 @@ module _ (names : List FunctionNames) (p : TypedProgram) (main : ℕ) (blocks : 
       subst (λ (c : Block). IsSoundCell (initial_memory p) (c.cells o)) at (blocks.sound.cells k o live (subst (λ (c : Block). o < c.size) (sym at) lt))) in
       let small = all_at (λ n. nat_le n largest_size) (map (λ (c : StaticBlock). length c.cells) p.blocks) k (length b.cells) blocks.are_whole.small
       (slice_get-map (λ (c : StaticBlock). length c.cells) p.blocks k ∙ ap (option_map (λ (c : StaticBlock). length c.cells)) is) in
-      together (pieces_fit b.cells (whole_at p.blocks blocks.are_whole.whole k b is) cells) (ap (λ (n : ℕ). nat_le n largest_size) (size_kept k b is) ∙ small)
+      and_from _ _ (pieces_fit b.cells (whole_at p.blocks blocks.are_whole.whole k b is) cells) (ap (λ (n : ℕ). nat_le n largest_size) (size_kept k b is) ∙ small)
 
   pub blocks_fit : list_all (data_fits unit) unit.data_blocks ≡ true
   blocks_fit = all_blocks (data_fits unit) p.blocks block_fits

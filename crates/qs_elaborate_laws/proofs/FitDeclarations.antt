@@ -1,6 +1,7 @@
 -- What a function declares stands among its nodes in order, and its variables are among what it declares.
 use Rattle.std.proofs.Common.{◌≡◌, ℕ, ◌==◌, ◌||◌, not, Bool, true, false, cond, List, [], ◌∷◌, ◌++◌, map, filter, Option, Some, refl, sym, ap, ◌∙◌, subst}
 use Rattle.std.proofs.lemmas.List.{map-append}
+use Rattle.std.proofs.lemmas.Bool.{and_parts, or_right, and_from}
 use Rattle.qs_syntax.specs.declared.types.Base.{Base}
 use Rattle.qs_syntax.specs.declared.nodes.Node.{Node}
 use Rattle.qs_syntax.specs.Trees.{VariableTree, ParameterTree, StartTree, no_start, start_expression, start_declaration, StmtTree, empty, expression, declaration, block, branch, while_loop, do_loop, for_loop, break, continue, return, Stmts, no_stmts, stmt_and, Else, no_else, else_by, FunctionTree}
@@ -9,11 +10,9 @@ use Rattle.qs_types.specs.Contexts.{Context, inner_scope, inside_loop}
 use Rattle.qs_types.specs.StatementRules.{after_variable, after_statement, for_context}
 use Rattle.qs_types.specs.UnitRules.{parameter_types, after_parameter}
 use Rattle.qs_types.specs.Placed.{Local, is_one_of, variables_locals, start_locals, statement_locals, statements_locals, else_locals, parameters_locals}
-use Rattle.qs_core.proofs.FitLaws.{both}
 use Rattle.qs_meaning.specs.Units.{nodes_of}
 use Rattle.qs_meaning.specs.FitLaws.{are_different}
 use Rattle.qs_elaborate_bodies.specs.Names.{Declared, declared_variable, declared_parameter, start_declares, statement_declares, statements_declare, else_declares, function_declares}
-use Rattle.qs_elaborate_laws.proofs.FitParts.{together}
 use Rattle.qs_elaborate_laws.proofs.FitNames.{nodes_declared}
 
 -- ---- a list without some of its elements
@@ -45,10 +44,6 @@ part_front _ _ zs nothing = part_none zs
 part_front _ _ zs (taken x xs ys h) = taken x xs (ys ++ zs) (part_front xs ys zs h)
 part_front _ _ zs (left_out y xs ys h) = left_out y xs (ys ++ zs) (part_front xs ys zs h)
 
-or_second : (a b : Bool) → b ≡ true → (a || b) ≡ true
-or_second true b h = refl
-or_second false b h = h
-
 pub part_in : (xs ys : List ℕ) → IsPart xs ys → (n : ℕ) → is_one_of n xs ≡ true → is_one_of n ys ≡ true
 part_in _ _ nothing n h = h
 part_in _ _ (taken x xs ys k) n h = by_test (x == n) (is_one_of n xs) (is_one_of n ys) (part_in xs ys k n) h
@@ -56,19 +51,19 @@ part_in _ _ (taken x xs ys k) n h = by_test (x == n) (is_one_of n xs) (is_one_of
     by_test : (a b c : Bool) → (b ≡ true → c ≡ true) → (a || b) ≡ true → (a || c) ≡ true
     by_test true b c f h = refl
     by_test false b c f h = f h
-part_in _ _ (left_out y xs ys k) n h = or_second (y == n) (is_one_of n ys) (part_in xs ys k n h)
+part_in _ _ (left_out y xs ys k) n h = or_right (y == n) (is_one_of n ys) (part_in xs ys k n h)
 
 pub part_different : (xs ys : List ℕ) → IsPart xs ys → are_different ys ≡ true → are_different xs ≡ true
 part_different _ _ nothing h = refl
 part_different _ _ (taken x xs ys k) h =
-    let two = both (not (is_one_of x ys)) _ h in
-    together (by_test (is_one_of x xs) (is_one_of x ys) (part_in xs ys k x) two.0) (part_different xs ys k two.1)
+    let two = and_parts (not (is_one_of x ys)) _ h in
+    and_from _ _ (by_test (is_one_of x xs) (is_one_of x ys) (part_in xs ys k x) two.0) (part_different xs ys k two.1)
   where
     by_test : (b c : Bool) → (b ≡ true → c ≡ true) → not c ≡ true → not b ≡ true
     by_test false c f h = refl
     by_test true false f h = f refl
     by_test true true f h = h
-part_different _ _ (left_out y xs ys k) h = part_different xs ys k (both (not (is_one_of y ys)) _ h).1
+part_different _ _ (left_out y xs ys k) h = part_different xs ys k (and_parts (not (is_one_of y ys)) _ h).1
 
 -- ---- declarations among nodes
 

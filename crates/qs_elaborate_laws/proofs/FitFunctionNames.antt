@@ -2,15 +2,16 @@
 use Rattle.std.proofs.Common.{◌≡◌, ◌&&◌, ℕ, suc, ◌==◌, not, Bool, true, List, [], ◌∷◌, ◌++◌, length, map, Option, Some, refl, sym, ap, ◌∙◌, subst, arith}
 use Rattle.std.specs.List.{list_all}
 use Rattle.std.proofs.lemmas.List.{map-append, length-map, length-append}
+use Rattle.std.proofs.lemmas.Bool.{and_parts}
+use Rattle.std.proofs.lemmas.Option.{same_Some}
 use Rattle.qs_base.specs.Names.{is_name}
 use Rattle.qs_base.specs.Bytes.{same_bytes}
 use Rattle.qs_syntax.specs.Trees.{ParameterTree, Stmts, FunctionTree}
 use Rattle.qs_syntax.specs.Nodes.{function_nodes}
 use Rattle.qs_memory.specs.declared.scalar.Scalar.{Scalar}
-use Rattle.qs_memory.proofs.Options.{some_same, followed}
+use Rattle.qs_memory.proofs.Options.{followed}
 use Rattle.qs_calls.specs.declared.parameter.Parameter.{Parameter}
 use Rattle.qs_core.specs.Fits.{differ}
-use Rattle.qs_core.proofs.FitLaws.{both}
 use Rattle.qs_types.specs.Types.{TypeTree}
 use Rattle.qs_types.specs.Contexts.{Context, inner_scope}
 use Rattle.qs_types.specs.UnitRules.{parameter_types, body_context}
@@ -30,20 +31,20 @@ use Rattle.qs_elaborate_laws.proofs.FitDeclarations.{IsPart, part_self, part_fro
 -- ---- as many as there are
 
 scalars_count : (ls : List Local) (ss : List Scalar) → scalars_of ls ≡ Some ss → length ss ≡ length (nodes_of ls)
-scalars_count [] ss h = ap (λ (xs : List Scalar). length xs) (sym (some_same [] ss h))
+scalars_count [] ss h = ap (λ (xs : List Scalar). length xs) (sym (same_Some [] ss h))
 scalars_count (l ∷ ls) ss h =
     let t = followed l.type _ ss h in
     let rest = followed (scalars_of ls) _ ss t.then in
-    ap (λ (xs : List Scalar). length xs) (sym (some_same (scalar_of t.value ∷ rest.value) ss rest.then)) ∙ ap (λ (n : ℕ). suc n) (scalars_count ls rest.value rest.first)
+    ap (λ (xs : List Scalar). length xs) (sym (same_Some (scalar_of t.value ∷ rest.value) ss rest.then)) ∙ ap (λ (n : ℕ). suc n) (scalars_count ls rest.value rest.first)
 
 pub parameters_count : (locals : Locals) (ps : List ParameterTree) (ts : List (Option TypeTree)) (qs : List Parameter) → parameters_typed locals ps ts ≡ Some qs → length qs ≡ length ps
-parameters_count locals [] [] qs h = ap (λ (xs : List Parameter). length xs) (sym (some_same [] qs h))
+parameters_count locals [] [] qs h = ap (λ (xs : List Parameter). length xs) (sym (same_Some [] qs h))
 parameters_count locals [] (t ∷ ts) qs h = cc
 parameters_count locals (p ∷ ps) [] qs h = cc
 parameters_count locals (p ∷ ps) (t ∷ ts) qs h =
     let first = followed (parameter_typed locals p t) _ qs h in
     let rest = followed (parameters_typed locals ps ts) _ qs first.then in
-    ap (λ (xs : List Parameter). length xs) (sym (some_same (first.value ∷ rest.value) qs rest.then)) ∙ ap (λ (n : ℕ). suc n) (parameters_count locals ps ts rest.value rest.first)
+    ap (λ (xs : List Parameter). length xs) (sym (same_Some (first.value ∷ rest.value) qs rest.then)) ∙ ap (λ (n : ℕ). suc n) (parameters_count locals ps ts rest.value rest.first)
 
 names_are : (ps : List ParameterTree) → map (λ (d : Declared). d.name) (map declared_parameter ps) ≡ map (λ (p : ParameterTree). parameter_name p.name) ps
 names_are [] = refl
@@ -118,9 +119,9 @@ module _ (s : Scope) (f : FunctionTree) (body : Stmts) (is : f.body ≡ Some bod
       let first = length-map here (λ (d : Declared). d.node) in
       let all = length-append (nodes_declared here) others in
       let same_count = ap (λ (xs : List ℕ). length xs) variables_nodes in
-      let own = both (is_name f.name) _ names in
+      let own = and_parts (is_name f.name) _ names in
       let declares = part_in (nodes_of variables_of) (nodes_declared declared) variables_part in
-      subst (IsNamed (body_names c f body)) (some_same _ g b.then) (record {
+      subst (IsNamed (body_names c f body)) (same_Some _ g b.then) (record {
         own = own.0;
         variables = all_named declared (nodes_of variables_of) v.value count declares own.1;
         different = all_apart declared (nodes_of variables_of) v.value count declares

@@ -1,6 +1,8 @@
 -- A well typed unit has a main, which returns an `int` and takes `int` and `unsigned` alone.
 use Rattle.std.proofs.Common.{◌≡◌, ◌⊎◌, inl, inr, ℕ, suc, ◌+◌, ◌||◌, Bool, true, false, List, [], ◌∷◌, ◌++◌, append-nil, length, Option, Some, None, is_some, refl, sym, ap, ◌∙◌, subst, arith, if◌then◌else◌}
 use Rattle.std.specs.List.{slice_get, list_all, list_any}
+use Rattle.std.proofs.lemmas.Bool.{and_parts, and_from}
+use Rattle.std.proofs.lemmas.Option.{same_Some}
 use Rattle.qs_base.specs.Bytes.{same_bytes}
 use Rattle.qs_base.proofs.ByteLaws.{bytes_exact}
 use Rattle.qs_syntax.specs.declared.types.Base.{Base}
@@ -8,9 +10,8 @@ use Rattle.qs_syntax.specs.Trees.{VariableTree, ParameterTree, Stmts, DeclTree, 
 use Rattle.qs_memory.specs.Scalars.{is_type, is_promoted}
 use Rattle.qs_memory.specs.declared.scalar.Scalar.{Scalar}
 use Rattle.qs_memory.specs.declared.scalar.Scalar.TheVariants as scalars
-use Rattle.qs_memory.proofs.Options.{some_same, followed}
+use Rattle.qs_memory.proofs.Options.{followed}
 use Rattle.qs_calls.specs.declared.parameter.Parameter.{Parameter}
-use Rattle.qs_core.proofs.FitLaws.{both}
 use Rattle.qs_types.specs.Types.{TypeTree, int, unsigned, char, void, pointer, array, struct, same_type, MemberTree, Structs}
 use Rattle.qs_types.specs.GivenFunctions.{Signature, main_name}
 use Rattle.qs_types.specs.Contexts.{Entity, local_variable, file_variable, given, Binding, Context, lookup, start_context}
@@ -25,7 +26,6 @@ use Rattle.qs_meaning.specs.Conversions.{scalar_of}
 use Rattle.qs_meaning.specs.Interfaces.{types_of}
 use Rattle.qs_meaning.specs.Runs.{main_from}
 use Rattle.qs_meaning.specs.Units.{scalars_of, result_scalar, name_with_body, functions_in}
-use Rattle.qs_elaborate_laws.proofs.FitParts.{together}
 use Rattle.qs_elaborate_laws.proofs.FitRules.{has_body_here, tag_inner, struct_inner}
 
 -- ---- types (5.1.2.2.1)
@@ -58,9 +58,9 @@ parameters_promoted (p ∷ ps) c rest [] ss long h k = absurd (omega arith)
 parameters_promoted (p ∷ ps) c rest (q ∷ qs) ss long h k =
     let t = followed (parameter_declared c p).type _ ss h in
     let others = followed (scalars_of (parameters_locals ps (parameter_types (after_parameter c p) ps) ++ rest)) _ ss t.then in
-    let two = both (is_main_parameter (parameter_declared c p).type) _ k in
-    subst (λ (xs : List Scalar). list_all is_promoted (types_of (q ∷ qs) xs) ≡ true) (some_same (scalar_of t.value ∷ others.value) ss others.then)
-    (together (one_promoted t.value (ap is_main_parameter (sym t.first) ∙ two.0)) (parameters_promoted ps (after_parameter c p) rest qs others.value (omega arith) others.first two.1))
+    let two = and_parts (is_main_parameter (parameter_declared c p).type) _ k in
+    subst (λ (xs : List Scalar). list_all is_promoted (types_of (q ∷ qs) xs) ≡ true) (same_Some (scalar_of t.value ∷ others.value) ss others.then)
+    (and_from _ _ (one_promoted t.value (ap is_main_parameter (sym t.first) ∙ two.0)) (parameters_promoted ps (after_parameter c p) rest qs others.value (omega arith) others.first two.1))
 
 -- ---- contexts at file scope
 

@@ -1,6 +1,7 @@
 -- Operands, places, writes, calls and branches fit, where their parts do.
 use Rattle.std.proofs.Common.{◌≡◌, ℕ, ◌&&◌, not, Bool, true, false, List, [], ◌∷◌, ◌++◌, map, Option, Some, None, is_some, refl, sym, ap, ◌∙◌, subst, if◌then◌else◌}
 use Rattle.std.specs.List.{slice_get}
+use Rattle.std.proofs.lemmas.Bool.{and_parts, and_from}
 use Rattle.qs_memory.specs.Values.{Value, integer}
 use Rattle.qs_memory.specs.Operations.{binary_type}
 use Rattle.qs_memory.specs.Scalars.{same_scalar, is_type}
@@ -16,14 +17,13 @@ use Rattle.qs_core.specs.Trees as core
 use Rattle.qs_core.specs.Expressions.{type_of}
 use Rattle.qs_core.specs.Interfaces.{variable_type, interface_of}
 use Rattle.qs_core.specs.Fits.{expr_fits, exprs_fit, pointer_fits, any_mentions, taken_fits, call_fits, stmt_fits, stmts_fit}
-use Rattle.qs_core.proofs.FitLaws.{both}
 use Rattle.qs_meaning.specs.Typed.{Conversion, Order, as_written}
 use Rattle.qs_meaning.specs.Fits as source
 use Rattle.qs_meaning.specs.Fits.{type_after}
 use Rattle.qs_elaborate_bodies.specs.Literals.{literal_value, is_literal, converted_core}
 use Rattle.qs_elaborate_bodies.specs.Parts.{Temporaries, next_number, with_temporary, keep, Valued, Listed, in_temporary, saved, saved_if, joined, Location, plain, pointed, Located, at_address, with_saved_address, address_saved_if, value_at, value_read, written}
 use Rattle.qs_elaborate_bodies.specs.Expressions.{operation_core, ValuedAll, argument_before, call_valued, call_listed, branch_with, truth_core, truth_literal, and_branching, or_branching, choice_branching, choice_joined, Written, set_core, write_discarded, write_at, write_valued}
-use Rattle.qs_elaborate_laws.proofs.FitParts.{together, same_from, all_same_from, same_types, points, Extends, extends_self, extends_then, extends_with, found_last, found_later, list_append, one_fits, holding, AllFit, none_fit, both_fit, one_more_fits, expr_kept, exprs_kept, none_mentioned, converted_type, converted_fits, ordered_fits}
+use Rattle.qs_elaborate_laws.proofs.FitParts.{same_from, all_same_from, same_types, points, Extends, extends_self, extends_then, extends_with, found_last, found_later, list_append, one_fits, holding, AllFit, none_fit, both_fit, one_more_fits, expr_kept, exprs_kept, none_mentioned, converted_type, converted_fits, ordered_fits}
 
 module _ (u : CoreUnitTree) (f : CoreFunctionTree) where
   -- ---- one value
@@ -53,7 +53,7 @@ module _ (u : CoreUnitTree) (f : CoreFunctionTree) where
         more = extends_then h.more on;
         statements = both_fit u f v.temporaries (with_temporary v.temporaries (type_of v.value)) v.statements _ h.statements on
             (one_more_fits u f _ _ (λ b c later e.
-            together (expr_kept u f v.temporaries later (extends_then on e) v.value h.value)
+            and_from _ _ (expr_kept u f v.temporaries later (extends_then on e) v.value h.value)
             (ap (λ (o : Option Scalar). is_type o (type_of v.value)) (found_later v.temporaries (type_of v.value) e) ∙ same_from refl)));
         value = ap (λ (o : Option Scalar). is_type o (type_of v.value)) (found_last v.temporaries (type_of v.value)) ∙ same_from refl;
         type = h.type;
@@ -93,7 +93,7 @@ module _ (u : CoreUnitTree) (f : CoreFunctionTree) where
   -- to a type that it must have
   pub becomes_fits : (ts us : Temporaries) (c : Conversion) (v : Valued) (s t : Scalar) (z : Bool) → ValuedFits ts v s z → Extends v.temporaries us → (source.conversion_fits c s z && same_scalar (type_after c s) t) ≡ true → ConvertedFits us c v.value t
   becomes_fits ts us c v s t z h e fit =
-      let two = both (source.conversion_fits c s z) _ fit in
+      let two = and_parts (source.conversion_fits c s z) _ fit in
       let found = converted_valued ts us c v s z h e two.0 in
       record { value = found.value; type = found.type ∙ same_types two.1 }
 
@@ -121,15 +121,15 @@ module _ (u : CoreUnitTree) (f : CoreFunctionTree) where
   pub location_kept : (ts later : Temporaries) → Extends ts later → (s : Scalar) (l : Location) → location_fits ts s l ≡ true → location_fits later s l ≡ true
   location_kept ts later e s (plain x) h = h
   location_kept ts later e s (pointed a) h =
-      let two = both (expr_fits u (holding u f ts) a) _ h in together (expr_kept u f ts later e a two.0) two.1
+      let two = and_parts (expr_fits u (holding u f ts) a) _ h in and_from _ _ (expr_kept u f ts later e a two.0) two.1
 
   pub address_fits : (ts : Temporaries) (v : Valued) (s : Scalar) (z : Bool) → ValuedFits ts v scalars.Pointer z → LocatedFits ts (at_address v) s
-  address_fits ts v s z h = record { more = h.more; statements = h.statements; location = together h.value (points h.type) }
+  address_fits ts v s z h = record { more = h.more; statements = h.statements; location = and_from _ _ h.value (points h.type) }
 
   kept_address : (ts us : Temporaries) (ss : List CoreStmtTree) (l : Location) (s : Scalar) → Extends ts us → AllFit u f us ss → location_fits us s l ≡ true → LocatedFits ts (with_saved_address ss l us) s
   kept_address ts us ss (plain x) s e h fit = record { more = e; statements = h; location = fit }
   kept_address ts us ss (pointed a) s e h fit =
-      let two = both (expr_fits u (holding u f us) a) _ fit in
+      let two = and_parts (expr_fits u (holding u f us) a) _ fit in
       let v : Valued = record { statements = ss; value = a; temporaries = us } in
       address_fits ts (saved v) s false (saved_fits ts v scalars.Pointer false (record { more = e; statements = h; value = two.0; type = scalar_same (type_of a) scalars.Pointer two.1; zero = λ e. cc }))
 
@@ -155,8 +155,8 @@ module _ (u : CoreUnitTree) (f : CoreFunctionTree) where
   }
 
   pub written_fits : (ts : Temporaries) (b c : Bool) (s : Scalar) (l : Location) (a : CoreExprTree) → location_fits ts s l ≡ true → expr_fits u (holding u f ts) a ≡ true → type_of a ≡ s → stmt_fits u (holding u f ts) b c (written s l a) ≡ true
-  written_fits ts b c s (plain x) a place h e = together h (subst (λ (t : Scalar). is_type (variable_type f x) t ≡ true) (sym e) place)
-  written_fits ts b c s (pointed p) a place h e = together (together place h) (same_from e)
+  written_fits ts b c s (plain x) a place h e = and_from _ _ h (subst (λ (t : Scalar). is_type (variable_type f x) t ≡ true) (sym e) place)
+  written_fits ts b c s (pointed p) a place h e = and_from _ _ (and_from _ _ place h) (same_from e)
 
   -- ---- operations
 
@@ -210,9 +210,9 @@ module _ (u : CoreUnitTree) (f : CoreFunctionTree) where
         more = extends_then on next;
         statements = both_fit u f us (with_temporary us s) ss _ h next (record {
           fit = λ b c later k.
-              together
-              (together (expr_kept u f us later (extends_then next k) a fit) (subst (λ (t : Scalar). is_type (slice_get later (next_number us)) t ≡ true) (sym e) (in_it later k)))
-              (together (written_fits later b c s (pointed p) (core.temporary s (next_number us)) (location_kept us later (extends_then next k) s (pointed p) place) (in_it later k) refl) refl);
+              and_from _ _
+              (and_from _ _ (expr_kept u f us later (extends_then next k) a fit) (subst (λ (t : Scalar). is_type (slice_get later (next_number us)) t ≡ true) (sym e) (in_it later k)))
+              (and_from _ _ (written_fits later b c s (pointed p) (core.temporary s (next_number us)) (location_kept us later (extends_then next k) s (pointed p) place) (in_it later k) refl) refl);
         });
         value = ap (λ (o : Option Scalar). is_type o s) (found_last us s) ∙ same_from refl;
         type = refl;
@@ -262,7 +262,7 @@ module _ (u : CoreUnitTree) (f : CoreFunctionTree) where
       record {
         more = extends_then h.more k.more;
         statements = both_fit u f v.temporaries rest.temporaries v.statements rest.statements h.statements k.more k.statements;
-        values = together found.value k.values;
+        values = and_from _ _ found.value k.values;
         value_types = ap (λ (x : Scalar). x ∷ map type_of rest.values) first ∙ ap (λ (xs : List Scalar). t ∷ xs) others;
       }
 
@@ -273,11 +273,11 @@ module _ (u : CoreUnitTree) (f : CoreFunctionTree) where
   used_fits : (ts : Temporaries) (o : Option Signature) (s : Scalar) (k : ℕ) (es : List CoreExprTree) → source.result_fits o s ≡ true → map type_of es ≡ source.taken o → slice_get ts k ≡ Some s → any_mentions k es ≡ false → call_fits (holding u f ts) (Some k) o es ≡ true
   used_fits ts None s k es h types e none = cc
   used_fits ts (Some g) s k es h types e none =
-      together (all_same_from _ _ types) (together (taken_is ts g.result_type s k h e) (ap not none))
+      and_from _ _ (all_same_from _ _ types) (and_from _ _ (taken_is ts g.result_type s k h e) (ap not none))
 
   unused_fits : (ts : Temporaries) (o : Option Signature) (es : List CoreExprTree) → is_some o ≡ true → map type_of es ≡ source.taken o → call_fits (holding u f ts) None o es ≡ true
   unused_fits ts None es h types = cc
-  unused_fits ts (Some g) es h types = together (all_same_from _ _ types) refl
+  unused_fits ts (Some g) es h types = and_from _ _ (all_same_from _ _ types) refl
 
   pub call_used : (ts : Temporaries) (s : Scalar) (callee : Callee) (v : ValuedAll) (o : Option Signature) → signature_of (interface_of u) callee ≡ o → AllValuedFit ts v (source.taken o) → source.result_fits o s ≡ true → ValuedFits ts (call_valued s callee v) s false
   call_used ts s callee v o is h fit =
@@ -285,7 +285,7 @@ module _ (u : CoreUnitTree) (f : CoreFunctionTree) where
       record {
         more = extends_then h.more next;
         statements = then_fits v.temporaries (with_temporary v.temporaries s) v.statements _ h.statements next (λ b c later e.
-            together (exprs_kept u f v.temporaries later (extends_then next e) v.values h.values)
+            and_from _ _ (exprs_kept u f v.temporaries later (extends_then next e) v.values h.values)
             (subst (λ (p : Option Signature). call_fits (holding u f later) (Some (next_number v.temporaries)) p v.values ≡ true) (sym is)
             (used_fits later o s (next_number v.temporaries) v.values fit h.value_types (found_later v.temporaries s e) (none_mentioned u f v.temporaries v.values h.values))));
         value = ap (λ (p : Option Scalar). is_type p s) (found_last v.temporaries s) ∙ same_from refl;
@@ -297,7 +297,7 @@ module _ (u : CoreUnitTree) (f : CoreFunctionTree) where
   call_alone ts callee v o is h fit = record {
     more = h.more;
     statements = then_fits v.temporaries v.temporaries v.statements _ h.statements extends_self (λ b c later e.
-        together (exprs_kept u f v.temporaries later e v.values h.values)
+        and_from _ _ (exprs_kept u f v.temporaries later e v.values h.values)
         (subst (λ (p : Option Signature). call_fits (holding u f later) None p v.values ≡ true) (sym is) (unused_fits later o v.values fit h.value_types)));
   }
 
@@ -306,21 +306,21 @@ module _ (u : CoreUnitTree) (f : CoreFunctionTree) where
   branch_fits : (later : Temporaries) (b c : Bool) (ss : List CoreStmtTree) (k : ℕ) (a : CoreExprTree) (s : Scalar) → stmts_fit u (holding u f later) b c (stmts_of ss) ≡ true → expr_fits u (holding u f later) a ≡ true → type_of a ≡ s → slice_get later k ≡ Some s → stmt_fits u (holding u f later) b c (branch_with ss k a) ≡ true
   branch_fits later b c ss k a s h fit e found =
       one_fits u (holding u f later) b c (ss ++ keep k a ∷ []) (list_append u (holding u f later) b c ss (keep k a ∷ []) h
-      (together (together fit (ap (λ (o : Option Scalar). is_type o (type_of a)) found ∙ same_from (sym e))) refl))
+      (and_from _ _ (and_from _ _ fit (ap (λ (o : Option Scalar). is_type o (type_of a)) found ∙ same_from (sym e))) refl))
 
   -- the temporary k gets its value in both branches
   pub branching_fits : (ts us : Temporaries) (s t : Scalar) (z : Bool) (v : Valued) (k : ℕ) (p q : CoreStmtTree) → ValuedFits ts v t z → Extends v.temporaries us → slice_get us k ≡ Some s → ((b c : Bool) (later : Temporaries) → Extends us later → stmt_fits u (holding u f later) b c p ≡ true) → ((b c : Bool) (later : Temporaries) → Extends us later → stmt_fits u (holding u f later) b c q ≡ true) → ValuedFits ts (record { statements = v.statements ++ core.branch v.value p q ∷ []; value = core.temporary s k; temporaries = us }) s false
   branching_fits ts us s t z v k p q h on found fit_p fit_q = record {
     more = extends_then h.more on;
     statements = then_fits v.temporaries us v.statements _ h.statements on (λ b c later e.
-        together (together (expr_kept u f v.temporaries later (extends_then on e) v.value h.value) (fit_p b c later e)) (fit_q b c later e));
+        and_from _ _ (and_from _ _ (expr_kept u f v.temporaries later (extends_then on e) v.value h.value) (fit_p b c later e)) (fit_q b c later e));
     value = ap (λ (o : Option Scalar). is_type o s) found ∙ same_from refl;
     type = refl;
     zero = λ e. cc;
   }
 
   truth_fits : (ts : Temporaries) (a : CoreExprTree) → expr_fits u (holding u f ts) a ≡ true → expr_fits u (holding u f ts) (truth_core a) ≡ true
-  truth_fits ts a h = together h refl
+  truth_fits ts a h = and_from _ _ h refl
 
   pub and_fits : (ts : Temporaries) (v w : Valued) (s t : Scalar) (y z : Bool) → ValuedFits ts v s y → ValuedFits v.temporaries w t z → ValuedFits ts (and_branching v w) scalars.Int false
   and_fits ts v w s t y z h k =
@@ -359,7 +359,7 @@ module _ (u : CoreUnitTree) (f : CoreFunctionTree) where
         more = extends_then h.more (extends_then ha.more hb.more);
         statements = both_fit u f v.temporaries b.temporaries v.statements (a.statements ++ b.statements) h.statements (extends_then ha.more hb.more)
             (both_fit u f a.temporaries b.temporaries a.statements b.statements ha.statements hb.more hb.statements);
-        value = together (together (together (expr_kept u f v.temporaries b.temporaries (extends_then ha.more hb.more) v.value h.value) met.value) unmet.value)
+        value = and_from _ _ (and_from _ _ (and_from _ _ (expr_kept u f v.temporaries b.temporaries (extends_then ha.more hb.more) v.value h.value) met.value) unmet.value)
             (same_from (met.type ∙ sym unmet.type));
         type = met.type;
         zero = λ e. cc;

@@ -3,6 +3,7 @@ use Rattle.std.proofs.Common.{◌≡◌, ℕ, zero, suc, ◌<◌, ◌%◌, ◌^�
 use Rattle.std.specs.List.{slice_get}
 use Rattle.std.proofs.lemmas.Bool.Decides.{nat_tests}
 use Rattle.std.proofs.lemmas.Option.{slice_get_within}
+use Rattle.std.proofs.lemmas.Bool.{and_parts, and_from, or_from}
 use Rattle.qs_memory.specs.Partial.{◌>>=◌}
 use Rattle.qs_memory.specs.Values.{Value, integer, address, has_type, pointer_of_integer, convert}
 use Rattle.qs_memory.specs.Operations.{binary_type}
@@ -16,7 +17,6 @@ use Rattle.qs_core.specs.declared.numbers.BlockId.TheVariants.{Local, Data}
 use Rattle.qs_core.specs.Trees.{CoreExprTree, literal, null_pointer, variable, temporary, address_of, load, member, unary, binary, conversion, logical_and, logical_or, conditional, CoreStmtTree, stmts_of, CoreFunctionTree, CoreUnitTree}
 use Rattle.qs_core.specs.Expressions.{type_of}
 use Rattle.qs_core.specs.Fits.{expr_fits, exprs_fit, mentions, any_mentions, stmt_fits, stmts_fit}
-use Rattle.qs_core.proofs.FitLaws.{both}
 use Rattle.qs_meaning.specs.Typed.{Conversion, unchanged, converted, Order, as_written, exchanged}
 use Rattle.qs_meaning.specs.Fits as source
 use Rattle.qs_meaning.specs.Fits.{type_after}
@@ -25,14 +25,6 @@ use Rattle.qs_elaborate_bodies.specs.Parts.{Temporaries, next_number, with_tempo
 use Rattle.qs_elaborate_bodies.specs.Expressions.{in_their_order}
 
 -- ---- tests
-
-pub together : {a b : Bool} → a ≡ true → b ≡ true → (a && b) ≡ true
-together {a = true} h k = k
-together {a = false} h k = cc
-
-pub neither : {a b : Bool} → a ≡ false → b ≡ false → (a || b) ≡ false
-neither {a = false} h k = k
-neither {a = true} h k = cc
 
 -- ---- types
 
@@ -44,7 +36,7 @@ all_same_from ss ts e = subst (λ (us : List Scalar). same_scalars ss us ≡ tru
   where
     all_same_self : (us : List Scalar) → same_scalars us us ≡ true
     all_same_self [] = refl
-    all_same_self (u ∷ us) = together (same_self u) (all_same_self us)
+    all_same_self (u ∷ us) = and_from _ _ (same_self u) (all_same_self us)
 
 pub same_types : {s t : Scalar} → same_scalar s t ≡ true → s ≡ t
 same_types {s = s} {t = t} h = scalar_same s t h
@@ -87,11 +79,11 @@ found_later ts s e = e.each (next_number ts) s (found_last ts s)
 pub list_append : (u : CoreUnitTree) (g : CoreFunctionTree) (b c : Bool) (xs ys : List CoreStmtTree) → stmts_fit u g b c (stmts_of xs) ≡ true → stmts_fit u g b c (stmts_of ys) ≡ true → stmts_fit u g b c (stmts_of (xs ++ ys)) ≡ true
 list_append u g b c [] ys h k = k
 list_append u g b c (x ∷ xs) ys h k =
-    let two = both (stmt_fits u g b c x) (stmts_fit u g b c (stmts_of xs)) h in together two.0 (list_append u g b c xs ys two.1 k)
+    let two = and_parts (stmt_fits u g b c x) (stmts_fit u g b c (stmts_of xs)) h in and_from _ _ two.0 (list_append u g b c xs ys two.1 k)
 
 pub one_fits : (u : CoreUnitTree) (g : CoreFunctionTree) (b c : Bool) (ss : List CoreStmtTree) → stmts_fit u g b c (stmts_of ss) ≡ true → stmt_fits u g b c (one_statement ss) ≡ true
 one_fits u g b c [] h = refl
-one_fits u g b c (s ∷ []) h = (both (stmt_fits u g b c s) true h).0
+one_fits u g b c (s ∷ []) h = (and_parts (stmt_fits u g b c s) true h).0
 one_fits u g b c (s ∷ r ∷ ss) h = h
 
 module _ (u : CoreUnitTree) (f : CoreFunctionTree) where
@@ -115,7 +107,7 @@ module _ (u : CoreUnitTree) (f : CoreFunctionTree) where
       record { fit = λ b c later g. list_append u (holding later) b c xs ys (h.fit b c later (extends_then e g)) (k.fit b c later g) }
 
   pub one_more_fits : (ts : Temporaries) (s : CoreStmtTree) → ((b c : Bool) (later : Temporaries) → Extends ts later → stmt_fits u (holding later) b c s ≡ true) → AllFit ts (s ∷ [])
-  one_more_fits ts s h = record { fit = λ b c later e. together (h b c later e) refl }
+  one_more_fits ts s h = record { fit = λ b c later e. and_from _ _ (h b c later e) refl }
 
   -- ---- expressions, with more temporaries
 
@@ -130,33 +122,33 @@ module _ (u : CoreUnitTree) (f : CoreFunctionTree) where
   expr_kept ts later e (address_of (Local i)) h = h
   expr_kept ts later e (address_of (Data i)) h = h
   expr_kept ts later e (load s a) h =
-      let two = both (expr_fits u (holding ts) a) _ h in together (expr_kept ts later e a two.0) two.1
+      let two = and_parts (expr_fits u (holding ts) a) _ h in and_from _ _ (expr_kept ts later e a two.0) two.1
   expr_kept ts later e (member offset a) h =
-      let three = both (expr_fits u (holding ts) a && is_pointer (type_of a)) _ h in
-      let two = both (expr_fits u (holding ts) a) _ three.0 in
-      together (together (expr_kept ts later e a two.0) two.1) three.1
+      let three = and_parts (expr_fits u (holding ts) a && is_pointer (type_of a)) _ h in
+      let two = and_parts (expr_fits u (holding ts) a) _ three.0 in
+      and_from _ _ (and_from _ _ (expr_kept ts later e a two.0) two.1) three.1
   expr_kept ts later e (unary op a) h =
-      let two = both (expr_fits u (holding ts) a) _ h in together (expr_kept ts later e a two.0) two.1
+      let two = and_parts (expr_fits u (holding ts) a) _ h in and_from _ _ (expr_kept ts later e a two.0) two.1
   expr_kept ts later e (binary op a b) h =
-      let takes = both (expr_fits u (holding ts) a && expr_fits u (holding ts) b) _ h in
-      let two = both (expr_fits u (holding ts) a) _ takes.0 in
-      together (together (expr_kept ts later e a two.0) (expr_kept ts later e b two.1)) takes.1
+      let takes = and_parts (expr_fits u (holding ts) a && expr_fits u (holding ts) b) _ h in
+      let two = and_parts (expr_fits u (holding ts) a) _ takes.0 in
+      and_from _ _ (and_from _ _ (expr_kept ts later e a two.0) (expr_kept ts later e b two.1)) takes.1
   expr_kept ts later e (conversion s a) h =
-      let two = both (expr_fits u (holding ts) a) _ h in together (expr_kept ts later e a two.0) two.1
+      let two = and_parts (expr_fits u (holding ts) a) _ h in and_from _ _ (expr_kept ts later e a two.0) two.1
   expr_kept ts later e (logical_and a b) h =
-      let two = both (expr_fits u (holding ts) a) _ h in together (expr_kept ts later e a two.0) (expr_kept ts later e b two.1)
+      let two = and_parts (expr_fits u (holding ts) a) _ h in and_from _ _ (expr_kept ts later e a two.0) (expr_kept ts later e b two.1)
   expr_kept ts later e (logical_or a b) h =
-      let two = both (expr_fits u (holding ts) a) _ h in together (expr_kept ts later e a two.0) (expr_kept ts later e b two.1)
+      let two = and_parts (expr_fits u (holding ts) a) _ h in and_from _ _ (expr_kept ts later e a two.0) (expr_kept ts later e b two.1)
   expr_kept ts later e (conditional c a b) h =
-      let alike = both (expr_fits u (holding ts) c && expr_fits u (holding ts) a && expr_fits u (holding ts) b) _ h in
-      let third = both (expr_fits u (holding ts) c && expr_fits u (holding ts) a) _ alike.0 in
-      let two = both (expr_fits u (holding ts) c) _ third.0 in
-      together (together (together (expr_kept ts later e c two.0) (expr_kept ts later e a two.1)) (expr_kept ts later e b third.1)) alike.1
+      let alike = and_parts (expr_fits u (holding ts) c && expr_fits u (holding ts) a && expr_fits u (holding ts) b) _ h in
+      let third = and_parts (expr_fits u (holding ts) c && expr_fits u (holding ts) a) _ alike.0 in
+      let two = and_parts (expr_fits u (holding ts) c) _ third.0 in
+      and_from _ _ (and_from _ _ (and_from _ _ (expr_kept ts later e c two.0) (expr_kept ts later e a two.1)) (expr_kept ts later e b third.1)) alike.1
 
   pub exprs_kept : (ts later : Temporaries) → Extends ts later → (es : List CoreExprTree) → exprs_fit u (holding ts) es ≡ true → exprs_fit u (holding later) es ≡ true
   exprs_kept ts later e [] h = refl
   exprs_kept ts later e (a ∷ es) h =
-      let two = both (expr_fits u (holding ts) a) _ h in together (expr_kept ts later e a two.0) (exprs_kept ts later e es two.1)
+      let two = and_parts (expr_fits u (holding ts) a) _ h in and_from _ _ (expr_kept ts later e a two.0) (exprs_kept ts later e es two.1)
 
   -- ---- the next temporary is in nothing that is there already
 
@@ -167,29 +159,29 @@ module _ (u : CoreUnitTree) (f : CoreFunctionTree) where
   unmentioned ts (temporary s j) h =
       let below = slice_get_within ts j s (type_is (slice_get ts j) s h) in grind (arith, nat_tests, below)
   unmentioned ts (address_of b) h = refl
-  unmentioned ts (load s a) h = unmentioned ts a (both (expr_fits u (holding ts) a) _ h).0
+  unmentioned ts (load s a) h = unmentioned ts a (and_parts (expr_fits u (holding ts) a) _ h).0
   unmentioned ts (member offset a) h =
-      unmentioned ts a (both (expr_fits u (holding ts) a) _ (both (expr_fits u (holding ts) a && is_pointer (type_of a)) _ h).0).0
-  unmentioned ts (unary op a) h = unmentioned ts a (both (expr_fits u (holding ts) a) _ h).0
+      unmentioned ts a (and_parts (expr_fits u (holding ts) a) _ (and_parts (expr_fits u (holding ts) a && is_pointer (type_of a)) _ h).0).0
+  unmentioned ts (unary op a) h = unmentioned ts a (and_parts (expr_fits u (holding ts) a) _ h).0
   unmentioned ts (binary op a b) h =
-      let takes = both (expr_fits u (holding ts) a && expr_fits u (holding ts) b) _ h in
-      let two = both (expr_fits u (holding ts) a) _ takes.0 in
-      neither (unmentioned ts a two.0) (unmentioned ts b two.1)
-  unmentioned ts (conversion s a) h = unmentioned ts a (both (expr_fits u (holding ts) a) _ h).0
+      let takes = and_parts (expr_fits u (holding ts) a && expr_fits u (holding ts) b) _ h in
+      let two = and_parts (expr_fits u (holding ts) a) _ takes.0 in
+      or_from _ _ (unmentioned ts a two.0) (unmentioned ts b two.1)
+  unmentioned ts (conversion s a) h = unmentioned ts a (and_parts (expr_fits u (holding ts) a) _ h).0
   unmentioned ts (logical_and a b) h =
-      let two = both (expr_fits u (holding ts) a) _ h in neither (unmentioned ts a two.0) (unmentioned ts b two.1)
+      let two = and_parts (expr_fits u (holding ts) a) _ h in or_from _ _ (unmentioned ts a two.0) (unmentioned ts b two.1)
   unmentioned ts (logical_or a b) h =
-      let two = both (expr_fits u (holding ts) a) _ h in neither (unmentioned ts a two.0) (unmentioned ts b two.1)
+      let two = and_parts (expr_fits u (holding ts) a) _ h in or_from _ _ (unmentioned ts a two.0) (unmentioned ts b two.1)
   unmentioned ts (conditional c a b) h =
-      let alike = both (expr_fits u (holding ts) c && expr_fits u (holding ts) a && expr_fits u (holding ts) b) _ h in
-      let third = both (expr_fits u (holding ts) c && expr_fits u (holding ts) a) _ alike.0 in
-      let two = both (expr_fits u (holding ts) c) _ third.0 in
-      neither (neither (unmentioned ts c two.0) (unmentioned ts a two.1)) (unmentioned ts b third.1)
+      let alike = and_parts (expr_fits u (holding ts) c && expr_fits u (holding ts) a && expr_fits u (holding ts) b) _ h in
+      let third = and_parts (expr_fits u (holding ts) c && expr_fits u (holding ts) a) _ alike.0 in
+      let two = and_parts (expr_fits u (holding ts) c) _ third.0 in
+      or_from _ _ (or_from _ _ (unmentioned ts c two.0) (unmentioned ts a two.1)) (unmentioned ts b third.1)
 
   pub none_mentioned : (ts : Temporaries) (es : List CoreExprTree) → exprs_fit u (holding ts) es ≡ true → any_mentions (next_number ts) es ≡ false
   none_mentioned ts [] h = refl
   none_mentioned ts (a ∷ es) h =
-      let two = both (expr_fits u (holding ts) a) _ h in neither (unmentioned ts a two.0) (none_mentioned ts es two.1)
+      let two = and_parts (expr_fits u (holding ts) a) _ h in or_from _ _ (unmentioned ts a two.0) (none_mentioned ts es two.1)
 
   -- ---- conversions
 
@@ -248,7 +240,7 @@ module _ (u : CoreUnitTree) (f : CoreFunctionTree) where
 
   converts : (to from : Scalar) (z : Bool) → source.converts from to z ≡ true → Converts to from z
   converts to from z h =
-      let two = both (not (is_pointer from)) _ h in
+      let two = and_parts (not (is_pointer from)) _ h in
       record {
         integer = no_test (is_pointer from) two.0;
         target = λ e. decided (is_pointer to) z two.1 e;
@@ -263,7 +255,7 @@ module _ (u : CoreUnitTree) (f : CoreFunctionTree) where
       decided false z h e = cc
 
   folded_fits : (ts : Temporaries) (to : Scalar) (a : CoreExprTree) (z : Bool) → expr_fits u (holding ts) a ≡ true → Converts to (type_of a) z → (z ≡ true → literal_value a ≡ Some (integer 0)) → (o : Option Value) → literal_value a ≡ o → expr_fits u (holding ts) (folded to a (o >>= convert to)) ≡ true
-  folded_fits ts to a z h c zero_is None e = together h (taken (is_pointer to) refl)
+  folded_fits ts to a z h c zero_is None e = and_from _ _ h (taken (is_pointer to) refl)
     where
       taken : (b : Bool) → is_pointer to ≡ b → conversion_takes to (type_of a) ≡ true
       taken false f = integer_taken to (type_of a) f c.integer
@@ -291,7 +283,7 @@ module _ (u : CoreUnitTree) (f : CoreFunctionTree) where
   pub converted_fits : (ts : Temporaries) (c : Conversion) (a : CoreExprTree) (s : Scalar) (z : Bool) → expr_fits u (holding ts) a ≡ true → type_of a ≡ s → source.conversion_fits c s z ≡ true → (z ≡ true → literal_value a ≡ Some (integer 0)) → expr_fits u (holding ts) (converted_core c a) ≡ true
   converted_fits ts unchanged a s z h e fit zero_is = h
   converted_fits ts (converted from to) a s z h e fit zero_is =
-      let two = both (same_scalar from s) _ fit in
+      let two = and_parts (same_scalar from s) _ fit in
       let from_is : from ≡ type_of a = same_types two.0 ∙ sym e in
       folded_fits ts to a z h (converts to (type_of a) z (subst (λ (t : Scalar). source.converts t to z ≡ true) from_is two.1)) zero_is (literal_value a) refl
 
@@ -299,9 +291,9 @@ module _ (u : CoreUnitTree) (f : CoreFunctionTree) where
 
   pub ordered_fits : (ts : Temporaries) (op : BinaryOperation) (order : Order) (a b : CoreExprTree) (t w : Scalar) → expr_fits u (holding ts) a ≡ true → expr_fits u (holding ts) b ≡ true → type_of a ≡ t → type_of b ≡ w → source.takes_in_order order op t w ≡ true → expr_fits u (holding ts) (in_their_order op order a b) ≡ true
   ordered_fits ts op as_written a b t w h k e d takes =
-      together (together h k) (ap (λ (x : Scalar). binary_takes op x (type_of b)) e ∙ ap (binary_takes op t) d ∙ takes)
+      and_from _ _ (and_from _ _ h k) (ap (λ (x : Scalar). binary_takes op x (type_of b)) e ∙ ap (binary_takes op t) d ∙ takes)
   ordered_fits ts op exchanged a b t w h k e d takes =
-      together (together k h) (ap (λ (x : Scalar). binary_takes op x (type_of a)) d ∙ ap (binary_takes op w) e ∙ takes)
+      and_from _ _ (and_from _ _ k h) (ap (λ (x : Scalar). binary_takes op x (type_of a)) d ∙ ap (binary_takes op w) e ∙ takes)
 
   pub ordered_type : (op : BinaryOperation) (order : Order) (a b : CoreExprTree) → type_of (in_their_order op order a b) ≡ binary_type op
   ordered_type op as_written a b = refl

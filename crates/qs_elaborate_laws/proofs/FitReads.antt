@@ -2,6 +2,7 @@
 use Rattle.std.proofs.Common.{◌≡◌, ℕ, true, List, [], ◌∷◌, ◌++◌, map, refl, sym, ◌∙◌, subst}
 use Rattle.std.specs.List.{list_all}
 use Rattle.std.proofs.lemmas.List.Folds.{list_all-append}
+use Rattle.std.proofs.lemmas.Bool.{and_parts, and_from}
 use Rattle.qs_base.specs.Names.{is_name}
 use Rattle.qs_syntax_vocabulary.specs.declared.terminal.Terminal.{Terminal}
 use Rattle.qs_syntax_vocabulary.specs.declared.terminal.Terminal.TheVariants.{Name}
@@ -12,10 +13,8 @@ use Rattle.qs_syntax.specs.ReadsDeclarations.{a_declarator, ReadsVariable, an_un
 use Rattle.qs_syntax.specs.ReadsStatements.{ReadsStart, a_start_declaration, a_start_expression, no_start_at_all, ReadsStatement, a_block, an_empty, an_expression, an_if, an_if_with_else, a_while, a_do, a_for, a_break, a_continue, a_return, ReadsItem, a_statement, a_declared, ReadsItems, no_item, an_item}
 use Rattle.qs_syntax.specs.ReadsUnits.{ReadsExternal, a_struct_with_members, a_forward, a_header, a_definition, some_variables, ReadsUnit, a_last_external, an_external}
 use Rattle.qs_syntax_vocabulary.specs.WellFormed.{is_well_formed}
-use Rattle.qs_core.proofs.FitLaws.{both}
 use Rattle.qs_elaborate_bodies.specs.Names.{Declared, declared_variable, start_declares, statement_declares, statements_declare}
 use Rattle.qs_elaborate_laws.specs.FitLaws.{has_name, parameter_has_name, declaration_has_names, has_names, ReadUnitsHaveNames}
-use Rattle.qs_elaborate_laws.proofs.FitParts.{together}
 
 -- ---- tokens of parts
 
@@ -23,16 +22,16 @@ record AreTokens (ts : List Terminal) : Type 0 where
   formed : list_all is_well_formed ts ≡ true
 
 front : (xs ys : List Terminal) → AreTokens (xs ++ ys) → AreTokens xs
-front xs ys h = record { formed = (both (list_all is_well_formed xs) _ (sym (list_all-append is_well_formed xs ys) ∙ h.formed)).0 }
+front xs ys h = record { formed = (and_parts (list_all is_well_formed xs) _ (sym (list_all-append is_well_formed xs ys) ∙ h.formed)).0 }
 
 behind : (xs ys : List Terminal) → AreTokens (xs ++ ys) → AreTokens ys
-behind xs ys h = record { formed = (both (list_all is_well_formed xs) _ (sym (list_all-append is_well_formed xs ys) ∙ h.formed)).1 }
+behind xs ys h = record { formed = (and_parts (list_all is_well_formed xs) _ (sym (list_all-append is_well_formed xs ys) ∙ h.formed)).1 }
 
 next : {t : Terminal} {ts : List Terminal} → AreTokens (t ∷ ts) → AreTokens ts
-next {t = t} h = record { formed = (both (is_well_formed t) _ h.formed).1 }
+next {t = t} h = record { formed = (and_parts (is_well_formed t) _ h.formed).1 }
 
 name_of : {at : ℕ} {x : List ℕ} {ts : List Terminal} → AreTokens (Name at x ∷ ts) → is_name x ≡ true
-name_of {x = x} h = (both (is_name x) _ h.formed).0
+name_of {x = x} h = (and_parts (is_name x) _ h.formed).0
 
 -- ---- declarations
 
@@ -43,8 +42,8 @@ module _ (f : Relabelling) where
       name_of (behind xs (Name at x ∷ ys) (front (xs ++ Name at x ∷ ys) _ k))
 
   variables_named : {h : ℕ} {ts : List Terminal} {vs : List VariableTree} → ReadsVariables h ts vs → AreTokens ts → (n : ℕ) → list_all has_name (map declared_variable (relabel_all f variable_count (relabel_variable f) n vs)) ≡ true
-  variables_named (a_last_variable r) k n = together (variable_named _ _ _ r k n) refl
-  variables_named (a_variable {xs = xs} {ys = ys} at r rs) k n = together (variable_named _ _ _ r (front xs _ k) n) (variables_named rs (next (behind xs _ k)) _)
+  variables_named (a_last_variable r) k n = and_from _ _ (variable_named _ _ _ r k n) refl
+  variables_named (a_variable {xs = xs} {ys = ys} at r rs) k n = and_from _ _ (variable_named _ _ _ r (front xs _ k) n) (variables_named rs (next (behind xs _ k)) _)
 
   declaration_named : {h : ℕ} {ts : List Terminal} {d : DeclarationTree} → ReadsDeclaration h ts d → AreTokens ts → (n : ℕ) → list_all has_name (map declared_variable (relabel_declaration f n d).variables) ≡ true
   declaration_named (a_declaration {xs = xs} {ys = ys} s type rs) k n = variables_named rs (front ys _ (behind xs _ k)) n
@@ -54,8 +53,8 @@ module _ (f : Relabelling) where
   parameter_named (an_unnamed_parameter type stars lengths not_void) k n = refl
 
   parameters_named : {h : ℕ} {ts : List Terminal} {ps : List ParameterTree} → ReadsParameters h ts ps → AreTokens ts → (n : ℕ) → list_all parameter_has_name (relabel_all f parameter_count (relabel_parameter f) n ps) ≡ true
-  parameters_named (a_last_parameter r) k n = together (parameter_named r k n) refl
-  parameters_named (a_parameter {xs = xs} {ys = ys} at r rs) k n = together (parameter_named r (front xs _ k) n) (parameters_named rs (next (behind xs _ k)) _)
+  parameters_named (a_last_parameter r) k n = and_from _ _ (parameter_named r k n) refl
+  parameters_named (a_parameter {xs = xs} {ys = ys} at r rs) k n = and_from _ _ (parameter_named r (front xs _ k) n) (parameters_named rs (next (behind xs _ k)) _)
 
   head_named : {h : ℕ} {ts : List Terminal} {ps : List ParameterTree} → ReadsHead h ts ps → AreTokens ts → (n : ℕ) → list_all parameter_has_name (relabel_all f parameter_count (relabel_parameter f) n ps) ≡ true
   head_named no_parameter k n = refl
@@ -68,7 +67,7 @@ module _ (f : Relabelling) where
   start_named (no_start_at_all s) k n = refl
 
   both_named : (ds es : List Declared) → list_all has_name ds ≡ true → list_all has_name es ≡ true → list_all has_name (ds ++ es) ≡ true
-  both_named ds es h k = list_all-append has_name ds es ∙ together h k
+  both_named ds es h k = list_all-append has_name ds es ∙ and_from _ _ h k
 
   -- ---- statements
 
@@ -108,12 +107,12 @@ module _ (f : Relabelling) where
       let named = behind ys _ (behind xs _ k) in
       let rest = next (next named) in
       let body = next (next (behind zs _ rest)) in
-      together (together (name_of named) (head_named head (front zs _ rest) _)) (items_named items (front ws _ body) _)
+      and_from _ _ (and_from _ _ (name_of named) (head_named head (front zs _ rest) _)) (items_named items (front ws _ body) _)
   external_named (some_variables r) k m = refl
 
   unit_named : {h : ℕ} {ts : List Terminal} {ds : UnitTree} → ReadsUnit h ts ds → AreTokens ts → (n : ℕ) → list_all declaration_has_names (relabel_all f decl_count (relabel_decl f) n ds) ≡ true
-  unit_named (a_last_external r) k n = together (external_named r k n) refl
-  unit_named (an_external {xs = xs} {ys = ys} r rs) k n = together (external_named r (front xs ys k) n) (unit_named rs (behind xs ys k) _)
+  unit_named (a_last_external r) k n = and_from _ _ (external_named r k n) refl
+  unit_named (an_external {xs = xs} {ys = ys} r rs) k n = and_from _ _ (external_named r (front xs ys k) n) (unit_named rs (behind xs ys k) _)
 
 pub read_units_have_names : ReadUnitsHaveNames
 read_units_have_names unit r =

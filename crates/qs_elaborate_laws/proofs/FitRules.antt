@@ -3,12 +3,12 @@ use Rattle.std.proofs.Common.{◌≡◌, ℕ, ◌&&◌, ◌||◌, not, Bool, tru
 use Rattle.std.specs.Prelude.{bytes_eq}
 use Rattle.std.specs.List.{list_all}
 use Rattle.std.proofs.lemmas.Slice.Eq.{bytes_eq-Decides}
+use Rattle.std.proofs.lemmas.Bool.{and_parts, and_from, not_from_false, not-true}
 use Rattle.qs_base.specs.Bytes.{same_bytes}
 use Rattle.qs_base.proofs.ByteLaws.{bytes_exact}
 use Rattle.qs_syntax.specs.declared.types.Base.{Base}
 use Rattle.qs_syntax.specs.Trees.{VariableTree, ParameterTree, Stmts, StructTree, FunctionTree, DeclTree, structure, forward, function, variables, UnitTree}
 use Rattle.qs_core.specs.Fits.{differ}
-use Rattle.qs_core.proofs.FitLaws.{both}
 use Rattle.qs_types.specs.Types.{TypeTree, is_scalar, MemberTree, Structs}
 use Rattle.qs_types.specs.declared.rules.Rule.{Rule}
 use Rattle.qs_types.specs.declared.rules.Rule.TheVariants as rules
@@ -32,7 +32,6 @@ use Rattle.qs_meaning.proofs.FunctionsTyped.{file_sound}
 use Rattle.qs_meaning.proofs.FileVariables.{file_variables_known}
 use Rattle.qs_meaning.proofs.UnitsTyped.{declaration_known}
 use Rattle.qs_elaborate_bodies.specs.Names.{parameter_name}
-use Rattle.qs_elaborate_laws.proofs.FitParts.{together}
 
 -- ---- tests
 
@@ -43,10 +42,6 @@ unbroken_test rule false h = refl
 kept_test : (rule : Rule) (b : Bool) → breaks_one (keeps rule b) ≡ false → b ≡ true
 kept_test rule true h = refl
 kept_test rule false h = sym h
-
-no_test : (b : Bool) → b ≡ false → not b ≡ true
-no_test true h = sym h
-no_test false h = refl
 
 -- ---- parameters (6.7p3, 6.9.1p5)
 
@@ -61,26 +56,22 @@ is_found : (b : Bool) (e : Entity) (o : Option Entity) → is_some (if b then So
 is_found true e o h = cc
 is_found false e o h = (refl, h)
 
-no_true : (b : Bool) → not b ≡ true → b ≡ false
-no_true true h = sym h
-no_true false h = refl
-
 -- what is new behind a parameter was new before it, and has another name
 new_before : (c : Context) (p : ParameterTree) (t : Option TypeTree) (x : List ℕ) → (qs : List ParameterTree) → list_all (is_new (with_parameter c p t (Some x))) qs ≡ true
     → (list_all (is_new c) qs ≡ true) × (list_all (λ y. not (same_bytes x y)) (names_of qs) ≡ true)
 new_before c p t x [] h = (refl, refl)
 new_before c p t x (q ∷ qs) h =
-    let two = both (is_new (with_parameter c p t (Some x)) q) _ h in
+    let two = and_parts (is_new (with_parameter c p t (Some x)) q) _ h in
     let rest = new_before c p t x qs two.1 in
     let one = by_name q.name two.0 in
-    (together one.0 rest.0, together one.1 rest.1)
+    (and_from _ _ one.0 rest.0, and_from _ _ one.1 rest.1)
   where
     by_name : (o : Option (List ℕ)) → (is_some o && not (is_name_declared (with_parameter c p t (Some x)) o)) ≡ true
         → ((is_some o && not (is_name_declared c o)) ≡ true) × (not (same_bytes x (parameter_name o)) ≡ true)
     by_name None h = cc
     by_name (Some y) h =
-        let two = is_found (same_bytes x y) (local_variable p.node.id t) (lookup y c.inner) (no_true _ h) in
-        (no_test (is_some (lookup y c.inner)) two.1, no_test (same_bytes x y) two.0)
+        let two = is_found (same_bytes x y) (local_variable p.node.id t) (lookup y c.inner) (not-true _ h) in
+        (not_from_false (is_some (lookup y c.inner)) two.1, not_from_false (same_bytes x y) two.0)
 
 module _ (s₀ : Scope) (declared_nodes : List ℕ) where
   parameter_new : (c : Context) → Sound (within s₀ c) declared_nodes → (p : ParameterTree) → (faults_of p.node.id (parameter_tests c true p) ++ lengths_faults c p.lengths.given) ≡ [] → is_new c p ≡ true
@@ -94,8 +85,8 @@ module _ (s₀ : Scope) (declared_nodes : List ℕ) where
       let t = parameter_type_known c p lengths (first_unbroken (parameter_declared c p).tests (signature_tests p true (parameter_declared c p).type) later) in
       let signature = subst (λ (o : Option TypeTree). breaks_one (signature_tests p true o) ≡ false) t.is
       (second_unbroken (parameter_declared c p).tests (signature_tests p true (parameter_declared c p).type) later) in
-      let named = both (is_scalar t.value) _ (kept_test rules.SignatureType (is_scalar t.value && is_some p.name) signature) in
-      together named.1 (no_test (is_name_declared c p.name) again)
+      let named = and_parts (is_scalar t.value) _ (kept_test rules.SignatureType (is_scalar t.value && is_some p.name) signature) in
+      and_from _ _ named.1 (not_from_false (is_name_declared c p.name) again)
 
   pub parameters_new : (ps : List ParameterTree) (c : Context) → Sound (within s₀ c) declared_nodes → are_declared s₀ declared_nodes ps ≡ true → parameters_faults c true ps ≡ []
       → (list_all (is_new c) ps ≡ true) × (differ same_bytes (names_of ps) ≡ true)
@@ -104,7 +95,7 @@ module _ (s₀ : Scope) (declared_nodes : List ℕ) where
       let mine = none_left (faults_of p.node.id (parameter_tests c true p) ++ lengths_faults c p.lengths.given) _ f in
       let own = parameter_new c h p mine in
       let scalar = parameter_scalar s₀ declared_nodes true c h p mine in
-      let two = both _ (are_declared s₀ declared_nodes ps) d in
+      let two = and_parts _ (are_declared s₀ declared_nodes ps) d in
       let rest = parameters_new ps (after_parameter c p) (with_parameter_sound s₀ declared_nodes c h p (parameter_declared c p).type scalar two.0 p.name) two.1
       (none_right (faults_of p.node.id (parameter_tests c true p) ++ lengths_faults c p.lengths.given) _ f) in
       by_name p.name own rest
@@ -114,7 +105,7 @@ module _ (s₀ : Scope) (declared_nodes : List ℕ) where
           → (((is_some o && not (is_name_declared c o)) && list_all (is_new c) ps) ≡ true) × ((list_all (λ y. not (same_bytes (parameter_name o) y)) (names_of ps) && differ same_bytes (names_of ps)) ≡ true)
       by_name None own rest = cc
       by_name (Some x) own rest =
-          let before = new_before c p (parameter_declared c p).type x ps rest.0 in (together own before.0, together before.1 rest.1)
+          let before = new_before c p (parameter_declared c p).type x ps rest.0 in (and_from _ _ own before.0, and_from _ _ before.1 rest.1)
 
 -- ---- functions with bodies (6.9p3)
 
@@ -163,7 +154,7 @@ body_is_new : (o : Option Entity) (h : Header) → agrees_with o h true ≡ true
 body_is_new None h k = refl
 body_is_new (Some (local_variable n t)) h k = refl
 body_is_new (Some (file_variable n t)) h k = refl
-body_is_new (Some (contexts.function n r earlier)) h k = by_test earlier (both (agree r h) _ k).1
+body_is_new (Some (contexts.function n r earlier)) h k = by_test earlier (and_parts (agree r h) _ k).1
   where
     by_test : (b : Bool) → not (b && true) ≡ true → b ≡ false
     by_test true k = sym k
@@ -180,7 +171,7 @@ body_is_known (Some (contexts.function n r earlier)) h node s k = either earlier
     either : (b : Bool) → (b || true) ≡ true
     either true = refl
     either false = refl
-body_is_known (Some (given r)) h node s k = let never = (both (agree (Some r) h) false k).1 in cc
+body_is_known (Some (given r)) h node s k = let never = (and_parts (agree (Some r) h) false k).1 in cc
 
 may_be_declared : (c : Context) (f : FunctionTree) → function_faults c f ≡ [] → may_declare c f ≡ true
 may_be_declared c f h =
@@ -253,8 +244,8 @@ module _ (s₀ : Scope) where
   not_known : (d : DeclTree) (c : Context) → IsFileScope c → declaration_faults c d ≡ [] → (xs : List (List ℕ)) → list_all (λ x. not (has_body_here (after_declaration c d) x)) xs ≡ true → list_all (λ x. not (has_body_here c x)) xs ≡ true
   not_known d c h f [] k = refl
   not_known d c h f (x ∷ xs) k =
-      let two = both (not (has_body_here (after_declaration c d) x)) _ k in
-      together (by_test (has_body_here c x) (has_body_here (after_declaration c d) x) (body_kept d c h f x) two.0) (not_known d c h f xs two.1)
+      let two = and_parts (not (has_body_here (after_declaration c d) x)) _ k in
+      and_from _ _ (by_test (has_body_here c x) (has_body_here (after_declaration c d) x) (body_kept d c h f x) two.0) (not_known d c h f xs two.1)
     where
       by_test : (b e : Bool) → (b ≡ true → e ≡ true) → not e ≡ true → not b ≡ true
       by_test false e g k = refl
@@ -271,7 +262,7 @@ module _ (s₀ : Scope) where
   others_differ : (g : List ℕ) (after : Context) → has_body_here after g ≡ true → (xs : List (List ℕ)) → list_all (λ x. not (has_body_here after x)) xs ≡ true → list_all (λ y. not (bytes_eq g y)) xs ≡ true
   others_differ g after k [] h = refl
   others_differ g after k (x ∷ xs) h =
-      let two = both (not (has_body_here after x)) _ h in together (by_test (bytes_eq g x) refl two.0) (others_differ g after k xs two.1)
+      let two = and_parts (not (has_body_here after x)) _ h in and_from _ _ (by_test (bytes_eq g x) refl two.0) (others_differ g after k xs two.1)
     where
       by_test : (b : Bool) → bytes_eq g x ≡ b → not (has_body_here after x) ≡ true → not b ≡ true
       by_test false e h = refl
@@ -302,7 +293,7 @@ module _ (s₀ : Scope) where
           by_body (Some body) e =
               let may = may_be_declared c g own in
               let has = ap (λ (o : Option Stmts). is_some o) e in (
-                together (no_test (has_body_here c g.name) (body_is_new (lookup g.name c.inner) (header_of c g) (ap (agrees_with (lookup g.name c.inner) (header_of c g)) (sym has) ∙ may)))
+                and_from _ _ (not_from_false (has_body_here c g.name) (body_is_new (lookup g.name c.inner) (header_of c g) (ap (agrees_with (lookup g.name c.inner) (header_of c g)) (sym has) ∙ may)))
                     (still (functions_in ds) rest.0),
-                together (others_differ g.name (after_function c g) (own_known g c may has) (functions_in ds) rest.0) rest.1,
+                and_from _ _ (others_differ g.name (after_function c g) (own_known g c may has) (functions_in ds) rest.0) rest.1,
               )

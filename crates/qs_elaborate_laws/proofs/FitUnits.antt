@@ -4,6 +4,7 @@ use Rattle.std.specs.Prelude.{bytes_eq}
 use Rattle.std.specs.List.{slice_get, list_all}
 use Rattle.std.proofs.lemmas.List.{length-map}
 use Rattle.std.proofs.lemmas.Option.{slice_get-map}
+use Rattle.std.proofs.lemmas.Bool.{and_parts, and_from}
 use Rattle.qs_memory.specs.Values.{width}
 use Rattle.qs_memory.specs.Scalars.{is_type, is_promoted}
 use Rattle.qs_memory.specs.declared.scalar.Scalar.{Scalar}
@@ -16,7 +17,6 @@ use Rattle.qs_calls.specs.declared.parameter.Parameter.TheVariants.{Plain, Place
 use Rattle.qs_core.specs.Trees.{stmts_of, CoreParameterTree, CoreVariableTree, CoreFunctionTree, CoreUnitTree}
 use Rattle.qs_core.specs.Interfaces as core_interfaces
 use Rattle.qs_core.specs.Fits as fits
-use Rattle.qs_core.proofs.FitLaws.{both}
 use Rattle.qs_meaning.specs.Typed.{Function, TypedProgram, Object, local, static}
 use Rattle.qs_meaning.specs.Interfaces as source_interfaces
 use Rattle.qs_meaning.specs.Fits as source
@@ -24,7 +24,7 @@ use Rattle.qs_elaborate_bodies.specs.Expressions.{block_of}
 use Rattle.qs_elaborate_bodies.specs.Names.{FunctionNames, VariableName}
 use Rattle.qs_elaborate_bodies.specs.Units.{named_parameters, named_variables, end_of_body, body_core, function_core, no_names, functions_core, unit_core}
 use Rattle.qs_elaborate_laws.specs.FitLaws.{are_first, IsNamed, AreNamed, is_main_function, CoreFits}
-use Rattle.qs_elaborate_laws.proofs.FitParts.{together, same_from, same_types, list_append, extends_self}
+use Rattle.qs_elaborate_laws.proofs.FitParts.{same_from, same_types, list_append, extends_self}
 use Rattle.qs_elaborate_laws.proofs.FitExpressions.{IsAlike}
 use Rattle.qs_elaborate_laws.proofs.FitStatements.{statements_fit_too}
 use Rattle.qs_elaborate_laws.proofs.FitData.{blocks_fit}
@@ -45,9 +45,9 @@ types_kept (p ∷ ps) (v ∷ vs) = ap (λ (rest : List Scalar). v.scalar ∷ res
 place_kept : (blocks : List ℕ) (i : ℕ) (s : Scalar) (p : Parameter) → source.place_fits blocks i s p ≡ true → fits.place_fits blocks i s p ≡ true
 place_kept blocks i s (Plain x) h = h
 place_kept blocks i s (Placed k t) h =
-    let two = both _ (source.is_size (slice_get blocks k) (width s)) h in
+    let two = and_parts _ (source.is_size (slice_get blocks k) (width s)) h in
     let same : t ≡ s = same_types two.0 in
-    together (same_from same) (subst (λ (w : Scalar). fits.is_room (slice_get blocks k) w ≡ true) (sym same) (room_kept (slice_get blocks k) s two.1))
+    and_from _ _ (same_from same) (subst (λ (w : Scalar). fits.is_room (slice_get blocks k) w ≡ true) (sym same) (room_kept (slice_get blocks k) s two.1))
   where
     room_kept : (o : Option ℕ) (s : Scalar) → source.is_size o (width s) ≡ true → fits.is_room o s ≡ true
     room_kept None s h = h
@@ -57,9 +57,9 @@ parameters_kept : (blocks : List ℕ) (i : ℕ) (ps : List CoreParameterTree) (v
 parameters_kept blocks i [] vs h k = refl
 parameters_kept blocks i (p ∷ ps) [] h k = h
 parameters_kept blocks i (p ∷ ps) (v ∷ vs) h k =
-    let placed = both (source.place_fits blocks i v.scalar p.place) _ h in
-    let named = both (bytes_eq p.name v.name && v.ordinal == 1) _ k in
-    together (together named.0 (place_kept blocks i v.scalar p.place placed.0)) (parameters_kept blocks (i + 1) ps vs placed.1 named.1)
+    let placed = and_parts (source.place_fits blocks i v.scalar p.place) _ h in
+    let named = and_parts (bytes_eq p.name v.name && v.ordinal == 1) _ k in
+    and_from _ _ (and_from _ _ named.0 (place_kept blocks i v.scalar p.place placed.0)) (parameters_kept blocks (i + 1) ps vs placed.1 named.1)
 
 -- ---- signatures
 
@@ -108,15 +108,15 @@ module _ (names : List FunctionNames) (p : TypedProgram) (main : ℕ) where
 
   end_kept : (n : FunctionNames) (g : Function) (is_main : Bool) → (not is_main || is_type g.result scalars.Int) ≡ true → fits.stmts_fit unit (function_core n g) false false (stmts_of (end_of_body is_main)) ≡ true
   end_kept n g false h = refl
-  end_kept n g true h = together (together refl h) refl
+  end_kept n g true h = and_from _ _ (and_from _ _ refl h) refl
 
   function_fits : (n : FunctionNames) (g : Function) → IsNamed n g → source.function_fits (source_interfaces.interface_of p) g ≡ true → fits.function_fits unit (function_core n g) ≡ true
   function_fits n g named h =
-      let placed = both (source.parameters_placed g.blocks 0 g.parameters g.variables) _ h in
-      let ends = both (source.end_fits g) _ placed.1 in
-      let body = both (source.stmts_fit (source_interfaces.interface_of p) g false g.body) _ ends.1 in
+      let placed = and_parts (source.parameters_placed g.blocks 0 g.parameters g.variables) _ h in
+      let ends = and_parts (source.end_fits g) _ placed.1 in
+      let body = and_parts (source.stmts_fit (source_interfaces.interface_of p) g false g.body) _ ends.1 in
       let known = statements_fit_too unit (function_core n g) (source_interfaces.interface_of p) g (alike n g body.1) g.body false body.0 [] in
-      together (together (together (together (together named.own named.variables) named.different)
+      and_from _ _ (and_from _ _ (and_from _ _ (and_from _ _ (and_from _ _ named.own named.variables) named.different)
       (parameters_kept g.blocks 0 (named_parameters n.parameters g.parameters) (named_variables n.variables g.variables)
       (ap (λ (ps : List Parameter). source.parameters_placed g.blocks 0 ps (map (λ (v : CoreVariableTree). v.scalar) (named_variables n.variables g.variables))) (places_are n.parameters g.parameters)
       ∙ ap (source.parameters_placed g.blocks 0 g.parameters) (scalars_are n.variables g.variables) ∙ placed.0) named.parameters))
@@ -126,9 +126,9 @@ module _ (names : List FunctionNames) (p : TypedProgram) (main : ℕ) where
   functions_fit : (ns : List FunctionNames) (gs : List Function) → AreNamed ns gs → list_all (source.function_fits (source_interfaces.interface_of p)) gs ≡ true → list_all (fits.function_fits unit) (functions_core ns gs) ≡ true
   functions_fit ns [] named h = refl
   functions_fit [] (g ∷ gs) named h =
-      let two = both (source.function_fits (source_interfaces.interface_of p) g) _ h in together (function_fits no_names g named.0 two.0) (functions_fit [] gs named.1 two.1)
+      let two = and_parts (source.function_fits (source_interfaces.interface_of p) g) _ h in and_from _ _ (function_fits no_names g named.0 two.0) (functions_fit [] gs named.1 two.1)
   functions_fit (n ∷ ns) (g ∷ gs) named h =
-      let two = both (source.function_fits (source_interfaces.interface_of p) g) _ h in together (function_fits n g named.0 two.0) (functions_fit ns gs named.1 two.1)
+      let two = and_parts (source.function_fits (source_interfaces.interface_of p) g) _ h in and_from _ _ (function_fits n g named.0 two.0) (functions_fit ns gs named.1 two.1)
 
 -- ---- the names of functions, and main
 
@@ -139,8 +139,8 @@ names_kept (n ∷ names) (g ∷ gs) = ap (λ (rest : List (List ℕ)). g.name �
 
 one_kept : (n : FunctionNames) (g : Function) → is_main_function (Some g) ≡ true → fits.is_main (Some (function_core n g)) ≡ true
 one_kept n g h =
-    let two = both (bytes_eq g.name fits.main_name && is_type g.result scalars.Int) _ h in
-    together two.0 (ap (λ (s : Signature). list_all is_promoted s.parameters) (signature_kept n g) ∙ two.1)
+    let two = and_parts (bytes_eq g.name fits.main_name && is_type g.result scalars.Int) _ h in
+    and_from _ _ two.0 (ap (λ (s : Signature). list_all is_promoted s.parameters) (signature_kept n g) ∙ two.1)
 
 main_kept : (names : List FunctionNames) (gs : List Function) (k : ℕ) → is_main_function (slice_get gs k) ≡ true → fits.is_main (slice_get (functions_core names gs) k) ≡ true
 main_kept names [] k h = h
@@ -151,5 +151,5 @@ main_kept (n ∷ names) (g ∷ gs) (suc k) h = main_kept names gs k h
 
 pub core_fits : CoreFits
 core_fits names p main h named different is_main blocks =
-    together (together (together (functions_fit names p main names p.functions named h)
+    and_from _ _ (and_from _ _ (and_from _ _ (functions_fit names p main names p.functions named h)
     (ap (fits.differ bytes_eq) (names_kept names p.functions) ∙ different)) (main_kept names p.functions main is_main)) (blocks_fit names p main blocks)

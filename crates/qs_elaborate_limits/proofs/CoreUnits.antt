@@ -3,6 +3,8 @@ use Rattle.std.proofs.Common.{◌≡◌, ◌≤◌, ℕ, ◌+◌, ◌-◌, true,
 use Rattle.std.specs.Prelude.{All}
 use Rattle.std.specs.List.{list_all}
 use Rattle.std.proofs.lemmas.List.Elements.{All-nil, All-cons}
+use Rattle.std.proofs.lemmas.Bool.{and_parts}
+use Rattle.std.proofs.lemmas.Option.{same_Some}
 use Rattle.qs_syntax.specs.Trees.{UnitTree}
 use Rattle.qs_syntax.specs.Units.{height_limit, IsRead}
 use Rattle.qs_memory.proofs.Options.{followed}
@@ -12,11 +14,10 @@ use Rattle.qs_types.proofs.LimitLaws.{keeps_limits}
 use Rattle.qs_core.specs.Trees.{CoreFunctionTree, CoreUnitTree}
 use Rattle.qs_core.specs.Sizes.{held_in_all}
 use Rattle.qs_core.specs.Fits.{function_fits, unit_fits}
-use Rattle.qs_core.proofs.FitLaws.{both, function_parts, unit_parts}
+use Rattle.qs_core.proofs.FitLaws.{function_parts, unit_parts}
 use Rattle.qs_meaning.specs.Typed.{Function, TypedProgram}
 use Rattle.qs_meaning.specs.Units.{typed_of}
 use Rattle.qs_meaning.specs.Runs.{main_from}
-use Rattle.qs_meaning.proofs.Options.{same}
 use Rattle.qs_elaborate_bodies.specs.Names.{FunctionNames, names_in}
 use Rattle.qs_elaborate_bodies.specs.Units.{functions_core, unit_core, core_of}
 use Rattle.qs_elaborate_laws.proofs.CountedUnits.{unit_counted, source_words_are_few}
@@ -45,14 +46,14 @@ pub made : (unit : UnitTree) (core : CoreUnitTree) → core_of unit ≡ Some cor
 made unit core q =
     let u = followed (typed_of unit) _ core q in
     let main = followed (main_from 0 u.value.functions) _ core u.then in
-    record { typed = u.value; tree = u.first; main = main.value; at = main.first; is = same (unit_core (names_in unit) u.value main.value) core main.then }
+    record { typed = u.value; tree = u.first; main = main.value; at = main.first; is = same_Some (unit_core (names_in unit) u.value main.value) core main.then }
 
 pub functions_are : (unit : UnitTree) (core : CoreUnitTree) (m : Made unit core) → functions_core (names_in unit) m.typed.functions ≡ core.functions
 functions_are unit core m = ap (λ (z : CoreUnitTree). z.functions) m.is
 
 pub core_fits : (unit : UnitTree) (core : CoreUnitTree) → IsRead unit → WellTyped unit → IsWithinLimits unit → core_of unit ≡ Some core → unit_fits core ≡ true
 core_fits unit core read well limits q =
-    let has = units_have_cores unit read well limits in subst (λ z. unit_fits z ≡ true) (same has.core core (sym has.is ∙ q)) has.fits
+    let has = units_have_cores unit read well limits in subst (λ z. unit_fits z ≡ true) (same_Some has.core core (sym has.is ∙ q)) has.fits
 
 -- ---- how many functions, and their words
 
@@ -99,7 +100,7 @@ all_arguments :
     → (fs : List CoreFunctionTree) → list_all (function_fits u) fs ≡ true → All (λ f. arguments_in_all f.body ≤ parameter_limit) fs
 all_arguments u most [] fit = All-nil (λ f. arguments_in_all f.body ≤ parameter_limit)
 all_arguments u most (f ∷ fs) fit =
-    let two = both (function_fits u f) (list_all (function_fits u) fs) fit in
+    let two = and_parts (function_fits u f) (list_all (function_fits u) fs) fit in
     let h = body_arguments u waiting_limit (calls_few u waiting_limit most) f false false f.body (function_parts u f two.0).body in
     All-cons (λ f. arguments_in_all f.body ≤ parameter_limit) f fs (omega arith) (all_arguments u most fs two.1)
 
@@ -115,7 +116,7 @@ all_held_few :
     → All (λ f. held_in_all f.body ≤ n + waiting_limit) fs
 all_held_few u n most [] fit low = All-nil (λ f. held_in_all f.body ≤ n + waiting_limit)
 all_held_few u n most (f ∷ fs) fit low =
-    let two = both (function_fits u f) (list_all (function_fits u) fs) fit in
+    let two = and_parts (function_fits u f) (list_all (function_fits u) fs) fit in
     let h = body_few u waiting_limit (omega arith) (calls_few u waiting_limit most) f false false f.body (function_parts u f two.0).body in
     All-cons (λ f. held_in_all f.body ≤ n + waiting_limit) f fs (omega arith) (all_held_few u n most fs two.1 (omega arith))
 

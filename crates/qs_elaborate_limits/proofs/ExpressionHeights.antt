@@ -1,10 +1,11 @@
 -- The typed tree of an expression is at most as high as the expression.
 use Rattle.std.proofs.Common.{◌≡◌, ◌≤◌, ℕ, ◌+◌, max, Bool, true, false, List, [], ◌∷◌, Option, Some, None, subst, arith, if◌then◌else◌}
+use Rattle.std.proofs.lemmas.Option.{same_Some}
 use Rattle.qs_syntax.specs.declared.nodes.Node.{Node}
 use Rattle.qs_syntax.specs.Trees.{ExprTree, expr, ShapeTree, Exprs, no_exprs, expr_and}
 use Rattle.qs_syntax.specs.Trees as trees
 use Rattle.qs_memory.specs.Partial.{◌>>=◌}
-use Rattle.qs_memory.proofs.Options.{some_same, followed}
+use Rattle.qs_memory.proofs.Options.{followed}
 use Rattle.qs_types.specs.Types.{TypeTree}
 use Rattle.qs_types.specs.Contexts.{Entity, local_variable, file_variable, function, given, entity_of, named_type}
 use Rattle.qs_types.specs.Placed.{is_one_of}
@@ -13,7 +14,7 @@ use Rattle.qs_meaning.specs.Typed.{variable, object, pointer_to, local, Argument
 use Rattle.qs_meaning.specs.Forms.{Form, lvalue, TypedExpr}
 use Rattle.qs_meaning.specs.Names.{Scope, Locals, local_lvalue, place_among, entity_lvalue, designated}
 use Rattle.qs_meaning.specs.Expressions.{arguments_of, call_form, typed, form_of, all_typed}
-use Rattle.qs_meaning.proofs.Options.{nothing, same}
+use Rattle.qs_meaning.proofs.Options.{nothing}
 use Rattle.qs_elaborate_limits.proofs.SourceHeights.{highest, expr_height, shape_height, exprs_height}
 use Rattle.qs_elaborate_limits.proofs.TypedHeights.{lvalue_height, arguments_height}
 use Rattle.qs_elaborate_limits.proofs.FormHeights.{form_height, height_in_use, form_as, value_in_use_low, subscript_low, binary_low, unary_low, member_low, size_low, cast_low, conditional_low, comma_low, step_low, assign_low}
@@ -39,14 +40,14 @@ name_low s (Some (given signature)) form h = nothing form h
 
 arguments_low :
     (ts : List TypeTree) (list : List TypedExpr) (all : Arguments) → arguments_of ts list ≡ Some all → arguments_height all ≤ highest height_in_use list
-arguments_low [] [] all e = subst (λ z. arguments_height z ≤ 0) (same _ all e) (omega arith)
+arguments_low [] [] all e = subst (λ z. arguments_height z ≤ 0) (same_Some _ all e) (omega arith)
 arguments_low [] (a ∷ list) all e = nothing all e
 arguments_low (t ∷ ts) [] all e = nothing all e
 arguments_low (t ∷ ts) (a ∷ list) all e =
     let later = followed (arguments_of ts list) _ all e in
     let h = arguments_low ts list later.value later.first in
     let x = value_in_use_low a in
-    subst (λ z. arguments_height z ≤ max (height_in_use a) (highest height_in_use list)) (same _ all later.then) (omega arith)
+    subst (λ z. arguments_height z ≤ max (height_in_use a) (highest height_in_use list)) (same_Some _ all later.then) (omega arith)
 
 call_low : (s : Scope) (f : List ℕ) (list : List TypedExpr) (form : Form) → call_form s f list ≡ Some form → form_height form ≤ highest height_in_use list
 call_low s f list form e =
@@ -62,7 +63,7 @@ module _ (s : Scope) where
     expression_low (expr node shape) a h =
         let t = followed (type_of s.context (expr node shape)) _ a h in
         let f = followed (form_of s node shape) _ a t.then in
-        subst (λ (z : TypedExpr). height_in_use z ≤ 1 + shape_height shape) (some_same _ a f.then) (shape_low shape node f.value f.first)
+        subst (λ (z : TypedExpr). height_in_use z ≤ 1 + shape_height shape) (same_Some _ a f.then) (shape_low shape node f.value f.first)
 
     shape_low : (shape : ShapeTree) (node : Node) (form : Form) → form_of s node shape ≡ Some form → form_height form ≤ 1 + shape_height shape
     shape_low (trees.constant n u) node form h = form_as _ _ form h (omega arith)
@@ -141,10 +142,10 @@ module _ (s : Scope) where
         form_as _ _ form y.then (omega arith)
 
     all_low : (es : Exprs) (list : List TypedExpr) → all_typed s es ≡ Some list → highest height_in_use list ≤ exprs_height es
-    all_low no_exprs list h = subst (λ z. highest height_in_use z ≤ 0) (same _ list h) (omega arith)
+    all_low no_exprs list h = subst (λ z. highest height_in_use z ≤ 0) (same_Some _ list h) (omega arith)
     all_low (expr_and x es) list h =
         let a = followed (typed s x) _ list h in
         let rest = followed (all_typed s es) _ list a.then in
         let i = expression_low x a.value a.first in
         let j = all_low es rest.value rest.first in
-        subst (λ z. highest height_in_use z ≤ max (expr_height x) (exprs_height es)) (same _ list rest.then) (omega arith)
+        subst (λ z. highest height_in_use z ≤ max (expr_height x) (exprs_height es)) (same_Some _ list rest.then) (omega arith)

@@ -4,6 +4,7 @@ use Rattle.std.specs.Prelude.{bytes_eq}
 use Rattle.std.specs.List.{list_all}
 use Rattle.std.proofs.lemmas.Slice.Eq.{bytes_eq-Decides}
 use Rattle.std.proofs.lemmas.List.Folds.{list_any-append}
+use Rattle.std.proofs.lemmas.Bool.{and_parts, or_right}
 use Rattle.qs_base.specs.Bytes.{same_bytes}
 use Rattle.qs_base.proofs.ByteLaws.{bytes_exact}
 use Rattle.qs_syntax.specs.Trees.{Stmts, structure, forward, function, variables, UnitTree}
@@ -12,15 +13,10 @@ use Rattle.qs_types.specs.UnitRules.{is_name_in, with_name_once}
 use Rattle.qs_types.specs.Limits.{names_from, function_count}
 use Rattle.qs_types.specs.WellTyped.{WellTyped}
 use Rattle.qs_core.specs.Fits.{differ}
-use Rattle.qs_core.proofs.FitLaws.{both}
 use Rattle.qs_meaning.specs.Units.{name_with_body, functions_in, start_scope}
 use Rattle.qs_meaning.proofs.Options.{never}
 use Rattle.qs_meaning.proofs.UnitsTyped.{start_known}
 use Rattle.qs_elaborate_laws.proofs.FitRules.{bodies_differ}
-
-or_true : (a b : Bool) → b ≡ true → (a || b) ≡ true
-or_true true b h = refl
-or_true false b h = h
 
 -- ---- different names among names
 
@@ -50,15 +46,15 @@ still_in x y (n ∷ names) other h = by (same_bytes x n) (same_bytes y n) refl r
     by true true e f h rest = never (sym other ∙ apart e f)
     by true false e f h rest = h
     by false true e f h rest = ap (λ z. z || is_name_in y (without x names)) f
-    by false false e f h rest = or_true (same_bytes y n) (is_name_in y (without x names)) (rest h)
+    by false false e f h rest = or_right (same_bytes y n) (is_name_in y (without x names)) (rest h)
 
 all_still_in :
     (x : List ℕ) (names xs : List (List ℕ)) → list_all (λ y. not (bytes_eq x y)) xs ≡ true → list_all (λ y. is_name_in y names) xs ≡ true
     → list_all (λ y. is_name_in y (without x names)) xs ≡ true
 all_still_in x names [] others h = refl
 all_still_in x names (y ∷ xs) others h =
-    let apart = both (not (bytes_eq x y)) (list_all (λ y. not (bytes_eq x y)) xs) others in
-    let two = both (is_name_in y names) (list_all (λ y. is_name_in y names) xs) h in
+    let apart = and_parts (not (bytes_eq x y)) (list_all (λ y. not (bytes_eq x y)) xs) others in
+    let two = and_parts (is_name_in y names) (list_all (λ y. is_name_in y names) xs) h in
     together (still_in x y names (no_test (bytes_eq x y) apart.0) two.0) (all_still_in x names xs apart.1 two.1)
   where
     no_test : (b : Bool) → not b ≡ true → b ≡ false
@@ -71,8 +67,8 @@ all_still_in x names (y ∷ xs) others h =
 no_more : (xs names : List (List ℕ)) → differ bytes_eq xs ≡ true → list_all (λ y. is_name_in y names) xs ≡ true → length xs ≤ length names
 no_more [] names apart h = omega arith
 no_more (x ∷ xs) names apart h =
-    let others = both (list_all (λ y. not (bytes_eq x y)) xs) (differ bytes_eq xs) apart in
-    let two = both (is_name_in x names) (list_all (λ y. is_name_in y names) xs) h in
+    let others = and_parts (list_all (λ y. not (bytes_eq x y)) xs) (differ bytes_eq xs) apart in
+    let two = and_parts (is_name_in x names) (list_all (λ y. is_name_in y names) xs) h in
     let rest = no_more xs (without x names) others.1 (all_still_in x names xs others.0 two.1) in
     let one = one_less x names two.0 in
     omega arith
@@ -93,7 +89,7 @@ own_name x names = by (is_name_in x names) refl
     by true e = e
     by false e =
         list_any-append (same_bytes x) names (x ∷ [])
-        ∙ or_true (is_name_in x names) (is_name_in x (x ∷ [])) (ap (λ z. z || is_name_in x []) ((bytes_exact x x).1 refl))
+        ∙ or_right (is_name_in x names) (is_name_in x (x ∷ [])) (ap (λ z. z || is_name_in x []) ((bytes_exact x x).1 refl))
 
 stays : (x : List ℕ) (names : List (List ℕ)) (ds : UnitTree) → is_name_in x names ≡ true → is_name_in x (names_from names ds) ≡ true
 stays x names [] h = h

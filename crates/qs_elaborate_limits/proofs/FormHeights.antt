@@ -1,5 +1,6 @@
 -- What the typed tree of a form is as high as: at most 1 more than its parts.
 use Rattle.std.proofs.Common.{◌≡◌, ◌≤◌, ℕ, ◌+◌, max, Bool, true, false, List, Some, subst, arith, if◌then◌else◌}
+use Rattle.std.proofs.lemmas.Option.{same_Some}
 use Rattle.qs_syntax_vocabulary.specs.declared.operators.UnaryOperator.{UnaryOperator}
 use Rattle.qs_syntax_vocabulary.specs.declared.operators.UnaryOperator.TheVariants as unaries
 use Rattle.qs_syntax_vocabulary.specs.declared.operators.StepOperator.{StepOperator}
@@ -10,14 +11,14 @@ use Rattle.qs_syntax_vocabulary.specs.declared.operators.AssignmentOperator.{Ass
 use Rattle.qs_syntax_vocabulary.specs.declared.operators.AssignmentOperator.TheVariants as assigns
 use Rattle.qs_syntax_vocabulary.specs.declared.operators.Access.{Access}
 use Rattle.qs_syntax_vocabulary.specs.declared.operators.Access.TheVariants as accesses
-use Rattle.qs_memory.proofs.Options.{some_same, followed}
+use Rattle.qs_memory.proofs.Options.{followed}
 use Rattle.qs_types.specs.Types.{TypeTree, int, unsigned, char, void, pointer, array, struct, is_struct, referenced, Structs}
 use Rattle.qs_types.specs.Layout.{extent_of, size_of}
 use Rattle.qs_meaning.specs.Typed.{Expr, logical_and, logical_or, Lvalue, variable, object}
 use Rattle.qs_meaning.specs.Forms.{Form, lvalue, result, call, assignment, step, struct_assignment, comma, TypedExpr, lvalue_of, address_in, address_of, value_in, value_of, effect_of, type_in_use, value_in_use, effect_in_use}
 use Rattle.qs_meaning.specs.Operations.{operation_of}
 use Rattle.qs_meaning.specs.Expressions.{operator_value, member_offset, member_form, set_form, struct_form, plain_form, compound_form, assign_form, one, step_after_form, step_form, unary_form, size_form, cast_form, operator_form, binary_form, subscript_form, conditional_form, comma_form}
-use Rattle.qs_meaning.proofs.Options.{nothing, same}
+use Rattle.qs_meaning.proofs.Options.{nothing}
 use Rattle.qs_elaborate_limits.proofs.TypedHeights.{height, lvalue_height, arguments_height, assignment_height, effect_height}
 
 -- however it is used
@@ -34,7 +35,7 @@ abbrev pub height_in_use : TypedExpr → ℕ
 height_in_use a = form_height a.form
 
 pub form_as : (n : ℕ) (f form : Form) → Some f ≡ Some form → form_height f ≤ n → form_height form ≤ n
-form_as n f form e h = subst (λ z. form_height z ≤ n) (some_same f form e) h
+form_as n f form e h = subst (λ z. form_height z ≤ n) (same_Some f form e) h
 
 -- ---- the three uses
 
@@ -75,7 +76,7 @@ pub effect_in_use_low : (a : TypedExpr) → effect_height (effect_in_use a) ≤ 
 effect_in_use_low a = effect_low a.type a.form
 
 pub place_low : (form : Form) (l : Lvalue) → lvalue_of form ≡ Some l → lvalue_height l ≤ form_height form
-place_low (lvalue m) l e = subst (λ z. lvalue_height z ≤ lvalue_height m) (same m l e) (omega arith)
+place_low (lvalue m) l e = subst (λ z. lvalue_height z ≤ lvalue_height m) (same_Some m l e) (omega arith)
 place_low (result a) l e = nothing l e
 place_low (call f given) l e = nothing l e
 place_low (assignment a) l e = nothing l e
@@ -92,7 +93,7 @@ address_low form p e =
   where
     go : (l : Lvalue) → address_in l ≡ Some p → height p ≤ lvalue_height l
     go (variable x) e = nothing p e
-    go (object q) e = subst (λ z. height z ≤ height q) (same q p e) (omega arith)
+    go (object q) e = subst (λ z. height z ≤ height q) (same_Some q p e) (omega arith)
 
 -- ---- operators between two operands
 
@@ -103,7 +104,7 @@ operator_value_low structs operator a b e q =
     let o = followed (operation_of structs operator (type_in_use a) (type_in_use b)) _ e q in
     let x = value_in_use_low a in
     let y = value_in_use_low b in
-    subst (λ z. height z ≤ 1 + max (height_in_use a) (height_in_use b)) (some_same _ e o.then) (omega arith)
+    subst (λ z. height z ≤ 1 + max (height_in_use a) (height_in_use b)) (same_Some _ e o.then) (omega arith)
 
 pub subscript_low :
     (structs : Structs) (a b : TypedExpr) (form : Form) → subscript_form structs a b ≡ Some form

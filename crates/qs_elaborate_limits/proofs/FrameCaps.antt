@@ -2,6 +2,8 @@
 use Rattle.std.proofs.Common.{◌≡◌, ◌≤◌, ℕ, ◌+◌, ◌*◌, true, List, [], ◌∷◌, ◌++◌, map, length, Option, Some, None, is_some, refl, sym, ap, ◌∙◌, subst, arith}
 use Rattle.std.specs.List.{list_all}
 use Rattle.std.proofs.lemmas.List.{map-append}
+use Rattle.std.specs.Cmp.{first_so, second_so}
+use Rattle.std.proofs.lemmas.Option.{same_Some}
 use Rattle.qs_syntax.specs.Trees.{Stmts, FunctionTree, DeclTree, structure, forward, function, variables, UnitTree}
 use Rattle.qs_memory.specs.declared.scalar.Scalar.{Scalar}
 use Rattle.qs_memory.proofs.Options.{followed}
@@ -17,7 +19,6 @@ use Rattle.qs_meaning.specs.Statements.{statements_typed}
 use Rattle.qs_meaning.specs.Units.{placed_among, variables_among, locals_of, parameters_in, scalars_of, sizes_of, parameters_typed, in_body, function_with, function_typed, file_variables_typed, declaration_typed, declarations_typed, start_scope}
 use Rattle.qs_meaning.specs.FitLaws.{body_filled, declaration_filled}
 use Rattle.qs_meaning.specs.TypedLaws.{IsFileScope}
-use Rattle.qs_meaning.proofs.Options.{left, right, same}
 use Rattle.qs_meaning.proofs.FaultlessExpressions.{none_left, none_right}
 use Rattle.qs_meaning.proofs.UnitsTyped.{start_known}
 use Rattle.qs_meaning.proofs.FitTypes.{SmallTable}
@@ -73,17 +74,17 @@ cores_need (f ∷ names) (g ∷ gs) = (core_need f g, cores_need names gs)
 -- ---- and by its source
 
 pub scalars_length : (ls : List Local) (ss : List Scalar) → scalars_of ls ≡ Some ss → length ss ≡ length ls
-scalars_length [] ss e = ap length (sym (same [] ss e))
+scalars_length [] ss e = ap length (sym (same_Some [] ss e))
 scalars_length (l ∷ ls) ss e =
     let t = followed l.type _ ss e in
     let rest = followed (scalars_of ls) _ ss t.then in
     let k = scalars_length ls rest.value rest.first in
-    subst (λ z. length z ≡ length (l ∷ ls)) (same _ ss rest.then) (omega arith)
+    subst (λ z. length z ≡ length (l ∷ ls)) (same_Some _ ss rest.then) (omega arith)
 
 function_capped :
     (s : Scope) → SmallTable s.context.structs → (f : FunctionTree) (o : Option Stmts) (gs : List Function) → body_filled o ≡ true → body_faults s.context f o ≡ []
     → function_typed s f o ≡ Some gs → EachBelow (map typed_need gs) (body_cap s.context f o)
-function_capped s table f None gs filled faults q = subst (λ z. EachBelow (map typed_need z) []) (same _ gs q) tt
+function_capped s table f None gs filled faults q = subst (λ z. EachBelow (map typed_need z) []) (same_Some _ gs q) tt
 function_capped s table f (Some body) gs filled faults q =
     let addressed = addressed_in s.context f body in
     let ps = parameters_in s.context f in
@@ -93,12 +94,12 @@ function_capped s table f (Some body) gs filled faults q =
     let y = followed (scalars_of (variables_among addressed ps ls)) _ g.value x.then in
     let z = followed (sizes_of s.context.structs (placed_among addressed (ps ++ ls))) _ g.value y.then in
     let w = followed (statements_typed (in_body s f (locals_of addressed ps ls)) body) _ g.value z.then in
-    let is = same _ g.value w.then in
+    let is = same_Some _ g.value w.then in
     let bytes = sym (ap (λ (g : Function). bytes_in_words g.blocks) is) ∙ blocks_are s.context table f body filled z.value z.first in
     let vars = sym (ap (λ (g : Function). length g.variables) is) ∙ scalars_length (variables_among addressed ps ls) y.value y.first in
     let parts = statements_parts body (in_body s f (locals_of addressed ps ls)) w.value faults w.first in
     let most = subst (λ (g : Function). expressions_in g ≤ stmts_expressions body) is parts in
-    subst (λ z. EachBelow (map typed_need z) (cap s.context f body ∷ [])) (same _ gs g.then) (
+    subst (λ z. EachBelow (map typed_need z) (cap s.context f body ∷ [])) (same_Some _ gs g.then) (
       capped (bytes_in_words g.value.blocks) (placed_bytes s.context f body) (length g.value.variables) (variable_count s.context f body)
           (expressions_in g.value) (stmts_expressions body) bytes vars most,
       tt,
@@ -124,34 +125,34 @@ caps_joined c (function f) ds = refl
 declaration_capped :
     (d : DeclTree) (s : Scope) (now : TypedProgram) → SmallTable s.context.structs → declaration_filled d ≡ true → declaration_faults s.context d ≡ []
     → declaration_typed s d ≡ Some now → EachBelow (map typed_need now.functions) (declared_caps s.context d)
-declaration_capped (structure t) s now table filled faults q = subst (λ (z : TypedProgram). EachBelow (map typed_need z.functions) []) (same _ now q) tt
-declaration_capped (forward t) s now table filled faults q = subst (λ (z : TypedProgram). EachBelow (map typed_need z.functions) []) (same _ now q) tt
+declaration_capped (structure t) s now table filled faults q = subst (λ (z : TypedProgram). EachBelow (map typed_need z.functions) []) (same_Some _ now q) tt
+declaration_capped (forward t) s now table filled faults q = subst (λ (z : TypedProgram). EachBelow (map typed_need z.functions) []) (same_Some _ now q) tt
 declaration_capped (variables v) s now table filled faults q =
     let bs = followed (file_variables_typed s v.base v.variables) _ now q in
-    subst (λ (z : TypedProgram). EachBelow (map typed_need z.functions) []) (same _ now bs.then) tt
+    subst (λ (z : TypedProgram). EachBelow (map typed_need z.functions) []) (same_Some _ now bs.then) tt
 declaration_capped (function f) s now table filled faults q =
     let gs = followed (function_typed s f f.body) _ now q in
     let inside = none_right (parameters_faults (inner_scope s.context) (is_some f.body) f.parameters) _ (none_right (faults_of f.node.id (header_tests s.context f)) _ faults) in
-    subst (λ (z : TypedProgram). EachBelow (map typed_need z.functions) (body_cap s.context f f.body)) (same _ now gs.then)
+    subst (λ (z : TypedProgram). EachBelow (map typed_need z.functions) (body_cap s.context f f.body)) (same_Some _ now gs.then)
     (function_capped s table f f.body gs.value filled inside gs.first)
 
 module _ (s₀ : Scope) where
   declarations_capped :
       (ds : UnitTree) (c : Context) (u : TypedProgram) → IsFileScope c → SmallTable c.structs → declarations_faults c ds ≡ [] → list_all declaration_filled ds ≡ true
       → declarations_typed (within s₀ c) ds ≡ Some u → EachBelow (map typed_need u.functions) (caps_from c ds)
-  declarations_capped [] c u h table faults filled q = subst (λ (z : TypedProgram). EachBelow (map typed_need z.functions) []) (same _ u q) tt
+  declarations_capped [] c u h table faults filled q = subst (λ (z : TypedProgram). EachBelow (map typed_need z.functions) []) (same_Some _ u q) tt
   declarations_capped (d ∷ ds) c u h table faults filled q =
       let after = after_declaration c d in
       let now = followed (declaration_typed (within s₀ c) d) _ u q in
       let rest = followed (declarations_typed (within s₀ after) ds) _ u now.then in
       let own = none_left (declaration_faults c d) (declarations_faults after ds) faults in
-      let here = declaration_capped d (within s₀ c) now.value table (left _ _ filled) own now.first in
+      let here = declaration_capped d (within s₀ c) now.value table (first_so _ _ filled) own now.first in
       let later =
-      declarations_capped ds after rest.value (file_after s₀ c d h own) (table_after s₀ d c h table own (left _ _ filled))
-      (none_right (declaration_faults c d) (declarations_faults after ds) faults) (right (declaration_filled d) _ filled) rest.first
+      declarations_capped ds after rest.value (file_after s₀ c d h own) (table_after s₀ d c h table own (first_so _ _ filled))
+      (none_right (declaration_faults c d) (declarations_faults after ds) faults) (second_so (declaration_filled d) _ filled) rest.first
       in
       let both = below_both (map typed_need now.value.functions) (declared_caps c d) (map typed_need rest.value.functions) (caps_from after ds) here later in
-      subst (λ (z : TypedProgram). EachBelow (map typed_need z.functions) (caps_from c (d ∷ ds))) (same _ u rest.then)
+      subst (λ (z : TypedProgram). EachBelow (map typed_need z.functions) (caps_from c (d ∷ ds))) (same_Some _ u rest.then)
       (subst (λ ns. EachBelow ns (caps_from c (d ∷ ds))) (sym (map-append typed_need now.value.functions rest.value.functions))
       (subst (λ ns. EachBelow (map typed_need now.value.functions ++ map typed_need rest.value.functions) ns) (caps_joined c d ds) both))
 
@@ -159,7 +160,7 @@ pub caps_are_kept : CapsAreKept
 caps_are_kept unit core read well q =
     let m = made unit core q in
     let d = followed (declarations_typed (start_scope unit) unit) _ m.typed m.tree in
-    let source = subst (λ (z : TypedProgram). EachBelow (map typed_need z.functions) (caps unit)) (same _ m.typed d.then)
+    let source = subst (λ (z : TypedProgram). EachBelow (map typed_need z.functions) (caps unit)) (same_Some _ m.typed d.then)
     (declarations_capped (start_scope unit) unit start_context d.value start_known start_small well.keeps_rules (read_is_as_read unit read).lists d.first) in
     subst (λ fs. EachBelow (map needed fs) (caps unit)) (functions_are unit core m)
     (below_through (map needed (functions_core (names_in unit) m.typed.functions)) (map typed_need m.typed.functions) (caps unit)

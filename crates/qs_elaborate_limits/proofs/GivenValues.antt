@@ -1,6 +1,9 @@
 -- In main of a well typed unit each `return` has a value.
 use Rattle.std.proofs.Common.{◌≡◌, ℕ, ◌&&◌, Bool, true, false, List, [], ◌∷◌, ◌++◌, All, Option, Some, None, is_some, refl, sym, ap, ◌∙◌, subst, if◌then◌else◌}
 use Rattle.std.proofs.lemmas.List.Elements.{All-nil, All-cons, All-append}
+use Rattle.std.proofs.lemmas.Bool.{and_from}
+use Rattle.std.specs.Cmp.{first_so}
+use Rattle.std.proofs.lemmas.Option.{same_Some}
 use Rattle.qs_base.specs.Bytes.{same_bytes}
 use Rattle.qs_syntax.specs.declared.types.Base.{Base}
 use Rattle.qs_syntax.specs.Trees.{ExprTree, VariableTree, ParameterTree, StartTree, no_start, start_expression, start_declaration, StmtTree, empty, expression, declaration, block, branch, while_loop, do_loop, for_loop, break, continue, return, Stmts, no_stmts, stmt_and, Else, no_else, else_by, FunctionTree, DeclTree, structure, forward, function, variables, UnitTree}
@@ -20,7 +23,7 @@ use Rattle.qs_meaning.specs.Names.{Scope, within}
 use Rattle.qs_meaning.specs.Expressions.{typed}
 use Rattle.qs_meaning.specs.Statements.{variables_typed, effect_typed, option_effect, condition_typed, option_condition, start_typed, return_typed, inner, loop_body, in_for, statement_typed, statements_typed, else_typed}
 use Rattle.qs_meaning.specs.Units.{placed_among, variables_among, locals_of, parameters_in, scalars_of, sizes_of, parameters_typed, in_body, function_with, function_typed, file_variables_typed, declaration_typed, declarations_typed, start_scope, typed_of}
-use Rattle.qs_meaning.proofs.Options.{never, left, same}
+use Rattle.qs_meaning.proofs.Options.{never}
 use Rattle.qs_meaning.proofs.FaultlessExpressions.{none_left, none_right, unbroken, first_unbroken, second_unbroken}
 use Rattle.qs_meaning.proofs.FunctionsTyped.{result_known}
 use Rattle.qs_elaborate_laws.proofs.FitRules.{main_type_kept}
@@ -43,11 +46,8 @@ abbrev mutual
   all_give_values typed_trees.no_stmts = true
   all_give_values (typed_trees.stmt_and s ss) = gives_values s && all_give_values ss
 
-together : {a b : Bool} → a ≡ true → b ≡ true → (a && b) ≡ true
-together {a = a} {b = b} e f = ap (λ z. z && b) e ∙ f
-
 gives_as : (x a : Stmt) → Some x ≡ Some a → gives_values x ≡ true → gives_values a ≡ true
-gives_as x a e h = subst (λ z. gives_values z ≡ true) (same x a e) h
+gives_as x a e h = subst (λ z. gives_values z ≡ true) (same_Some x a e) h
 
 -- ---- the result of the function stays known
 
@@ -111,7 +111,7 @@ mutual
       let y = followed (statement_typed (inner s) t) _ a x.then in
       let z = followed (else_typed s o) _ a y.then in
       let parts = none_right (condition_faults s.context node e) _ f in
-      gives_as _ a z.then (together (statement_gives t (inner s) y.value r (none_left _ _ parts) y.first)
+      gives_as _ a z.then (and_from _ _ (statement_gives t (inner s) y.value r (none_left _ _ parts) y.first)
       (else_gives o s z.value r (none_right (statement_faults (inner_scope s.context) t) _ parts) z.first))
   statement_gives (while_loop node e t) s a r f q =
       let x = followed (condition_typed s e) _ a q in
@@ -136,13 +136,13 @@ mutual
   statement_gives (return node e) s a r f q = return_gives s node.id e a r (none_left (faults_of node.id (return_tests s.context s.context.result e)) _ f) q
 
   statements_give : (ss : Stmts) (s : Scope) (list : typed_trees.Stmts) → Returns s.context → statements_faults s.context ss ≡ [] → statements_typed s ss ≡ Some list → all_give_values list ≡ true
-  statements_give no_stmts s list r f q = subst (λ z. all_give_values z ≡ true) (same _ list q) refl
+  statements_give no_stmts s list r f q = subst (λ z. all_give_values z ≡ true) (same_Some _ list q) refl
   statements_give (stmt_and t ts) s list r f q =
       let after = within s (after_statement s.context t) in
       let x = followed (statement_typed s t) _ list q in
       let y = followed (statements_typed after ts) _ list x.then in
-      subst (λ z. all_give_values z ≡ true) (same _ list y.then)
-      (together (statement_gives t s x.value r (none_left (statement_faults s.context t) (statements_faults after.context ts) f) x.first)
+      subst (λ z. all_give_values z ≡ true) (same_Some _ list y.then)
+      (and_from _ _ (statement_gives t s x.value r (none_left (statement_faults s.context t) (statements_faults after.context ts) f) x.first)
       (statements_give ts after y.value (statement_result t s.context ∙ r) (none_right (statement_faults s.context t) (statements_faults after.context ts) f) y.first))
 
   else_gives : (o : Else) (s : Scope) (a : Stmt) → Returns s.context → else_faults s.context o ≡ [] → else_typed s o ≡ Some a → gives_values a ≡ true
@@ -170,7 +170,7 @@ main_result c f faults named =
     let known = result_known c f (first_unbroken (result_tests c f) (main_tests f (header_of c f))
     (second_unbroken (keeps rules.DeclaredTwice (may_declare c f)) (result_tests c f ++ main_tests f (header_of c f))
     (unbroken f.node.id (header_tests c f) (none_left (faults_of f.node.id (header_tests c f)) _ faults)))) in
-    let tested = left (may_be int (result_type c f)) _ (main_tested (same_bytes f.name main_name) (is_main_type (header_of c f)) named (main_type_kept c f faults)) in
+    let tested = first_so (may_be int (result_type c f)) _ (main_tested (same_bytes f.name main_name) (is_main_type (header_of c f)) named (main_type_kept c f faults)) in
     known.is ∙ ap Some (sym (int_is known.value (ap (may_be int) (sym known.is) ∙ tested)))
 
 -- where a function is main, its body gives values
@@ -186,38 +186,38 @@ function_gives s f body addressed ps ls g faults inside q =
     let y = followed (scalars_of (variables_among addressed ps ls)) _ g x.then in
     let z = followed (sizes_of s.context.structs (placed_among addressed (ps ++ ls))) _ g y.then in
     let w = followed (statements_typed (in_body s f locals) body) _ g z.then in
-    subst GivesIfMain (same _ g w.then) (λ named.
+    subst GivesIfMain (same_Some _ g w.then) (λ named.
     statements_give body (in_body s f locals) w.value (body_result s.context f ∙ main_result s.context f faults named) inside w.first)
 
 functions_give :
     (s : Scope) (f : FunctionTree) (o : Option Stmts) (gs : List Function) → function_faults s.context f ≡ [] → body_faults s.context f o ≡ []
     → function_typed s f o ≡ Some gs → All GivesIfMain gs
-functions_give s f None gs faults inside q = subst (All GivesIfMain) (same _ gs q) (All-nil GivesIfMain)
+functions_give s f None gs faults inside q = subst (All GivesIfMain) (same_Some _ gs q) (All-nil GivesIfMain)
 functions_give s f (Some body) gs faults inside q =
     let ps = parameters_in s.context f in
     let ls = statements_locals (body_context s.context f) body in
     let g = followed (function_with s f body (addressed_in s.context f body) ps ls) _ gs q in
-    subst (All GivesIfMain) (same _ gs g.then)
+    subst (All GivesIfMain) (same_Some _ gs g.then)
     (All-cons GivesIfMain g.value [] (function_gives s f body (addressed_in s.context f body) ps ls g.value faults inside g.first) (All-nil GivesIfMain))
 
 declaration_gives : (d : DeclTree) (s : Scope) (now : TypedProgram) → declaration_faults s.context d ≡ [] → declaration_typed s d ≡ Some now → All GivesIfMain now.functions
-declaration_gives (structure d) s now f q = subst (λ (z : TypedProgram). All GivesIfMain z.functions) (same _ now q) (All-nil GivesIfMain)
-declaration_gives (forward d) s now f q = subst (λ (z : TypedProgram). All GivesIfMain z.functions) (same _ now q) (All-nil GivesIfMain)
+declaration_gives (structure d) s now f q = subst (λ (z : TypedProgram). All GivesIfMain z.functions) (same_Some _ now q) (All-nil GivesIfMain)
+declaration_gives (forward d) s now f q = subst (λ (z : TypedProgram). All GivesIfMain z.functions) (same_Some _ now q) (All-nil GivesIfMain)
 declaration_gives (variables d) s now f q =
     let bs = followed (file_variables_typed s d.base d.variables) _ now q in
-    subst (λ (z : TypedProgram). All GivesIfMain z.functions) (same _ now bs.then) (All-nil GivesIfMain)
+    subst (λ (z : TypedProgram). All GivesIfMain z.functions) (same_Some _ now bs.then) (All-nil GivesIfMain)
 declaration_gives (function g) s now f q =
     let gs = followed (function_typed s g g.body) _ now q in
     let inside = none_right (parameters_faults (inner_scope s.context) (is_some g.body) g.parameters) _ (none_right (faults_of g.node.id (header_tests s.context g)) _ f) in
-    subst (λ (z : TypedProgram). All GivesIfMain z.functions) (same _ now gs.then) (functions_give s g g.body gs.value f inside gs.first)
+    subst (λ (z : TypedProgram). All GivesIfMain z.functions) (same_Some _ now gs.then) (functions_give s g g.body gs.value f inside gs.first)
 
 declarations_give : (ds : UnitTree) (s : Scope) (u : TypedProgram) → declarations_faults s.context ds ≡ [] → declarations_typed s ds ≡ Some u → All GivesIfMain u.functions
-declarations_give [] s u f q = subst (λ (z : TypedProgram). All GivesIfMain z.functions) (same _ u q) (All-nil GivesIfMain)
+declarations_give [] s u f q = subst (λ (z : TypedProgram). All GivesIfMain z.functions) (same_Some _ u q) (All-nil GivesIfMain)
 declarations_give (d ∷ ds) s u f q =
     let after = within s (after_declaration s.context d) in
     let now = followed (declaration_typed s d) _ u q in
     let rest = followed (declarations_typed after ds) _ u now.then in
-    subst (λ (z : TypedProgram). All GivesIfMain z.functions) (same _ u rest.then)
+    subst (λ (z : TypedProgram). All GivesIfMain z.functions) (same_Some _ u rest.then)
     (All-append GivesIfMain now.value.functions rest.value.functions
     (declaration_gives d s now.value (none_left (declaration_faults s.context d) (declarations_faults after.context ds) f) now.first)
     (declarations_give ds after rest.value (none_right (declaration_faults s.context d) (declarations_faults after.context ds) f) rest.first))
@@ -225,4 +225,4 @@ declarations_give (d ∷ ds) s u f q =
 pub mains_give : (unit : UnitTree) (u : TypedProgram) → WellTyped unit → typed_of unit ≡ Some u → All GivesIfMain u.functions
 mains_give unit u well q =
     let d = followed (declarations_typed (start_scope unit) unit) _ u q in
-    subst (λ (z : TypedProgram). All GivesIfMain z.functions) (same _ u d.then) (declarations_give unit (start_scope unit) d.value well.keeps_rules d.first)
+    subst (λ (z : TypedProgram). All GivesIfMain z.functions) (same_Some _ u d.then) (declarations_give unit (start_scope unit) d.value well.keeps_rules d.first)

@@ -1,6 +1,8 @@
 -- Where a run of main ends, main has returned a value.
 use Rattle.std.proofs.Common.{◌≡◌, ◌≢◌, ℕ, zero, suc, ◌+◌, Bool, true, false, List, [], ◌∷◌, All, Option, Some, None, length, refl, sym, ap, ◌∙◌, subst, arith, if◌then◌else◌}
 use Rattle.std.specs.List.{slice_get}
+use Rattle.std.specs.Cmp.{first_so, second_so}
+use Rattle.std.proofs.lemmas.Option.{same_Some}
 use Rattle.qs_memory.specs.Values.{Value, integer}
 use Rattle.qs_memory.specs.Memory.{Memory, make, release}
 use Rattle.qs_events.specs.Events.{Returns}
@@ -16,7 +18,7 @@ use Rattle.qs_meaning.specs.States.{Next, Here, convert_by, conversion_then}
 use Rattle.qs_meaning.specs.Meaning.{Targets, in_loop, turns, condition, for_condition, effect, statement, statements}
 use Rattle.qs_meaning.specs.Runs.{frame_of, body_of, calls_within, main_from, run_of, start_world}
 use Rattle.qs_meaning.specs.Runs as source
-use Rattle.qs_meaning.proofs.Options.{never, left, right, nothing, same}
+use Rattle.qs_meaning.proofs.Options.{never, nothing}
 use Rattle.qs_meaning.proofs.RelationLaws.{TurnsRelated, expression_related, effect_related, condition_related, for_condition_related, body_related}
 use Rattle.qs_elaborate_laws.proofs.FitCore.{units_have_cores}
 use Rattle.qs_elaborate_limits.specs.Laws.{MainReturns}
@@ -81,7 +83,7 @@ module _ (n : ℕ) (c : CallsOf) (related : CallsRelated R c c) (first : ℕ) wh
     statement_leaves (block ss) t g h v w = statements_leave ss t g h v w
     statement_leaves (branch e a b) t g h v w =
         condition_related R keeps n n (turns_leave n) c c related first e (statement a here t) (statement b here t) (statement a here t) (statement b here t)
-        (statement_leaves a t (left _ _ g) h) (statement_leaves b t (right (gives_values a) _ g) h) v w
+        (statement_leaves a t (first_so _ _ g) h) (statement_leaves b t (second_so (gives_values a) _ g) h) v w
     statement_leaves (while_loop e a) t g h v w =
         turns_leave n (λ k. condition e here (statement a here (in_loop t k)) t.behind) (λ k. k) (λ k l i.
         condition_related R keeps n n (turns_leave n) c c related first e (statement a here (in_loop t k)) t.behind (statement a here (in_loop t k)) t.behind
@@ -107,8 +109,8 @@ module _ (n : ℕ) (c : CallsOf) (related : CallsRelated R c c) (first : ℕ) wh
     statements_leave : (ss : Stmts) (t : Targets) → all_give_values ss ≡ true → AllLeave t → Leaves (statements ss here t)
     statements_leave no_stmts t g h v w = h.behind v w
     statements_leave (stmt_and s ss) t g h v w =
-        statement_leaves s (record t { behind = statements ss here t }) (left _ _ g) (record {
-          behind = statements_leave ss t (right (gives_values s) _ g) h;
+        statement_leaves s (record t { behind = statements ss here t }) (first_so _ _ g) (record {
+          behind = statements_leave ss t (second_so (gives_values s) _ g) h;
           at_break = h.at_break;
           at_continue = h.at_continue;
           at_return = h.at_return;
@@ -151,7 +153,7 @@ call_leaves :
     → LeavesResult (given o (λ g. activate root (frame_of g) (body_of g n (calls_within functions n depth)) xs leaves w))
 call_leaves functions n depth root None g at is gives xs w = nothing g at
 call_leaves functions n depth root (Some f) g at is gives xs w =
-    let e = same f g at in
+    let e = same_Some f g at in
     let entered = length w.memory in
     let k = returned root entered in
     pass_related R keeps f.parameters xs entered no_values (with_memory w (make f.blocks w.memory))
@@ -182,7 +184,7 @@ main_at k m (g ∷ gs) h = by g.is_main refl h (main_at (k + 1) m gs)
   where
     by : (b : Bool) → g.is_main ≡ b → (if b then Some k else main_from (k + 1) gs) ≡ Some m → (main_from (k + 1) gs ≡ Some m → IsMain gs (k + 1) m)
         → IsMain (g ∷ gs) k m
-    by true e q others = let p = same k m q in record { number = 0; place = omega arith; main = g; there = refl; marked = e }
+    by true e q others = let p = same_Some k m q in record { number = 0; place = omega arith; main = g; there = refl; marked = e }
     by false e q others =
         let rest = others q in
         let p = rest.place in
@@ -190,7 +192,7 @@ main_at k m (g ∷ gs) h = by g.is_main refl h (main_at (k + 1) m gs)
 
 gives_at : (gs : List Function) (k : ℕ) (g : Function) → All GivesIfMain gs → slice_get gs k ≡ Some g → GivesIfMain g
 gives_at [] k g all at = nothing g at
-gives_at (f ∷ gs) zero g all at = subst GivesIfMain (same f g at) (all 0 f (omega arith))
+gives_at (f ∷ gs) zero g all at = subst GivesIfMain (same_Some f g at) (all 0 f (omega arith))
 gives_at (f ∷ gs) (suc k) g all at = gives_at gs k g (λ i h lt. all (suc i) h (omega arith)) at
 
 at_place : (gs : List Function) (m number : ℕ) (g : Function) → m ≡ 0 + number → slice_get gs number ≡ Some g → slice_get gs m ≡ Some g
@@ -213,6 +215,6 @@ source_returns u all xs input n = by (main_from 0 u.functions) refl
 pub main_returns : MainReturns
 main_returns unit core read well limits q xs input n end e =
     let has = units_have_cores unit read well limits in
-    let core_is = same has.core core (sym has.is ∙ q) in
+    let core_is = same_Some has.core core (sym has.is ∙ q) in
     let run_is = sym (has.main_follows xs input n) ∙ ap (λ (z : CoreUnitTree). main_run z xs input n) core_is in
     source_returns has.typed (mains_give unit has.typed well has.tree) xs input n end (ap ending_of run_is ∙ e)

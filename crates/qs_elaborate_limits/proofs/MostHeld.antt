@@ -2,6 +2,8 @@
 use Rattle.std.proofs.Common.{◌≡◌, ◌≤◌, ℕ, zero, suc, ◌+◌, max, Bool, true, false, List, [], ◌∷◌, ◌++◌, map, Option, Some, None, length, refl, ap, arith}
 use Rattle.std.specs.List.{slice_get}
 use Rattle.std.proofs.lemmas.List.{length-map}
+use Rattle.std.proofs.lemmas.Bool.{and_parts}
+use Rattle.std.proofs.lemmas.Option.{same_Some}
 use Rattle.qs_calls.specs.Starts.{Signature, signature_of}
 use Rattle.qs_calls.specs.declared.callee.Callee.{Callee}
 use Rattle.qs_calls.specs.declared.callee.Callee.TheVariants.{Function, PutChar, GetChar}
@@ -12,10 +14,9 @@ use Rattle.qs_memory.proofs.ScalarLaws.{scalars_same}
 use Rattle.qs_core.specs.Interfaces.{types_of, signature, interface_of}
 use Rattle.qs_core.specs.Fits.{expr_fits, exprs_fit, destination_fits, call_fits, stmt_fits, stmts_fit}
 use Rattle.qs_core.specs.Sizes.{held, all_held, option_held, held_in, held_in_all}
-use Rattle.qs_core.proofs.FitLaws.{both}
 use Rattle.qs_elaborate_bodies.specs.Parts.{one_statement}
 use Rattle.qs_elaborate_laws.proofs.SizeFacts.{own_small, own_held, parts_small}
-use Rattle.qs_meaning.proofs.Options.{never, nothing, same}
+use Rattle.qs_meaning.proofs.Options.{never, nothing}
 use Rattle.qs_elaborate_limits.specs.Measures.{arguments_in, arguments_in_all}
 use Rattle.qs_elaborate_limits.proofs.SourceHeights.{highest}
 
@@ -75,7 +76,7 @@ arguments_few : (k : ℕ) (f : CoreFunctionTree) (x : Option ℕ) (o : Option Si
 arguments_few k f x None es few h = never h
 arguments_few k f x (Some s) [] few h = omega arith
 arguments_few k f x (Some s) (e ∷ es) few h =
-    let two = both (same_scalars (map type_of (e ∷ es)) s.parameters) (destination_fits f s.result_type x (e ∷ es)) h in
+    let two = and_parts (same_scalars (map type_of (e ∷ es)) s.parameters) (destination_fits f s.result_type x (e ∷ es)) h in
     let same = ap length (scalars_same (map type_of (e ∷ es)) s.parameters two.0) in
     let mapped = length-map es type_of in
     let most = few s refl in
@@ -91,14 +92,14 @@ module _ (u : CoreUnitTree) (k : ℕ) (some : 2 ≤ k) (few : (g : Callee) → T
     statement_few b c (copy size alignment a e) h = omega (arith, own_small a, own_held e)
     statement_few b c (fill blank a) h = omega arith
     statement_few b c (call x g es) h =
-        arguments_few k f x (signature_of (interface_of u) g) es (few g) (both (exprs_fit u f es) (call_fits f x (signature_of (interface_of u) g) es) h).1
+        arguments_few k f x (signature_of (interface_of u) g) es (few g) (and_parts (exprs_fit u f es) (call_fits f x (signature_of (interface_of u) g) es) h).1
     statement_few b c (branch e s t) h =
-        let two = both _ (stmt_fits u f b c t) h in
-        let i = statement_few b c s (both (expr_fits u f e) (stmt_fits u f b c s) two.0).1 in
+        let two = and_parts _ (stmt_fits u f b c t) h in
+        let i = statement_few b c s (and_parts (expr_fits u f e) (stmt_fits u f b c s) two.0).1 in
         let j = statement_few b c t two.1 in
         omega arith
     statement_few b c (loop body step) h =
-        let two = both (stmt_fits u f true true body) (stmt_fits u f true false step) h in
+        let two = and_parts (stmt_fits u f true true body) (stmt_fits u f true false step) h in
         let i = statement_few true true body two.0 in
         let j = statement_few true false step two.1 in
         omega arith
@@ -109,7 +110,7 @@ module _ (u : CoreUnitTree) (k : ℕ) (some : 2 ≤ k) (few : (g : Callee) → T
     pub body_few : (b c : Bool) (ss : CoreStmts) → stmts_fit u f b c ss ≡ true → held_in_all ss ≤ most_in_all ss + k
     body_few b c no_stmts h = omega arith
     body_few b c (stmt_and s ss) h =
-        let two = both (stmt_fits u f b c s) (stmts_fit u f b c ss) h in
+        let two = and_parts (stmt_fits u f b c s) (stmts_fit u f b c ss) h in
         let i = statement_few b c s two.0 in
         let j = body_few b c ss two.1 in
         omega arith
@@ -120,7 +121,7 @@ call_arguments : (k : ℕ) (f : CoreFunctionTree) (x : Option ℕ) (o : Option S
     → length es ≤ k + 1
 call_arguments k f x None es few h = never h
 call_arguments k f x (Some s) es few h =
-    let two = both (same_scalars (map type_of es) s.parameters) (destination_fits f s.result_type x es) h in
+    let two = and_parts (same_scalars (map type_of es) s.parameters) (destination_fits f s.result_type x es) h in
     let same = ap length (scalars_same (map type_of es) s.parameters two.0) in
     let mapped = length-map es type_of in
     let most = few s refl in
@@ -136,14 +137,14 @@ module _ (u : CoreUnitTree) (k : ℕ) (few : (g : Callee) → TakesFew k (signat
     statement_arguments b c (copy size alignment a e) h = omega arith
     statement_arguments b c (fill blank a) h = omega arith
     statement_arguments b c (call x g es) h =
-        call_arguments k f x (signature_of (interface_of u) g) es (few g) (both (exprs_fit u f es) (call_fits f x (signature_of (interface_of u) g) es) h).1
+        call_arguments k f x (signature_of (interface_of u) g) es (few g) (and_parts (exprs_fit u f es) (call_fits f x (signature_of (interface_of u) g) es) h).1
     statement_arguments b c (branch e s t) h =
-        let two = both _ (stmt_fits u f b c t) h in
-        let i = statement_arguments b c s (both (expr_fits u f e) (stmt_fits u f b c s) two.0).1 in
+        let two = and_parts _ (stmt_fits u f b c t) h in
+        let i = statement_arguments b c s (and_parts (expr_fits u f e) (stmt_fits u f b c s) two.0).1 in
         let j = statement_arguments b c t two.1 in
         omega arith
     statement_arguments b c (loop body step) h =
-        let two = both (stmt_fits u f true true body) (stmt_fits u f true false step) h in
+        let two = and_parts (stmt_fits u f true true body) (stmt_fits u f true false step) h in
         let i = statement_arguments true true body two.0 in
         let j = statement_arguments true false step two.1 in
         omega arith
@@ -154,7 +155,7 @@ module _ (u : CoreUnitTree) (k : ℕ) (few : (g : Callee) → TakesFew k (signat
     pub body_arguments : (b c : Bool) (ss : CoreStmts) → stmts_fit u f b c ss ≡ true → arguments_in_all ss ≤ k + 1
     body_arguments b c no_stmts h = omega arith
     body_arguments b c (stmt_and s ss) h =
-        let two = both (stmt_fits u f b c s) (stmts_fit u f b c ss) h in
+        let two = and_parts (stmt_fits u f b c s) (stmts_fit u f b c ss) h in
         let i = statement_arguments b c s two.0 in
         let j = body_arguments b c ss two.1 in
         omega arith
@@ -172,7 +173,7 @@ types_few (p ∷ ps) (v ∷ vs) = let h = types_few ps vs in omega arith
 signatures_few : (fs : List CoreFunctionTree) (i : ℕ) (s : Signature) → slice_get (map signature fs) i ≡ Some s → length s.parameters ≤ highest core_parameters fs
 signatures_few [] i s e = nothing s e
 signatures_few (f ∷ fs) zero s e =
-    let n = ap (λ (z : Signature). length z.parameters) (same (signature f) s e) in
+    let n = ap (λ (z : Signature). length z.parameters) (same_Some (signature f) s e) in
     let h = types_few f.parameters f.variables in
     omega arith
 signatures_few (f ∷ fs) (suc i) s e = let h = signatures_few fs i s e in omega arith
@@ -180,5 +181,5 @@ signatures_few (f ∷ fs) (suc i) s e = let h = signatures_few fs i s e in omega
 -- putchar takes 1
 pub calls_few : (u : CoreUnitTree) (k : ℕ) → highest core_parameters u.functions ≤ k + 1 → (g : Callee) → TakesFew k (signature_of (interface_of u) g)
 calls_few u k h (Function f) s e = let i = signatures_few u.functions f.0 s e in omega arith
-calls_few u k h PutChar s e = let n = ap (λ (z : Signature). length z.parameters) (same _ s e) in omega arith
-calls_few u k h GetChar s e = let n = ap (λ (z : Signature). length z.parameters) (same _ s e) in omega arith
+calls_few u k h PutChar s e = let n = ap (λ (z : Signature). length z.parameters) (same_Some _ s e) in omega arith
+calls_few u k h GetChar s e = let n = ap (λ (z : Signature). length z.parameters) (same_Some _ s e) in omega arith

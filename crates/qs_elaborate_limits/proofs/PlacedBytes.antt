@@ -3,6 +3,8 @@ use Rattle.std.proofs.Common.{◌≡◌, ◌≤◌, inl, inr, ℕ, max, true, Li
 use Rattle.std.specs.Prelude.{sum_by}
 use Rattle.std.specs.List.{list_all}
 use Rattle.std.proofs.lemmas.List.Sums.{sum_by-cons}
+use Rattle.std.specs.Cmp.{first_so, second_so}
+use Rattle.std.proofs.lemmas.Option.{same_Some}
 use Rattle.qs_syntax.specs.Trees.{Stmts, FunctionTree, DeclTree, structure, forward, function, variables, UnitTree}
 use Rattle.qs_memory.specs.Partial.{◌>>=◌}
 use Rattle.qs_memory.proofs.Options.{followed}
@@ -19,7 +21,6 @@ use Rattle.qs_meaning.specs.Statements.{statements_typed}
 use Rattle.qs_meaning.specs.Units.{placed_among, variables_among, locals_of, parameters_in, scalars_of, sizes_of, parameters_typed, in_body, function_with, function_typed, file_variables_typed, declaration_typed, declarations_typed, start_scope, typed_of}
 use Rattle.qs_meaning.specs.FitLaws.{statements_filled, body_filled, declaration_filled, IsAsRead}
 use Rattle.qs_meaning.specs.TypedLaws.{IsFileScope}
-use Rattle.qs_meaning.proofs.Options.{left, right, same}
 use Rattle.qs_meaning.proofs.FaultlessExpressions.{none_left, none_right}
 use Rattle.qs_meaning.proofs.Functions.{same_structs_with}
 use Rattle.qs_meaning.proofs.UnitsTyped.{start_known}
@@ -39,7 +40,7 @@ sizes_are :
     (structs : Structs) → SmallTable structs → (ls : List Local) (sizes : List ℕ)
     → ((l : Local) → In l ls → (t : TypeTree) → l.type ≡ Some t → is_small structs t ≡ true) → sizes_of structs ls ≡ Some sizes
     → bytes_in_words sizes ≡ sum_by (λ (b : Block). b.size) (map (local_block structs) ls)
-sizes_are structs table [] sizes small e = ap bytes_in_words (sym (same [] sizes e))
+sizes_are structs table [] sizes small e = ap bytes_in_words (sym (same_Some [] sizes e))
 sizes_are structs table (l ∷ ls) sizes small e =
     let n = followed (l.type >>= size_of structs) _ sizes e in
     let rest = followed (sizes_of structs ls) _ sizes n.then in
@@ -49,7 +50,7 @@ sizes_are structs table (l ∷ ls) sizes small e =
     let one = sum_by-cons (λ size. rounded_up size word_size) n.value rest.value in
     let other = sum_by-cons (λ (b : Block). b.size) (local_block structs l) (map (local_block structs) ls) in
     let here = ap (λ size. rounded_up size word_size) counted in
-    subst (λ z. bytes_in_words z ≡ sum_by (λ (b : Block). b.size) (map (local_block structs) (l ∷ ls))) (same _ sizes rest.then) (omega arith)
+    subst (λ z. bytes_in_words z ≡ sum_by (λ (b : Block). b.size) (map (local_block structs) (l ∷ ls))) (same_Some _ sizes rest.then) (omega arith)
 
 abbrev pub placed_of : Function → ℕ
 placed_of g = bytes_in_words g.blocks
@@ -74,7 +75,7 @@ module _ (c : Context) (table : SmallTable c.structs) (f : FunctionTree) (body :
 function_placed :
     (s : Scope) → SmallTable s.context.structs → (f : FunctionTree) (o : Option Stmts) (gs : List Function) → body_filled o ≡ true
     → function_typed s f o ≡ Some gs → highest placed_of gs ≤ body_bytes s.context f o
-function_placed s table f None gs filled q = subst (λ z. highest placed_of z ≤ 0) (same _ gs q) (omega arith)
+function_placed s table f None gs filled q = subst (λ z. highest placed_of z ≤ 0) (same_Some _ gs q) (omega arith)
 function_placed s table f (Some body) gs filled q =
     let addressed = addressed_in s.context f body in
     let ps = parameters_in s.context f in
@@ -84,9 +85,9 @@ function_placed s table f (Some body) gs filled q =
     let y = followed (scalars_of (variables_among addressed ps ls)) _ g.value x.then in
     let z = followed (sizes_of s.context.structs (placed_among addressed (ps ++ ls))) _ g.value y.then in
     let w = followed (statements_typed (in_body s f (locals_of addressed ps ls)) body) _ g.value z.then in
-    let sizes = ap bytes_in_words (ap (λ (g : Function). g.blocks) (same _ g.value w.then)) in
+    let sizes = ap bytes_in_words (ap (λ (g : Function). g.blocks) (same_Some _ g.value w.then)) in
     let are = blocks_are s.context table f body filled z.value z.first in
-    subst (λ z. highest placed_of z ≤ placed_bytes s.context f body) (same _ gs g.then) (omega arith)
+    subst (λ z. highest placed_of z ≤ placed_bytes s.context f body) (same_Some _ gs g.then) (omega arith)
 
 -- ---- units
 
@@ -106,37 +107,37 @@ most_here c (function f) ds = omega arith
 declaration_placed :
     (d : DeclTree) (s : Scope) (now : TypedProgram) → SmallTable s.context.structs → declaration_filled d ≡ true → declaration_typed s d ≡ Some now
     → highest placed_of now.functions ≤ declared_bytes s.context d
-declaration_placed (structure t) s now table filled q = subst (λ (z : TypedProgram). highest placed_of z.functions ≤ 0) (same _ now q) (omega arith)
-declaration_placed (forward t) s now table filled q = subst (λ (z : TypedProgram). highest placed_of z.functions ≤ 0) (same _ now q) (omega arith)
+declaration_placed (structure t) s now table filled q = subst (λ (z : TypedProgram). highest placed_of z.functions ≤ 0) (same_Some _ now q) (omega arith)
+declaration_placed (forward t) s now table filled q = subst (λ (z : TypedProgram). highest placed_of z.functions ≤ 0) (same_Some _ now q) (omega arith)
 declaration_placed (variables v) s now table filled q =
     let bs = followed (file_variables_typed s v.base v.variables) _ now q in
-    subst (λ (z : TypedProgram). highest placed_of z.functions ≤ 0) (same _ now bs.then) (omega arith)
+    subst (λ (z : TypedProgram). highest placed_of z.functions ≤ 0) (same_Some _ now bs.then) (omega arith)
 declaration_placed (function f) s now table filled q =
     let gs = followed (function_typed s f f.body) _ now q in
-    subst (λ (z : TypedProgram). highest placed_of z.functions ≤ body_bytes s.context f f.body) (same _ now gs.then)
+    subst (λ (z : TypedProgram). highest placed_of z.functions ≤ body_bytes s.context f f.body) (same_Some _ now gs.then)
     (function_placed s table f f.body gs.value filled gs.first)
 
 module _ (s₀ : Scope) where
   declarations_placed :
       (ds : UnitTree) (c : Context) (u : TypedProgram) → IsFileScope c → SmallTable c.structs → declarations_faults c ds ≡ [] → list_all declaration_filled ds ≡ true
       → declarations_typed (within s₀ c) ds ≡ Some u → highest placed_of u.functions ≤ placed_from c ds
-  declarations_placed [] c u h table faults filled q = subst (λ (z : TypedProgram). highest placed_of z.functions ≤ 0) (same _ u q) (omega arith)
+  declarations_placed [] c u h table faults filled q = subst (λ (z : TypedProgram). highest placed_of z.functions ≤ 0) (same_Some _ u q) (omega arith)
   declarations_placed (d ∷ ds) c u h table faults filled q =
       let after = after_declaration c d in
       let now = followed (declaration_typed (within s₀ c) d) _ u q in
       let rest = followed (declarations_typed (within s₀ after) ds) _ u now.then in
       let own = none_left (declaration_faults c d) (declarations_faults after ds) faults in
       let later =
-      declarations_placed ds after rest.value (file_after s₀ c d h own) (table_after s₀ d c h table own (left _ _ filled))
-      (none_right (declaration_faults c d) (declarations_faults after ds) faults) (right (declaration_filled d) _ filled) rest.first
+      declarations_placed ds after rest.value (file_after s₀ c d h own) (table_after s₀ d c h table own (first_so _ _ filled))
+      (none_right (declaration_faults c d) (declarations_faults after ds) faults) (second_so (declaration_filled d) _ filled) rest.first
       in
       let both = highest_joined placed_of now.value.functions rest.value.functions in
-      let here = declaration_placed d (within s₀ c) now.value table (left _ _ filled) now.first in
+      let here = declaration_placed d (within s₀ c) now.value table (first_so _ _ filled) now.first in
       let most = most_here c d ds in
-      subst (λ (z : TypedProgram). highest placed_of z.functions ≤ placed_from c (d ∷ ds)) (same _ u rest.then) (omega arith)
+      subst (λ (z : TypedProgram). highest placed_of z.functions ≤ placed_from c (d ∷ ds)) (same_Some _ u rest.then) (omega arith)
 
 pub placed_is_counted : (unit : UnitTree) (u : TypedProgram) → IsAsRead unit → WellTyped unit → typed_of unit ≡ Some u → highest placed_of u.functions ≤ most_placed unit
 placed_is_counted unit u read well q =
     let d = followed (declarations_typed (start_scope unit) unit) _ u q in
-    subst (λ (z : TypedProgram). highest placed_of z.functions ≤ most_placed unit) (same _ u d.then)
+    subst (λ (z : TypedProgram). highest placed_of z.functions ≤ most_placed unit) (same_Some _ u d.then)
     (declarations_placed (start_scope unit) unit start_context d.value start_known start_small well.keeps_rules read.lists d.first)

@@ -1,5 +1,6 @@
 -- The typed tree of a statement, and what initialises a local, are at most as high as the source.
 use Rattle.std.proofs.Common.{◌≡◌, ◌≤◌, ℕ, ◌+◌, max, Bool, true, false, List, [], ◌∷◌, ◌++◌, Option, Some, None, subst, arith, if◌then◌else◌}
+use Rattle.std.proofs.lemmas.Option.{same_Some}
 use Rattle.qs_syntax.specs.declared.types.Base.{Base}
 use Rattle.qs_syntax.specs.Trees.{ExprTree, InitialiserTree, Initialisers, no_initialisers, initialiser_and, VariableTree, StartTree, no_start, start_expression, start_declaration, StmtTree, empty, expression, declaration, block, branch, while_loop, do_loop, for_loop, break, continue, return, Stmts, no_stmts, stmt_and, Else, no_else, else_by}
 use Rattle.qs_syntax.specs.Trees as trees
@@ -16,20 +17,19 @@ use Rattle.qs_meaning.specs.Expressions.{typed, plain_form}
 use Rattle.qs_meaning.specs.Blanks.{blank_of}
 use Rattle.qs_meaning.specs.Initialisers.{part_offset, Piece, pieces, pieces_from, text_set, assigned_set, piece_set, pieces_set, object_set, local_set}
 use Rattle.qs_meaning.specs.Statements.{initialised, behind_variable, variable_typed, variables_typed, effect_typed, option_effect, condition_typed, option_condition, start_typed, return_typed, inner, loop_body, in_for, statement_typed, statements_typed, else_typed}
-use Rattle.qs_meaning.proofs.Options.{same}
 use Rattle.qs_elaborate_limits.proofs.SourceHeights.{highest, option_height, expr_height, initialiser_height, initialisers_height, variable_height, start_height, stmt_height, stmts_height, else_height}
 use Rattle.qs_elaborate_limits.proofs.TypedHeights.{height, effect_height, condition_height, statement_height, statements_height}
 use Rattle.qs_elaborate_limits.proofs.FormHeights.{height_in_use, value_in_use_low, effect_low, effect_in_use_low, address_low, plain_low}
 use Rattle.qs_elaborate_limits.proofs.ExpressionHeights.{local_low, expression_low}
 
 effect_as : (n : ℕ) (x set : Effect) → Some x ≡ Some set → effect_height x ≤ n → effect_height set ≤ n
-effect_as n x set e h = subst (λ z. effect_height z ≤ n) (same x set e) h
+effect_as n x set e h = subst (λ z. effect_height z ≤ n) (same_Some x set e) h
 
 value_as : (n : ℕ) (x y : Expr) → Some x ≡ Some y → height x ≤ n → height y ≤ n
-value_as n x y e h = subst (λ z. height z ≤ n) (same x y e) h
+value_as n x y e h = subst (λ z. height z ≤ n) (same_Some x y e) h
 
 statement_as : (n : ℕ) (x a : Stmt) → Some x ≡ Some a → statement_height x ≤ n → statement_height a ≤ n
-statement_as n x a e h = subst (λ z. statement_height z ≤ n) (same x a e) h
+statement_as n x a e h = subst (λ z. statement_height z ≤ n) (same_Some x a e) h
 
 -- ---- pieces of an object
 
@@ -44,13 +44,13 @@ mutual
   pieces_low :
       (structs : Structs) (init : InitialiserTree) (t : TypeTree) (offset : ℕ) (ps : List Piece) → pieces structs t offset init ≡ Some ps
       → highest piece_height ps ≤ initialiser_height init
-  pieces_low structs (trees.value e) t offset ps q = subst (λ z. highest piece_height z ≤ expr_height e) (same _ ps q) (omega arith)
+  pieces_low structs (trees.value e) t offset ps q = subst (λ z. highest piece_height z ≤ expr_height e) (same_Some _ ps q) (omega arith)
   pieces_low structs (trees.list node is) t offset ps q = elements_low structs is t offset 0 ps q
 
   elements_low :
       (structs : Structs) (is : Initialisers) (t : TypeTree) (offset k : ℕ) (ps : List Piece) → pieces_from structs t offset k is ≡ Some ps
       → highest piece_height ps ≤ initialisers_height is
-  elements_low structs no_initialisers t offset k ps q = subst (λ z. highest piece_height z ≤ 0) (same _ ps q) (omega arith)
+  elements_low structs no_initialisers t offset k ps q = subst (λ z. highest piece_height z ≤ 0) (same_Some _ ps q) (omega arith)
   elements_low structs (initialiser_and first is) t offset k ps q =
       let u = followed (part_type structs t k) _ ps q in
       let at = followed (part_offset structs t k) _ ps u.then in
@@ -59,7 +59,7 @@ mutual
       let h = pieces_low structs first u.value (offset + at.value) now.value now.first in
       let i = elements_low structs is t offset (k + 1) later.value later.first in
       let e = pieces_joined now.value later.value in
-      subst (λ z. highest piece_height z ≤ max (initialiser_height first) (initialisers_height is)) (same _ ps later.then) (omega arith)
+      subst (λ z. highest piece_height z ≤ max (initialiser_height first) (initialisers_height is)) (same_Some _ ps later.then) (omega arith)
 
 -- ---- what initialises a local, whose place is not high
 
@@ -165,10 +165,10 @@ condition_low s e x q =
 
 option_condition_low :
     (s : Scope) (e : Option ExprTree) (x : Option Expr) → option_condition s e ≡ Some x → condition_height x ≤ option_height expr_height e
-option_condition_low s None x q = subst (λ z. condition_height z ≤ 0) (same _ x q) (omega arith)
+option_condition_low s None x q = subst (λ z. condition_height z ≤ 0) (same_Some _ x q) (omega arith)
 option_condition_low s (Some e) x q =
     let y = followed (condition_typed s e) _ x q in
-    subst (λ z. condition_height z ≤ expr_height e) (same _ x y.then) (condition_low s e y.value y.first)
+    subst (λ z. condition_height z ≤ expr_height e) (same_Some _ x y.then) (condition_low s e y.value y.first)
 
 return_low : (s : Scope) (e : Option ExprTree) (a : Stmt) → return_typed s e ≡ Some a → statement_height a ≤ option_height expr_height e
 return_low s None a q = statement_as 0 _ a q (omega arith)
@@ -234,14 +234,14 @@ mutual
   statement_low (return node e) s a q = return_low s e a q
 
   pub statements_low : (ss : Stmts) (s : Scope) (list : typed_trees.Stmts) → statements_typed s ss ≡ Some list → statements_height list ≤ stmts_height ss
-  statements_low no_stmts s list q = subst (λ z. statements_height z ≤ 0) (same _ list q) (omega arith)
+  statements_low no_stmts s list q = subst (λ z. statements_height z ≤ 0) (same_Some _ list q) (omega arith)
   statements_low (stmt_and t ts) s list q =
       let after = within s (after_statement s.context t) in
       let x = followed (statement_typed s t) _ list q in
       let y = followed (statements_typed after ts) _ list x.then in
       let i = statement_low t s x.value x.first in
       let j = statements_low ts after y.value y.first in
-      subst (λ z. statements_height z ≤ max (stmt_height t) (stmts_height ts)) (same _ list y.then) (omega arith)
+      subst (λ z. statements_height z ≤ max (stmt_height t) (stmts_height ts)) (same_Some _ list y.then) (omega arith)
 
   else_low : (r : Else) (s : Scope) (a : Stmt) → else_typed s r ≡ Some a → statement_height a ≤ else_height r
   else_low no_else s a q = statement_as 0 _ a q (omega arith)

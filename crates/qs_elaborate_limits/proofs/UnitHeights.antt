@@ -1,5 +1,6 @@
 -- The functions of a unit's typed tree are at most as high as the unit, and have as many parameters as their headers.
 use Rattle.std.proofs.Common.{◌≡◌, ◌≤◌, ℕ, max, List, [], ◌∷◌, ◌++◌, Option, Some, None, length, subst, arith}
+use Rattle.std.proofs.lemmas.Option.{same_Some}
 use Rattle.qs_syntax.specs.Trees.{FunctionTree, DeclTree, structure, forward, function, variables, UnitTree}
 use Rattle.qs_syntax.specs.Trees as trees
 use Rattle.qs_memory.proofs.Options.{followed}
@@ -11,7 +12,6 @@ use Rattle.qs_meaning.specs.Typed.{Function, TypedProgram}
 use Rattle.qs_meaning.specs.Names.{Scope, within}
 use Rattle.qs_meaning.specs.Statements.{statements_typed}
 use Rattle.qs_meaning.specs.Units.{placed_among, variables_among, locals_of, parameters_in, scalars_of, sizes_of, parameters_typed, in_body, function_with, function_typed, file_variables_typed, declaration_typed, declarations_typed, start_scope, typed_of}
-use Rattle.qs_meaning.proofs.Options.{same}
 use Rattle.qs_elaborate_laws.proofs.FitFunctionNames.{parameters_count}
 use Rattle.qs_elaborate_limits.proofs.SourceHeights.{highest, option_height, stmts_height, decl_height, unit_height}
 use Rattle.qs_elaborate_limits.proofs.TypedHeights.{statements_height}
@@ -48,35 +48,35 @@ function_low s f body addressed ps ls g q =
     let w = followed (statements_typed (in_body s f locals) body) _ g z.then in
     let h = parameters_count locals f.parameters (parameter_types (inner_scope s.context) f.parameters) x.value x.first in
     let k = statements_low body (in_body s f locals) w.value w.first in
-    subst (λ (g : Function). FunctionsLow (stmts_height body) (length f.parameters) (g ∷ [])) (same _ g w.then)
+    subst (λ (g : Function). FunctionsLow (stmts_height body) (length f.parameters) (g ∷ [])) (same_Some _ g w.then)
     (record { bodies = omega arith; parameters = omega arith })
 
 functions_low :
     (s : Scope) (f : FunctionTree) (o : Option trees.Stmts) (gs : List Function) → function_typed s f o ≡ Some gs
     → FunctionsLow (option_height stmts_height o) (length f.parameters) gs
-functions_low s f None gs q = subst (λ z. FunctionsLow 0 (length f.parameters) z) (same _ gs q) (none_low 0 (length f.parameters))
+functions_low s f None gs q = subst (λ z. FunctionsLow 0 (length f.parameters) z) (same_Some _ gs q) (none_low 0 (length f.parameters))
 functions_low s f (Some body) gs q =
     let ps = parameters_in s.context f in
     let ls = statements_locals (body_context s.context f) body in
     let g = followed (function_with s f body (addressed_in s.context f body) ps ls) _ gs q in
-    subst (λ z. FunctionsLow (stmts_height body) (length f.parameters) z) (same _ gs g.then)
+    subst (λ z. FunctionsLow (stmts_height body) (length f.parameters) z) (same_Some _ gs g.then)
     (function_low s f body (addressed_in s.context f body) ps ls g.value g.first)
 
 -- ---- declarations
 
 declaration_low :
     (d : DeclTree) (s : Scope) (now : TypedProgram) → declaration_typed s d ≡ Some now → FunctionsLow (decl_height d) (parameter_count (d ∷ [])) now.functions
-declaration_low (structure d) s now q = subst (λ (z : TypedProgram). FunctionsLow 0 0 z.functions) (same _ now q) (none_low 0 0)
-declaration_low (forward d) s now q = subst (λ (z : TypedProgram). FunctionsLow 0 0 z.functions) (same _ now q) (none_low 0 0)
+declaration_low (structure d) s now q = subst (λ (z : TypedProgram). FunctionsLow 0 0 z.functions) (same_Some _ now q) (none_low 0 0)
+declaration_low (forward d) s now q = subst (λ (z : TypedProgram). FunctionsLow 0 0 z.functions) (same_Some _ now q) (none_low 0 0)
 declaration_low (variables d) s now q =
     let bs = followed (file_variables_typed s d.base d.variables) _ now q in
-    subst (λ (z : TypedProgram). FunctionsLow 0 0 z.functions) (same _ now bs.then) (none_low 0 0)
+    subst (λ (z : TypedProgram). FunctionsLow 0 0 z.functions) (same_Some _ now bs.then) (none_low 0 0)
 declaration_low (function f) s now q =
     let gs = followed (function_typed s f f.body) _ now q in
     let h = functions_low s f f.body gs.value gs.first in
     let bodies = h.bodies in
     let parameters = h.parameters in
-    subst (λ (z : TypedProgram). FunctionsLow (option_height stmts_height f.body) (max (length f.parameters) 0) z.functions) (same _ now gs.then)
+    subst (λ (z : TypedProgram). FunctionsLow (option_height stmts_height f.body) (max (length f.parameters) 0) z.functions) (same_Some _ now gs.then)
     (record { bodies = omega arith; parameters = omega arith })
 
 most_parameters : (d : DeclTree) (ds : UnitTree) → parameter_count (d ∷ ds) ≡ max (parameter_count (d ∷ [])) (parameter_count ds)
@@ -87,7 +87,7 @@ most_parameters (function f) ds = omega arith
 
 declarations_low :
     (ds : UnitTree) (s : Scope) (u : TypedProgram) → declarations_typed s ds ≡ Some u → FunctionsLow (unit_height ds) (parameter_count ds) u.functions
-declarations_low [] s u q = subst (λ (z : TypedProgram). FunctionsLow 0 0 z.functions) (same _ u q) (none_low 0 0)
+declarations_low [] s u q = subst (λ (z : TypedProgram). FunctionsLow 0 0 z.functions) (same_Some _ u q) (none_low 0 0)
 declarations_low (d ∷ ds) s u q =
     let after = within s (after_declaration s.context d) in
     let now = followed (declaration_typed s d) _ u q in
@@ -101,7 +101,7 @@ declarations_low (d ∷ ds) s u q =
     let kb = k.bodies in
     let hp = h.parameters in
     let kp = k.parameters in
-    subst (λ (z : TypedProgram). FunctionsLow (unit_height (d ∷ ds)) (parameter_count (d ∷ ds)) z.functions) (same _ u rest.then)
+    subst (λ (z : TypedProgram). FunctionsLow (unit_height (d ∷ ds)) (parameter_count (d ∷ ds)) z.functions) (same_Some _ u rest.then)
     (record { bodies = omega arith; parameters = omega arith })
 
 -- ---- units
@@ -109,5 +109,5 @@ declarations_low (d ∷ ds) s u q =
 pub typed_units_are_low : (unit : UnitTree) (u : TypedProgram) → typed_of unit ≡ Some u → FunctionsLow (unit_height unit) (parameter_count unit) u.functions
 typed_units_are_low unit u q =
     let d = followed (declarations_typed (start_scope unit) unit) _ u q in
-    subst (λ (z : TypedProgram). FunctionsLow (unit_height unit) (parameter_count unit) z.functions) (same _ u d.then)
+    subst (λ (z : TypedProgram). FunctionsLow (unit_height unit) (parameter_count unit) z.functions) (same_Some _ u d.then)
     (declarations_low unit (start_scope unit) d.value d.first)

@@ -1,5 +1,6 @@
 -- A function of core needs at most three values for each node of its unit.
 use Rattle.std.proofs.Common.{◌≡◌, ◌≤◌, ℕ, ◌+◌, ◌*◌, Bool, true, false, not, List, [], ◌∷◌, ◌++◌, length, filter, Option, Some, None, is_some, sym, ap, ◌∙◌, subst, arith, length-append, cond}
+use Rattle.std.proofs.lemmas.Option.{same_Some}
 use Rattle.qs_syntax.specs.declared.types.Base.{Base}
 use Rattle.qs_syntax.specs.Trees.{InitialiserTree, value, list, Initialisers, no_initialisers, initialiser_and, VariableTree, ParameterTree, StartTree, no_start, start_expression, start_declaration, StmtTree, empty, expression, declaration, block, branch, while_loop, do_loop, for_loop, break, continue, return, Stmts, no_stmts, stmt_and, Else, no_else, else_by, FunctionTree, DeclTree, structure, forward, function, variables, UnitTree}
 use Rattle.qs_syntax.specs.Nodes.{all_count, option_count, initialiser_count, initialisers_count, variable_count, parameter_count, start_count, stmt_count, stmts_count, else_count, decl_count, unit_count}
@@ -16,7 +17,6 @@ use Rattle.qs_meaning.specs.Typed.{Function, TypedProgram}
 use Rattle.qs_meaning.specs.Names.{Scope, within}
 use Rattle.qs_meaning.specs.Statements.{statements_typed}
 use Rattle.qs_meaning.specs.Units.{placed_among, plain_among, variables_among, locals_of, parameters_in, scalars_of, sizes_of, parameters_typed, in_body, function_with, function_typed, file_variables_typed, declaration_typed, declarations_typed, start_scope}
-use Rattle.qs_meaning.proofs.Options.{same}
 use Rattle.qs_meaning.proofs.FaultlessExpressions.{none_left, none_right}
 use Rattle.qs_elaborate_laws.specs.Counts.{expressions_in}
 use Rattle.qs_elaborate_laws.specs.ExpressionCounts.{initialiser_expressions, initialisers_expressions, variable_expressions, start_expressions, stmt_expressions, stmts_expressions, else_expressions}
@@ -141,7 +141,7 @@ function_values :
     (s : Scope) (f : FunctionTree) (o : Option Stmts) (gs : List Function) → body_faults s.context f o ≡ [] → function_typed s f o ≡ Some gs
     → highest typed_values gs ≤ 3 * (all_count parameter_count f.parameters + option_count stmts_count o)
 function_values s f None gs faults q =
-    subst (λ z. highest typed_values z ≤ 3 * (all_count parameter_count f.parameters + 0)) (same _ gs q) (omega arith)
+    subst (λ z. highest typed_values z ≤ 3 * (all_count parameter_count f.parameters + 0)) (same_Some _ gs q) (omega arith)
 function_values s f (Some body) gs faults q =
     let addressed = addressed_in s.context f body in
     let ps = parameters_in s.context f in
@@ -151,7 +151,7 @@ function_values s f (Some body) gs faults q =
     let y = followed (scalars_of (variables_among addressed ps ls)) _ g.value x.then in
     let z = followed (sizes_of s.context.structs (placed_among addressed (ps ++ ls))) _ g.value y.then in
     let w = followed (statements_typed (in_body s f (locals_of addressed ps ls)) body) _ g.value z.then in
-    let is = same _ g.value w.then in
+    let is = same_Some _ g.value w.then in
     let vars = sym (ap (λ (g : Function). length g.variables) is) ∙ scalars_length (variables_among addressed ps ls) y.value y.first in
     let parts = subst (λ (g : Function). expressions_in g ≤ stmts_expressions body) is (statements_parts body (in_body s f (locals_of addressed ps ls)) w.value faults w.first) in
     let less = statements_less body in
@@ -159,26 +159,26 @@ function_values s f (Some body) gs faults q =
     let plain = fewer (λ (l : Local). not (is_placed addressed l)) ls in
     let locals = statements_few body (body_context s.context f) in
     let given = parameters_few f.parameters (parameter_types (inner_scope s.context) f.parameters) in
-    subst (λ z. highest typed_values z ≤ 3 * (all_count parameter_count f.parameters + stmts_count body)) (same _ gs g.then) (omega arith)
+    subst (λ z. highest typed_values z ≤ 3 * (all_count parameter_count f.parameters + stmts_count body)) (same_Some _ gs g.then) (omega arith)
 
 declaration_values :
     (d : DeclTree) (s : Scope) (now : TypedProgram) → declaration_faults s.context d ≡ [] → declaration_typed s d ≡ Some now
     → highest typed_values now.functions ≤ 3 * decl_count d
-declaration_values (structure t) s now f q = subst (λ (z : TypedProgram). highest typed_values z.functions ≤ 3 * decl_count (structure t)) (same _ now q) (omega arith)
-declaration_values (forward t) s now f q = subst (λ (z : TypedProgram). highest typed_values z.functions ≤ 3 * decl_count (forward t)) (same _ now q) (omega arith)
+declaration_values (structure t) s now f q = subst (λ (z : TypedProgram). highest typed_values z.functions ≤ 3 * decl_count (structure t)) (same_Some _ now q) (omega arith)
+declaration_values (forward t) s now f q = subst (λ (z : TypedProgram). highest typed_values z.functions ≤ 3 * decl_count (forward t)) (same_Some _ now q) (omega arith)
 declaration_values (variables v) s now f q =
     let bs = followed (file_variables_typed s v.base v.variables) _ now q in
-    subst (λ (z : TypedProgram). highest typed_values z.functions ≤ 3 * decl_count (variables v)) (same _ now bs.then) (omega arith)
+    subst (λ (z : TypedProgram). highest typed_values z.functions ≤ 3 * decl_count (variables v)) (same_Some _ now bs.then) (omega arith)
 declaration_values (function g) s now f q =
     let gs = followed (function_typed s g g.body) _ now q in
     let inside = none_right (parameters_faults (inner_scope s.context) (is_some g.body) g.parameters) _ (none_right (faults_of g.node.id (header_tests s.context g)) _ f) in
     let h = function_values s g g.body gs.value inside gs.first in
-    subst (λ (z : TypedProgram). highest typed_values z.functions ≤ 3 * decl_count (function g)) (same _ now gs.then) (omega arith)
+    subst (λ (z : TypedProgram). highest typed_values z.functions ≤ 3 * decl_count (function g)) (same_Some _ now gs.then) (omega arith)
 
 declarations_values :
     (ds : UnitTree) (s : Scope) (u : TypedProgram) → declarations_faults s.context ds ≡ [] → declarations_typed s ds ≡ Some u
     → highest typed_values u.functions ≤ 3 * unit_count ds
-declarations_values [] s u f q = subst (λ (z : TypedProgram). highest typed_values z.functions ≤ 0) (same _ u q) (omega arith)
+declarations_values [] s u f q = subst (λ (z : TypedProgram). highest typed_values z.functions ≤ 0) (same_Some _ u q) (omega arith)
 declarations_values (d ∷ ds) s u f q =
     let after = within s (after_declaration s.context d) in
     let now = followed (declaration_typed s d) _ u q in
@@ -186,7 +186,7 @@ declarations_values (d ∷ ds) s u f q =
     let h = declaration_values d s now.value (none_left (declaration_faults s.context d) (declarations_faults after.context ds) f) now.first in
     let k = declarations_values ds after rest.value (none_right (declaration_faults s.context d) (declarations_faults after.context ds) f) rest.first in
     let both = highest_joined typed_values now.value.functions rest.value.functions in
-    subst (λ (z : TypedProgram). highest typed_values z.functions ≤ 3 * unit_count (d ∷ ds)) (same _ u rest.then) (omega arith)
+    subst (λ (z : TypedProgram). highest typed_values z.functions ≤ 3 * unit_count (d ∷ ds)) (same_Some _ u rest.then) (omega arith)
 
 -- ---- core
 
@@ -199,7 +199,7 @@ pub values_are_limited : ValuesAreLimited
 values_are_limited unit core read well limits q =
     let m = made unit core q in
     let d = followed (declarations_typed (start_scope unit) unit) _ m.typed m.tree in
-    let counted = subst (λ (z : TypedProgram). highest typed_values z.functions ≤ 3 * unit_count unit) (same _ m.typed d.then)
+    let counted = subst (λ (z : TypedProgram). highest typed_values z.functions ≤ 3 * unit_count unit) (same_Some _ m.typed d.then)
     (declarations_values unit (start_scope unit) d.value well.keeps_rules d.first) in
     let limit = (keeps_limits unit read limits).nodes in
     let kept = cores_values (names_in unit) m.typed.functions in

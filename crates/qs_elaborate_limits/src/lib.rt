@@ -1,5 +1,6 @@
 //! The limits of a source are limits of its core: of functions, parameters, arguments, words of
-//! code, values that are held at once, and bytes. Laws; nothing here runs.
+//! code, values that are held at once, nesting, bytes and costs; and main returns a value. Laws;
+//! nothing here runs.
 #![tactic(auto)]
 
 mod laws;

@@ -1,12 +1,12 @@
 -- One step of linear code: what the machine does meanwhile, and what that says of the run.
-use Rattle.std.proofs.Common.{◌≡◌, ℕ, suc, ◌+◌, ◌-◌, ◌*◌, ◌%◌, ◌≤◌, List, [], ◌∷◌, ◌++◌, length, Option, Some, None, refl, sym, ap, ◌∙◌, subst, arith, min, append-nil, append_assoc}
+use Rattle.std.proofs.Common.{◌≡◌, ◌⊎◌, inl, inr, ℕ, suc, ◌+◌, ◌-◌, ◌*◌, ◌%◌, ◌≤◌, List, [], ◌∷◌, ◌++◌, length, Option, Some, None, refl, sym, ap, ◌∙◌, subst, arith, min, append-nil, append_assoc}
 use Rattle.std.proofs.lemmas.Bool.Decides.{nat_tests}
 use Rattle.qs_memory.specs.Values.{Value}
 use Rattle.qs_memory.specs.Memory.{Memory}
 use Rattle.qs_events.specs.Events.{Event, Calls, Returns, Takes, TakesEnd, Puts, output_of}
-use Rattle.qs_events.specs.Runs.{emit, undefined, short, given, Left, Ending, has_ended, is_undefined, is_short, events_of, ending_of}
+use Rattle.qs_events.specs.Runs.{emit, undefined, given, Left, Ending, has_ended, is_undefined, is_short, events_of, ending_of}
 use Rattle.qs_events.specs.Weights.{weight}
-use Rattle.qs_calls.specs.World.{World, with_memory, RootRun}
+use Rattle.qs_calls.specs.World.{World, with_memory, RootRun, leaves}
 use Rattle.qs_isa.specs.declared.instruction.Instr.{Instr}
 use Rattle.qs_asm.specs.Items.{Lays, plain}
 use Rattle.qs_tac.specs.Holders.{File}
@@ -14,9 +14,9 @@ use Rattle.qs_tac.specs.Values.{Activation}
 use Rattle.qs_tac.specs.Steps.{Waiting}
 use Rattle.qs_emit.specs.Machine.{Watched, base, instruction_at}
 use Rattle.qs_emit.specs.Lies.{AreBytes}
-use Rattle.qs_emit.specs.Surroundings.{Lay}
+use Rattle.qs_emit.specs.Surroundings.{Surroundings, Lay, ground, HasBlocks}
 use Rattle.qs_emit.specs.Relation.{Setup, cost, place, IsRelated, StandsAt, around}
-use Rattle.qs_emit.specs.Entries.{x2_behind, HasSeen, ComesTo, Follows}
+use Rattle.qs_emit.specs.Entries.{x2_behind, HasSeen, GoesOn, HasReturned, CameFar}
 use Rattle.qs_emit.proofs.Steps.{Takes as IsTaken, takes_less, HasAt, Does, IsSteady}
 use Rattle.qs_emit.proofs.FrameLaws.{related_to}
 use Rattle.qs_emit.proofs.Operands.{IsAmid}
@@ -88,6 +88,22 @@ room_later r costs (Some (Takes byte)) t sp later_sp low later_low h m = let x =
 room_later r costs (Some TakesEnd) t sp later_sp low later_low h m = let x = m.0 in omega (arith, x, h)
 room_later r costs (Some (Puts byte)) t sp later_sp low later_low h m = let x = m.0 in omega (arith, x, h)
 
+-- ---- runs that stop where their steps are used up, and leave this mark as their result
+
+-- such a run has stopped: the machine goes on, and the world that is left lies there
+pub record HasStopped (t : Surroundings) (mark : Option Value) (n : ℕ) (m : Watched) (trace : List Event) (left : Left Value Memory) : Type 0 where
+  pub is : left.result ≡ mark
+  pub goes : GoesOn t n m trace (record { memory = left.memory; input = left.input })
+
+abbrev pub ComesToStop : Surroundings → (mark : Option Value) → (n : ℕ) → Watched → List Event → Ending (Left Value Memory) → Type 0
+ComesToStop t mark n m trace (has_ended left) = HasReturned t m trace left ⊎ HasStopped t mark n m trace left
+ComesToStop t mark n m trace is_undefined = CameFar t m trace
+ComesToStop t mark n m trace is_short = Unit {0}
+
+abbrev pub FollowsToStop : Surroundings → (mark : Option Value) → (n : ℕ) → Watched → RootRun → Type 0
+FollowsToStop t mark n m run =
+    base t.room + weight t.costs (events_of run) ≤ m.now.registers 2 → ComesToStop t mark n m (events_of run) (ending_of run)
+
 module _ (s : Setup) where
   seen_later : (m m1 to : Watched) (e : Option Event) (t : List Event) → Reaches s m e m1 → m.low ≤ m.now.registers 2 → HasSeen (around s) m1 to t → HasSeen (around s) m to (trace_of e ++ t)
   seen_later m m1 to e t r least seen = record {
@@ -96,21 +112,8 @@ module _ (s : Setup) where
     low = seen.low ∙ low_moved (cost s) e t (m.now.registers 2) (m1.now.registers 2) m.low m1.low r.moved least;
   }
 
-  comes_later : (n : ℕ) (m m1 : Watched) (e : Option Event) (t : List Event) (end : Ending (Left Value Memory)) → Reaches s m e m1 → m.low ≤ m.now.registers 2 → ComesTo (around s) n m1 t end → ComesTo (around s) (suc n) m (trace_of e ++ t) end
-  comes_later n m m1 e t is_short r least c =
-      let x = r.takes.by c.steps in
-      let more = x.1.0 in
-      let enough = c.enough in
-      record { steps = x.0; to = c.to; enough = omega (arith, more, enough); comes = x.1.1 ∙ c.comes; seen = seen_later m m1 c.to e t r least c.seen }
-  comes_later n m m1 e t is_undefined r least c =
-      let x = r.takes.by c.steps in
-      record {
-        steps = x.0;
-        to = c.to;
-        comes = x.1.1 ∙ c.comes;
-        output = c.output ∙ ap (λ (x : List ℕ). x ++ output_of t) r.output ∙ append_assoc m.now.output (output_of (trace_of e)) (output_of t) ∙ ap (λ (x : List ℕ). m.now.output ++ x) (sym (output_emitted e t));
-      }
-  comes_later n m m1 e t (has_ended left) r least c =
+  returned_later : (m m1 : Watched) (e : Option Event) (t : List Event) (left : Left Value Memory) → Reaches s m e m1 → m.low ≤ m.now.registers 2 → HasReturned (around s) m1 t left → HasReturned (around s) m (trace_of e ++ t) left
+  returned_later m m1 e t left r least c =
       let x = r.takes.by c.steps in
       record {
         steps = x.0;
@@ -127,29 +130,72 @@ module _ (s : Setup) where
         input = c.input;
       }
 
-  -- a step behind which the machine follows
-  pub follows_later : (n : ℕ) (m m1 : Watched) (e : Option Event) (run : RootRun) → m.low ≤ m.now.registers 2 → Reaches s m e m1 → Follows (around s) n m1 run → Follows (around s) (suc n) m (emitted e run)
-  follows_later n m m1 e run least r f room =
-      let t = events_of run in
-      let room_all : base s.room + weight (cost s) (trace_of e ++ t) ≤ m.now.registers 2 = subst (λ (x : List Event). base s.room + weight (cost s) x ≤ m.now.registers 2) (events_emitted e run) room in
-      let c = comes_later n m m1 e t (ending_of run) r least (f (room_later (base s.room) (cost s) e t (m.now.registers 2) (m1.now.registers 2) m.low m1.low room_all r.moved)) in
-      subst (λ (x : List Event). ComesTo (around s) (suc n) m x (ending_of (emitted e run))) (sym (events_emitted e run)) (subst (λ (x : Ending (Left Value Memory)). ComesTo (around s) (suc n) m (trace_of e ++ t) x) (sym (ending_emitted e run)) c)
+  goes_later : (n : ℕ) (m m1 : Watched) (e : Option Event) (t : List Event) (w : World) → Reaches s m e m1 → m.low ≤ m.now.registers 2 → GoesOn (around s) n m1 t w → GoesOn (around s) (suc n) m (trace_of e ++ t) w
+  goes_later n m m1 e t w r least c =
+      let x = r.takes.by c.steps in
+      let more = x.1.0 in
+      let enough = c.enough in
+      record {
+        steps = x.0;
+        to = c.to;
+        lay = c.lay;
+        enough = omega (arith, more, enough);
+        comes = x.1.1 ∙ c.comes;
+        seen = seen_later m m1 c.to e t r least c.seen;
+        blocks = c.blocks;
+        input = c.input;
+      }
 
-  -- what is undefined is free
-  pub follows_undefined : (n : ℕ) (m : Watched) → Follows (around s) n m undefined
-  follows_undefined n m room = record { steps = 0; to = m; comes = refl; output = sym (append-nil m.now.output) }
+  module _ (mark : Option Value) where
+    comes_later : (n : ℕ) (m m1 : Watched) (e : Option Event) (t : List Event) (end : Ending (Left Value Memory)) → Reaches s m e m1 → m.low ≤ m.now.registers 2 → ComesToStop (around s) mark n m1 t end → ComesToStop (around s) mark (suc n) m (trace_of e ++ t) end
+    comes_later n m m1 e t is_short r least c = tt
+    comes_later n m m1 e t is_undefined r least c =
+        let x = r.takes.by c.steps in
+        record {
+          steps = x.0;
+          to = c.to;
+          comes = x.1.1 ∙ c.comes;
+          output = c.output ∙ ap (λ (x : List ℕ). x ++ output_of t) r.output ∙ append_assoc m.now.output (output_of (trace_of e)) (output_of t) ∙ ap (λ (x : List ℕ). m.now.output ++ x) (sym (output_emitted e t));
+        }
+    comes_later n m m1 e t (has_ended left) r least (inl c) = inl (returned_later m m1 e t left r least c)
+    comes_later n m m1 e t (has_ended left) r least (inr c) = inr (record { is = c.is; goes = goes_later n m m1 e t _ r least c.goes })
 
-  -- also behind the call of a function, and behind its return
-  pub undefined_behind : (n : ℕ) (m : Watched) (e : Event) → output_of (e ∷ []) ≡ [] → Follows (around s) n m (emit e undefined)
-  undefined_behind n m e none room = record { steps = 0; to = m; comes = refl; output = sym (append-nil m.now.output) ∙ ap (λ (x : List ℕ). m.now.output ++ x) (sym none) }
+    -- a step behind which the machine follows
+    pub follows_later : (n : ℕ) (m m1 : Watched) (e : Option Event) (run : RootRun) → m.low ≤ m.now.registers 2 → Reaches s m e m1 → FollowsToStop (around s) mark n m1 run → FollowsToStop (around s) mark (suc n) m (emitted e run)
+    follows_later n m m1 e run least r f room =
+        let t = events_of run in
+        let room_all : base s.room + weight (cost s) (trace_of e ++ t) ≤ m.now.registers 2 = subst (λ (x : List Event). base s.room + weight (cost s) x ≤ m.now.registers 2) (events_emitted e run) room in
+        let c = comes_later n m m1 e t (ending_of run) r least (f (room_later (base s.room) (cost s) e t (m.now.registers 2) (m1.now.registers 2) m.low m1.low room_all r.moved)) in
+        subst (λ (x : List Event). ComesToStop (around s) mark (suc n) m x (ending_of (emitted e run))) (sym (events_emitted e run)) (subst (λ (x : Ending (Left Value Memory)). ComesToStop (around s) mark (suc n) m (trace_of e ++ t) x) (sym (ending_emitted e run)) c)
 
-  pub follows_short : (m : Watched) → m.low ≤ m.now.registers 2 → Follows (around s) 0 m short
-  follows_short m least room = record { steps = 0; to = m; enough = omega arith; comes = refl; seen = record { output = sym (append-nil m.now.output); x2 = refl; low = omega (arith, least) } }
+    -- what is undefined is free
+    pub follows_undefined : (n : ℕ) (m : Watched) → FollowsToStop (around s) mark n m undefined
+    follows_undefined n m room = record { steps = 0; to = m; comes = refl; output = sym (append-nil m.now.output) }
 
-  -- a value that a step takes
-  pub follows_given : {A : Type 0} → (n : ℕ) (m : Watched) (o : Option A) (next : A → RootRun) → ((v : A) → o ≡ Some v → Follows (around s) n m (next v)) → Follows (around s) n m (given o next)
-  follows_given {A} n m None next h = follows_undefined n m
-  follows_given {A} n m (Some v) next h = h v refl
+    -- also behind the call of a function, and behind its return
+    pub undefined_behind : (n : ℕ) (m : Watched) (e : Event) → output_of (e ∷ []) ≡ [] → FollowsToStop (around s) mark n m (emit e undefined)
+    undefined_behind n m e none room = record { steps = 0; to = m; comes = refl; output = sym (append-nil m.now.output) ∙ ap (λ (x : List ℕ). m.now.output ++ x) (sym none) }
+
+    -- where the run stops the machine does nothing
+    pub follows_stopped : (m : Watched) (w : World) (l : Lay) → m.low ≤ m.now.registers 2 → HasBlocks (around s) (ground w.memory l m.now.memory) (m.now.registers 2) → m.now.input ≡ w.input → FollowsToStop (around s) mark 0 m (leaves mark w)
+    follows_stopped m w l least blocks input room = inr (record {
+      is = refl;
+      goes = record {
+        steps = 0;
+        to = m;
+        lay = l;
+        enough = omega arith;
+        comes = refl;
+        seen = record { output = sym (append-nil m.now.output); x2 = refl; low = omega (arith, least) };
+        blocks = blocks;
+        input = input;
+      };
+    })
+
+    -- a value that a step takes
+    pub follows_given : {A : Type 0} → (n : ℕ) (m : Watched) (o : Option A) (next : A → RootRun) → ((v : A) → o ≡ Some v → FollowsToStop (around s) mark n m (next v)) → FollowsToStop (around s) mark n m (given o next)
+    follows_given {A} n m None next h = follows_undefined n m
+    follows_given {A} n m (Some v) next h = h v refl
 
   -- ---- states between instructions
 

@@ -34,9 +34,11 @@ pub mod Agreement
 pub mod Costs
 pub mod DataBytes
 pub mod SetUp
+pub mod Owners
+pub mod BeginLaws
 pub mod Roots
 pub mod StartLaws
 pub mod ImageLaws
+pub mod EmissionLaws
 pub mod RuleExamples
 pub mod SampleEntry
-pub mod Owners

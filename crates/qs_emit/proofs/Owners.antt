@@ -1,11 +1,11 @@
--- Blocks whose ranges don't meet have owners of their bytes.
+-- Blocks whose ranges don't meet have owners of their bytes, and the other way round.
 use Rattle.std.proofs.Common.{◌≡◌, ◌⊎◌, inl, inr, ℕ, zero, suc, ◌+◌, ◌-◌, ◌<◌, ◌≤◌, Bool, true, false, [], ◌∷◌, refl, sym, ap, ◌∙◌, subst, arith}
 use Rattle.std.specs.Prelude.{◌&&◌, nat_lt, nat_le, if◌then◌else◌}
 use Rattle.std.proofs.lemmas.Bool.Decides.{nat_tests}
 use Rattle.qs_memory.specs.Memory.{Block, Memory, block_at}
 use Rattle.qs_memory.specs.Soundness.{IsLive}
 use Rattle.qs_emit.specs.Lies.{Owner, cell_of, owner_among}
-use Rattle.qs_emit.specs.Laws.{BlocksApartHaveOwners}
+use Rattle.qs_emit.specs.Laws.{BlocksApartHaveOwners, LyingBlocksDontMeet}
 
 -- a byte of a block
 found : (block : Block) (rest : Owner) (from number o : ℕ) → block.is_live ≡ true → o < block.size → (if block.is_live && nat_le from (from + o) && nat_lt (from + o) (from + block.size) then cell_of number (from + o - from) else rest) ≡ cell_of number o
@@ -47,3 +47,8 @@ pub blocks_apart_have_owners : BlocksApartHaveOwners
 blocks_apart_have_owners m address_of h b o live lt =
     let z : (j : ℕ) → 0 + j ≡ j = λ j. omega arith in
     subst (λ (n : ℕ). owner_among m address_of 0 (address_of n + o) ≡ cell_of n o) (z b) (owner_from m address_of 0 b o (λ i j ne li lj. rw (z i, z j) (h.apart i j ne li lj)) live lt)
+
+pub lying_blocks_dont_meet : LyingBlocksDontMeet
+lying_blocks_dont_meet m address_of owner flat h block other offset place live_block live_other inside there same =
+    let e : cell_of block offset ≡ cell_of other place = sym (h.owned block offset live_block inside) ∙ ap owner same ∙ h.owned other place live_other there in
+    cc

@@ -9,7 +9,7 @@ use Rattle.qs_calls.specs.World.{World}
 use Rattle.qs_image.specs.Image.{Image}
 use Rattle.qs_tac.specs.Trees.{TacUnitTree}
 use Rattle.qs_tac.specs.Places.{PlacesTree}
-use Rattle.qs_tac.specs.Units.{tac_run}
+use Rattle.qs_tac.specs.Units.{tac_run, world_after}
 use Rattle.qs_emit.specs.Machine.{Watched}
 use Rattle.qs_emit.specs.Surroundings.{Surroundings, Ground, Lay, HasBlocks}
 use Rattle.qs_emit.specs.Relation.{IsEmittable, Setup, cost_at, entry, around}
@@ -35,8 +35,8 @@ module _ (t : Surroundings) (costs : Costs) where
   seen_from : (m to : Watched) (trace : List Event) → SameStack t.costs costs trace → HasSeen other m to trace → HasSeen t m to trace
   seen_from m to trace same h = let low = h.low in let w = same.weight in record { output = h.output; x2 = h.x2 ∙ sym (same.x2 (m.now.registers 2)); low = omega (arith, low, w) }
 
-  pub comes_from : (n : ℕ) (m : Watched) (trace : List Event) (end : Ending (Left Value Memory)) → SameStack t.costs costs trace → ComesTo other n m trace end → ComesTo t n m trace end
-  comes_from n m trace (has_ended left) same h = record {
+  pub comes_from : (n : ℕ) (m : Watched) (trace : List Event) (end : Ending (Left Value Memory)) (w : World) → SameStack t.costs costs trace → ComesTo other n m trace end w → ComesTo t n m trace end w
+  comes_from n m trace (has_ended left) w same h = record {
     steps = h.steps;
     to = h.to;
     lay = h.lay;
@@ -50,8 +50,17 @@ module _ (t : Surroundings) (costs : Costs) where
     blocks = blocks_from _ _ h.blocks;
     input = h.input;
   }
-  comes_from n m trace is_undefined same h = record { steps = h.steps; to = h.to; comes = h.comes; output = h.output }
-  comes_from n m trace is_short same h = record { steps = h.steps; to = h.to; enough = h.enough; comes = h.comes; seen = seen_from m h.to trace same h.seen }
+  comes_from n m trace is_undefined w same h = record { steps = h.steps; to = h.to; comes = h.comes; output = h.output }
+  comes_from n m trace is_short w same h = record {
+    steps = h.steps;
+    to = h.to;
+    lay = h.lay;
+    enough = h.enough;
+    comes = h.comes;
+    seen = seen_from m h.to trace same h.seen;
+    blocks = blocks_from _ _ h.blocks;
+    input = h.input;
+  }
 
 -- the metric of the records is that of the frames
 pub same_costs : (u : TacUnitTree) (ps : List PlacesTree) (first : Memory) (image : Image) (costs : Costs) → IsImageOf u ps first image → AreCosts image costs → (f : ℕ) → f < length u.functions → costs f ≡ cost_at u ps f
@@ -63,10 +72,10 @@ module _ (u : TacUnitTree) (ps : List PlacesTree) (first : Memory) (t : Surround
   abbrev s : Setup
   s = set_up u ps first t emittable memory is limits are
 
-  root_follows : (root : ℕ) (arguments : List Value) (w : World) (l : Lay) (m : Watched) (n : ℕ) → IsEntry u t (record_at t.image root).address root arguments w l m → Follows t n m (tac_run u root arguments w n)
+  root_follows : (root : ℕ) (arguments : List Value) (w : World) (l : Lay) (m : Watched) (n : ℕ) → IsEntry u t (record_at t.image root).address root arguments w l m → Follows t n m (tac_run u root arguments w n) (world_after u root arguments w n)
   root_follows root arguments w l m n h room =
       let same = tac_run_weighs u t.costs (cost_at u ps) (same_costs u ps first t.image t.costs is are.costs) root arguments w n in
-      comes_from t (cost_at u ps) n m (events_of (tac_run u root arguments w n)) (ending_of (tac_run u root arguments w n)) same
+      comes_from t (cost_at u ps) n m (events_of (tac_run u root arguments w n)) (ending_of (tac_run u root arguments w n)) (world_after u root arguments w n) same
       (emitted_code_follows s root arguments w l m n entered (let e = same.weight in omega (arith, room, e)))
     where
       entered : IsEntry u (around s) (entry s root) root arguments w l m

@@ -1,6 +1,6 @@
 -- A unit with a variable, a literal, a pointer into it, a block of its call and a slot; an image of it; and the machine that runs
 -- it. So the premises of the laws can be met.
-use Rattle.std.proofs.Common.{◌≡◌, ℕ, zero, suc, ◌^◌, ◌<◌, ◌≤◌, Bool, true, false, List, [], ◌∷◌, length, Some, None, refl, ap, ◌∙◌, subst, arith}
+use Rattle.std.proofs.Common.{◌≡◌, ℕ, zero, suc, ◌+◌, ◌*◌, ◌^◌, ◌<◌, ◌≤◌, Bool, true, false, List, [], ◌∷◌, length, Some, None, refl, ap, ◌∙◌, subst, arith}
 use Rattle.std.specs.Prelude.{nat_lt, ◌&&◌, All, slice_get, slice_index_or, unwrap_or, codes, IsTrue}
 use Rattle.std.specs.List.{list_all}
 use Rattle.std.proofs.lemmas.Bool.Decides.{nat_tests}
@@ -12,25 +12,27 @@ use Rattle.qs_memory.specs.declared.scalar.Scalar.TheVariants as scalars
 use Rattle.qs_events.specs.Events.{Calls, Returns}
 use Rattle.qs_events.specs.Runs.{Left, has_ended, ending_of}
 use Rattle.qs_events.specs.Weights.{Costs, run_weight}
+use Rattle.qs_calls.specs.World.{World}
 use Rattle.qs_isa.specs.Table.{decode_of}
 use Rattle.qs_asm.specs.Assembly.{assembled, label_offset, IsAssembly}
 use Rattle.qs_asm.proofs.AssemblyLaws.{assembly}
 use Rattle.qs_base.specs.Keywords.{is_keyword, keyword_of}
 use Rattle.qs_base.specs.Names.{is_name}
 use Rattle.qs_image.specs.Image.{Image, FunctionRecord, IsWellFormed, IsAddress, IsCost}
-use Rattle.qs_machine.specs.Run.{Exited, machine}
+use Rattle.qs_machine.specs.Run.{Exited, start_memory, machine}
 use Rattle.qs_tac.specs.Trees.{InstructionTree, store, load, call, return, TacFunctionTree, TacUnitTree}
 use Rattle.qs_tac.specs.declared.operands.Operand.TheVariants.{Temporary, Constant, Data}
 use Rattle.qs_tac.specs.declared.operands.Address.{Address}
 use Rattle.qs_tac.specs.declared.places.Place.TheVariants.{Slot}
 use Rattle.qs_tac.specs.Places.{PlacesTree, Accepted, no_places}
+use Rattle.qs_tac.specs.Units.{world_after}
 use Rattle.qs_frames.specs.Layout.{rounded, frame_cost}
 use Rattle.qs_emit_selection.specs.Pieces.{is_small, low_part, high_part, is_near}
 use Rattle.qs_emit_selection.specs.Laws.{HasFewArguments}
 use Rattle.qs_emit_selection.specs.Units.{selected}
 use Rattle.qs_emit.specs.Relation.{cost_at, function_at, IsEmittable}
 use Rattle.qs_emit.specs.Images.{IsFirstMemory, record_at, AreCosts, function_address, IsImageOf, IsWithinLimits}
-use Rattle.qs_emit.specs.Emitted.{start_run, IsInteger, MayStart, FollowsFrom, Emitted}
+use Rattle.qs_emit.specs.Emitted.{data_lay, start_run, IsInteger, MayStart, FollowsFrom, Emitted}
 use Rattle.qs_emit.proofs.ImageLaws.{images_follow}
 
 -- the variable takes 7, and its value is returned
@@ -202,6 +204,35 @@ limits = record { code = omega arith; bytes = omega arith }
 
 pub emitted : Emitted unit first image
 emitted = images_follow unit places first image emittable memory is limits
+
+-- ---- the bytes at the start
+
+-- the literal lies behind the variable
+literal_starts_with_h : start_memory image ((data_lay unit first).address_of 1 + 0) ≡ 104
+literal_starts_with_h = (emitted.begins.lies.holds 1 0 refl (omega arith)).0
+
+literal_lies_at_its_address : (data_lay unit first).address_of 1 ≡ 0x10000004
+unfolding rounded
+literal_lies_at_its_address = refl
+
+-- the pointer is the address of the literal's second byte
+pointer_is_that_address : start_memory image 0x10000008 + 256 * start_memory image 0x10000009 + 65536 * start_memory image 0x1000000a + 16777216 * start_memory image 0x1000000b ≡ 0x10000005
+pointer_is_that_address = refl
+
+-- ---- the world in which the run stands
+
+abbrev after_store : World
+after_store = world_after unit 0 [] (record { memory = first; input = 65 ∷ [] }) 2
+
+-- behind the entry and the store the variable is 7, main's block is there, and no input was taken
+variable_is_seven : (block_at after_store.memory 0).cells 0 ≡ byte 7
+variable_is_seven = refl
+
+main_has_its_block : length after_store.memory ≡ 4
+main_has_its_block = refl
+
+no_input_is_taken : after_store.input ≡ 65 ∷ []
+no_input_is_taken = refl
 
 -- ---- the start
 

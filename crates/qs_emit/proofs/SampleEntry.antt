@@ -1,6 +1,6 @@
 -- The sample's function, entered while its pointer goes into a released block and others change all that isn't its own: the
 -- premises of the law of functions can be met.
-use Rattle.std.proofs.Common.{◌≡◌, inr, ℕ, zero, suc, ◌+◌, ◌*◌, ◌-◌, ◌^◌, ◌<◌, ◌≤◌, Bool, true, false, [], ◌∷◌, refl, arith}
+use Rattle.std.proofs.Common.{◌≡◌, inr, ℕ, zero, suc, ◌+◌, ◌*◌, ◌-◌, ◌^◌, ◌<◌, ◌≤◌, Bool, true, false, [], ◌∷◌, refl, subst, arith}
 use Rattle.std.specs.Prelude.{◌==◌, ◌&&◌, nat_le, nat_lt, if◌then◌else◌, slice_index_or}
 use Rattle.std.proofs.lemmas.Bool.Decides.{nat_tests}
 use Rattle.std.proofs.lemmas.List.Elements.{All-nil, All-cons}
@@ -187,3 +187,11 @@ comes_back : (to : Watched) × ((to.now.pc ≡ 12344) × (register to.now 10 ≡
 comes_back =
     let r = emitted.functions there 0 [] world lay entered 4 surroundings entry (omega arith) in
     (r.to, (r.pc, r.result.0))
+
+-- while it goes on, behind its store, the variable's first byte is 7, whatever others do
+variable_is_stored : (to : Watched) × (to.now.memory 268435456 ≡ 7)
+variable_is_stored =
+    let r = emitted.functions there 0 [] world lay entered 2 surroundings entry (omega arith) in
+    let there_still = r.blocks.old 0 (omega arith) in
+    let at : r.lay.address_of 0 + 0 ≡ 268435456 = omega (arith, there_still) in
+    (r.to, subst (λ (address : ℕ). r.to.now.memory address ≡ 7) at (r.blocks.lies.holds 0 0 refl (omega arith)).0)

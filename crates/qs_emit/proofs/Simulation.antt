@@ -1,5 +1,5 @@
 -- The machine follows each step of linear code, and so the whole run.
-use Rattle.std.proofs.Common.{◌≡◌, ℕ, zero, suc, ◌+◌, ◌-◌, ◌*◌, ◌%◌, ◌^◌, ◌==◌, ◌<◌, ◌≤◌, Bool, true, false, List, [], ◌∷◌, ◌++◌, length, All, Option, Some, None, refl, sym, ap, ◌∙◌, subst, arith, append-nil}
+use Rattle.std.proofs.Common.{◌≡◌, inl, ℕ, zero, suc, ◌+◌, ◌-◌, ◌*◌, ◌%◌, ◌^◌, ◌==◌, ◌<◌, ◌≤◌, Bool, true, false, List, [], ◌∷◌, ◌++◌, length, All, Option, Some, None, refl, sym, ap, ◌∙◌, subst, arith, append-nil}
 use Rattle.std.specs.Prelude.{◌&&◌, nat_lt, if◌then◌else◌, slice_get}
 use Rattle.std.specs.List.{list_all}
 use Rattle.std.proofs.lemmas.List.Elements.{All-nil, All-head, All-tail}
@@ -36,8 +36,9 @@ use Rattle.qs_tac.specs.Holders.{File}
 use Rattle.qs_tac.specs.Places.{place_of}
 use Rattle.qs_tac.specs.Fits.{operand_fits, address_fits, operation_fits, condition_fits, instruction_fits, takes, taken_fits, callee_fits}
 use Rattle.qs_tac.specs.Values.{Activation, operand, operands, pointer, holds}
-use Rattle.qs_tac.specs.Steps.{Waiting, going_to, onward, written, Next, take_result, begins, enters, ends, waits, step, steps}
+use Rattle.qs_tac.specs.Steps.{Waiting, going_to, onward, written, Next, take_result, begins, enters, ends, waits, step}
 use Rattle.qs_tac.specs.Steps.{instruction_at as linear_at}
+use Rattle.qs_tac.specs.Units.{stopped_steps}
 use Rattle.qs_emit_selection.specs.Operands.{Context}
 use Rattle.qs_emit_selection.specs.Operands.{into as operand_into}
 use Rattle.qs_emit_selection.specs.Emission as emission
@@ -46,7 +47,7 @@ use Rattle.qs_emit.specs.Machine.{Watched, instruction_at}
 use Rattle.qs_emit.specs.Lies.{AreBytes, number_at, StandsFor}
 use Rattle.qs_emit.specs.Surroundings.{HasBlocks, Lay, ground}
 use Rattle.qs_emit.specs.Relation.{Setup, no_function, context, cost, place, function_at, HasPlace, HasStack, root_block, caller_registers, IsRelated, StandsAt, around}
-use Rattle.qs_emit.specs.Entries.{IsResult, ComesTo, Follows}
+use Rattle.qs_emit.specs.Entries.{IsResult}
 use Rattle.qs_emit.proofs.Injection.{value_kept}
 use Rattle.qs_emit.proofs.Steps.{Takes, takes_on, takes_less, HasAt, Does, does_is, does_none}
 use Rattle.qs_emit.proofs.FrameLaws.{related_own, cell_own, blocks_same}
@@ -56,7 +57,7 @@ use Rattle.qs_emit.proofs.Results.{move_does, unary_does, convert_does, binary_d
 use Rattle.qs_emit.proofs.Fetches.{load_place_does, store_place_does}
 use Rattle.qs_emit.proofs.Transfers.{fill_object_does, copy_object_does}
 use Rattle.qs_emit.proofs.CodePlaces.{plain_laid, HasFunction, has_function, fits_between, instruction_fits_there, function_there, has_place, some_code}
-use Rattle.qs_emit.proofs.FollowedSteps.{Reaches, follows_later, follows_undefined, undefined_behind, follows_short, follows_given, amid_at, Onward, plain_follows}
+use Rattle.qs_emit.proofs.FollowedSteps.{Reaches, ComesToStop, FollowsToStop, follows_later, follows_undefined, undefined_behind, follows_stopped, follows_given, amid_at, Onward, plain_follows}
 use Rattle.qs_emit.proofs.Jumps.{jump_follows, branch_follows}
 use Rattle.qs_emit.proofs.Parameters.{Passed, passes, pass_is}
 use Rattle.qs_emit.proofs.Returns.{later_left, blocks_left, related_left, HasLeft}
@@ -71,10 +72,10 @@ and_right : (x y : Bool) → x && y ≡ true → y ≡ true
 and_right true y e = e
 and_right false y e = cc
 
-module _ (s : Setup) (n : ℕ) (next : Next File) (more : (a : Activation File) (w : World) (stack : List (Waiting File)) (l : Lay) (m : Watched) → StandsAt s a w stack l m → Follows (around s) n m (next a w stack)) where
+module _ (s : Setup) (mark : Option Value) (n : ℕ) (next : Next File) (more : (a : Activation File) (w : World) (stack : List (Waiting File)) (l : Lay) (m : Watched) → StandsAt s a w stack l m → FollowsToStop (around s) mark n m (next a w stack)) where
   -- behind a step without events
-  goes_on : (a b : Activation File) (w v : World) (stack : List (Waiting File)) (l : Lay) (m : Watched) → StandsAt s a w stack l m → Onward s b v stack l m → Follows (around s) (suc n) m (next b v stack)
-  goes_on a b w v stack l m h o = follows_later s n m o.to None (next b v stack) h.low o.reaches (more b v stack l o.to o.stands)
+  goes_on : (a b : Activation File) (w v : World) (stack : List (Waiting File)) (l : Lay) (m : Watched) → StandsAt s a w stack l m → Onward s b v stack l m → FollowsToStop (around s) mark (suc n) m (next b v stack)
+  goes_on a b w v stack l m h o = follows_later s mark n m o.to None (next b v stack) h.low o.reaches (more b v stack l o.to o.stands)
 
   -- ---- returns
 
@@ -146,7 +147,7 @@ module _ (s : Setup) (n : ℕ) (next : Next File) (more : (a : Activation File) 
             }
 
     -- the root
-    root_returns : stack ≡ [] → ComesTo (around s) (suc n) m (Returns a.function ∷ []) (has_ended (record { result = result; memory = left; input = w.input }))
+    root_returns : stack ≡ [] → ComesToStop (around s) mark (suc n) m (Returns a.function ∷ []) (has_ended (record { result = result; memory = left; input = w.input }))
     root_returns e =
         let above : HasStack s (ground w.memory l g.flat) [] mine up (number_at 4 g.flat (m.now.registers 2)) = subst (λ (z : List (Waiting File)). HasStack s (ground w.memory l g.flat) z mine up (number_at 4 g.flat (m.now.registers 2))) e g.related.above in
         let first : a.first_block ≡ s.first = subst (λ (z : List (Waiting File)). root_block a.first_block z ≡ s.first) e g.related.root in
@@ -155,7 +156,7 @@ module _ (s : Setup) (n : ℕ) (next : Next File) (more : (a : Activation File) 
         let steps = g.takes.by 0 in
         let least = h.low in
         let low = g.low in
-        record {
+        inl (record {
           steps = steps.0;
           to = g.to;
           lay = l;
@@ -168,23 +169,23 @@ module _ (s : Setup) (n : ℕ) (next : Next File) (more : (a : Activation File) 
           only_old = λ b live. let k = live_below a.first_block w.memory b live in omega (arith, k, first);
           blocks = subst (λ (p : ℕ). HasBlocks (around s) (ground left l g.to.now.memory) p) (sym g.x2) blocks;
           input = ◌∙◌ {a = g.to.now.input} g.input h.input;
-        }
+        })
 
-    returned : (c : Waiting File) (others : List (Waiting File)) → stack ≡ c ∷ others → (x : Option ℕ) → c.taken_by ≡ x → (r : Option Value) → result ≡ r → Follows (around s) (suc n) m (emit (Returns a.function) (take_result (holder s) next x c.activation others r (with_memory w left)))
+    returned : (c : Waiting File) (others : List (Waiting File)) → stack ≡ c ∷ others → (x : Option ℕ) → c.taken_by ≡ x → (r : Option Value) → result ≡ r → FollowsToStop (around s) mark (suc n) m (emit (Returns a.function) (take_result (holder s) next x c.activation others r (with_memory w left)))
     returned c others e None f r i =
         let k = resumed c others c.activation e refl refl (subst (λ (x : Option ℕ). Does s g.to (emission.take_result (context s c.activation.function) x) (IsAmid s c.activation left others l up)) (sym f) (does_none s g.to _ (caller_amid c others e))) in
-        follows_later s n m k.to (Some (Returns a.function)) (next c.activation (with_memory w left) others) h.low k.reaches (more c.activation (with_memory w left) others l k.to k.stands)
-    returned c others e (Some x) f None i = undefined_behind s (suc n) m (Returns a.function) refl
+        follows_later s mark n m k.to (Some (Returns a.function)) (next c.activation (with_memory w left) others) h.low k.reaches (more c.activation (with_memory w left) others l k.to k.stands)
+    returned c others e (Some x) f None i = undefined_behind s mark (suc n) m (Returns a.function) refl
     returned c others e (Some x) f (Some v) i =
         let b = written (holder s) x v c.activation in
         let has = (above_of c others e).0.taken x f in
         let value : StandsFor left l.address_of v (g.to.now.registers 10) = subst (λ (r : Option Value). IsResult left l r (g.to.now.registers 10)) i (result_left result (g.to.now.registers 10) g.value) in
         let does : Does s g.to (emission.take_result (context s c.activation.function) (Some x)) (IsAmid s b left others l up) = does_is s g.to _ _ _ (put_does s c.activation left others l up g.to 10 (g.to.now.registers 10) (place_of (context s c.activation.function).places x) v (caller_amid c others e) has (λ z. absurd (omega (arith, z))) refl value) (λ m2 x2 k. k.amid) in
         let k = resumed c others b e refl refl (subst (λ (x : Option ℕ). Does s g.to (emission.take_result (context s c.activation.function) x) (IsAmid s b left others l up)) (sym f) does) in
-        follows_later s n m k.to (Some (Returns a.function)) (next b (with_memory w left) others) h.low k.reaches (more b (with_memory w left) others l k.to k.stands)
+        follows_later s mark n m k.to (Some (Returns a.function)) (next b (with_memory w left) others) h.low k.reaches (more b (with_memory w left) others l k.to k.stands)
 
     -- a function returns
-    ends_follows : (others : List (Waiting File)) → stack ≡ others → Follows (around s) (suc n) m (ends (holder s) next a others result w)
+    ends_follows : (others : List (Waiting File)) → stack ≡ others → FollowsToStop (around s) mark (suc n) m (ends (holder s) next a others result w)
     ends_follows [] e room = root_returns e
     ends_follows (c ∷ others) e room = returned c others e c.taken_by refl result refl room
 
@@ -213,12 +214,12 @@ module _ (s : Setup) (n : ℕ) (next : Next File) (more : (a : Activation File) 
     amid = amid_at s a w stack l m h
 
     -- straight code
-    straight_follows : (i : InstructionTree) (b : Activation File) (later : Memory) (code : List Instr) → instruction_items c labels i ≡ plain code → b.function ≡ a.function → Stands i → Does s m code (IsAmid s b later stack l (m.now.registers 2)) → Follows (around s) (suc n) m (next (record b { at = a.at + 1 }) (with_memory w later) stack)
+    straight_follows : (i : InstructionTree) (b : Activation File) (later : Memory) (code : List Instr) → instruction_items c labels i ≡ plain code → b.function ≡ a.function → Stands i → Does s m code (IsAmid s b later stack l (m.now.registers 2)) → FollowsToStop (around s) mark (suc n) m (next (record b { at = a.at + 1 }) (with_memory w later) stack)
     straight_follows i b later code e same stands does =
         goes_on a (record b { at = a.at + 1 }) w (with_memory w later) stack l m h
         (plain_follows s a b w later stack l m code (a.at + 1) h has same (subst (λ (z : List _). Lays (instruction_at s.image) s.label_at (place s a.function a.at) z (place s a.function (a.at + 1))) e stands) low_next aligned_here (some_code s a.function h.related.known code i e) does)
 
-    gives_follows : (i : InstructionTree) (x : ℕ) (v : Value) (code : List Instr) → instruction_items c labels i ≡ plain code → Stands i → Does s m code (IsAmid s (holding s a w.memory stack l (m.now.registers 2) (place_of c.places x) v) w.memory stack l (m.now.registers 2)) → Follows (around s) (suc n) m (next (onward (written (holder s) x v a)) w stack)
+    gives_follows : (i : InstructionTree) (x : ℕ) (v : Value) (code : List Instr) → instruction_items c labels i ≡ plain code → Stands i → Does s m code (IsAmid s (holding s a w.memory stack l (m.now.registers 2) (place_of c.places x) v) w.memory stack l (m.now.registers 2)) → FollowsToStop (around s) mark (suc n) m (next (onward (written (holder s) x v a)) w stack)
     gives_follows i x v code e stands does = straight_follows i (holding s a w.memory stack l (m.now.registers 2) (place_of c.places x) v) w.memory code e refl stands does
 
     there : (x : ℕ) → x < (function_at s.unit a.function).temporaries → HasPlace c (place_of c.places x)
@@ -231,9 +232,9 @@ module _ (s : Setup) (n : ℕ) (next : Next File) (more : (a : Activation File) 
     -- ---- calls of functions
 
     called_follows : (x : Option ℕ) (f : ℕ) (os : List Operand) (vs : List Value) (g : TacFunctionTree) → slice_get s.unit.functions f ≡ Some g → length os ≡ length g.parameters → length os ≤ 8 → list_all (operand_fits s.unit (function_at s.unit a.function)) os ≡ true → taken_fits (function_at s.unit a.function) x ≡ true → operands (holder s) os a ≡ Some vs → Lays (instruction_at s.image) s.label_at (place s a.function a.at) (plain (emission.pass c 10 os) ++ (items.Jump 1 (first_label s.unit.functions f) ∷ plain (emission.take_result c x))) (place s a.function (a.at + 1))
-        → Follows (around s) (suc n) m (activate f (record { parameters = g.parameters; blocks = g.blocks }) (begins (holder s) next (record { activation = waits (holder s) a; taken_by = x } ∷ stack) f) vs (take_result (holder s) next x (waits (holder s) a) stack) w)
+        → FollowsToStop (around s) mark (suc n) m (activate f (record { parameters = g.parameters; blocks = g.blocks }) (begins (holder s) next (record { activation = waits (holder s) a; taken_by = x } ∷ stack) f) vs (take_result (holder s) next x (waits (holder s) a) stack) w)
     called_follows x f os vs g is count few fits taken e stands =
-        subst (λ (z : RootRun). Follows (around s) (suc n) m (emit (Calls f) z))
+        subst (λ (z : RootRun). FollowsToStop (around s) mark (suc n) m (emit (Calls f) z))
         (sym (pass_is g.parameters vs (length w.memory) no_values (with_memory w (make g.blocks w.memory)) (λ e w. next (record { function = f; at = 0; first_block = length w_first; held = (holder s).enter f e }) w (record { activation = waits (holder s) a; taken_by = x } ∷ stack))))
         (by (passes g.parameters vs (length w.memory) no_values (make g.blocks w.memory)) refl)
       where
@@ -246,21 +247,21 @@ module _ (s : Setup) (n : ℕ) (next : Next File) (more : (a : Activation File) 
         known : f < length s.unit.functions
         known = slice_get_within s.unit.functions f g is
 
-        by : (o : Option Passed) → passes g.parameters vs (length w.memory) no_values (make g.blocks w.memory) ≡ o → Follows (around s) (suc n) m (emit (Calls f) (given o (λ r. next (record { function = f; at = 0; first_block = length w_first; held = (holder s).enter f r.environment }) (with_memory (with_memory w (make g.blocks w.memory)) r.memory) (record { activation = waits (holder s) a; taken_by = x } ∷ stack))))
-        by None q room = undefined_behind s (suc n) m (Calls f) refl room
+        by : (o : Option Passed) → passes g.parameters vs (length w.memory) no_values (make g.blocks w.memory) ≡ o → FollowsToStop (around s) mark (suc n) m (emit (Calls f) (given o (λ r. next (record { function = f; at = 0; first_block = length w_first; held = (holder s).enter f r.environment }) (with_memory (with_memory w (make g.blocks w.memory)) r.memory) (record { activation = waits (holder s) a; taken_by = x } ∷ stack))))
+        by None q room = undefined_behind s mark (suc n) m (Calls f) refl room
         by (Some r) q room =
             let passed : passes (function_at s.unit f).parameters vs (length w.memory) no_values (make (function_at s.unit f).blocks w.memory) ≡ Some r = subst (λ (z : TacFunctionTree). passes z.parameters vs (length w.memory) no_values (make z.blocks w.memory) ≡ Some r) (sym same) q in
             let counted : length os ≡ length (function_at s.unit f).parameters = subst (λ (z : TacFunctionTree). length os ≡ length z.parameters) (sym same) count in
             let b = function_called s a w stack l m h x f vs (taken_there x taken) inside os r has known counted few fits e stands low_next aligned_here (omega (arith, room)) passed in
-            follows_later s n m b.to (Some (Calls f)) (next (record { function = f; at = 0; first_block = length w.memory; held = (holder s).enter f r.environment }) (with_memory w r.memory) (record { activation = waits (holder s) a; taken_by = x } ∷ stack)) h.low b.reaches
+            follows_later s mark n m b.to (Some (Calls f)) (next (record { function = f; at = 0; first_block = length w.memory; held = (holder s).enter f r.environment }) (with_memory w r.memory) (record { activation = waits (holder s) a; taken_by = x } ∷ stack)) h.low b.reaches
             (more _ _ _ b.lay_there b.to b.stands) room
 
     -- ---- calls of the environment
 
     -- what follows an answer
-    answer_follows : (e : Event) (x : Option ℕ) (v : Value) (input : List ℕ) → HasAnswer s a w stack l m h e x v input → Follows (around s) (suc n) m (emit e (take_result (holder s) next x (waits (holder s) a) stack (Some v) (record w { input = input })))
-    answer_follows e None v input k = follows_later s n m k.to (Some e) (next (waits (holder s) a) (record w { input = input }) stack) h.low k.reaches (more _ _ _ l k.to k.stands)
-    answer_follows e (Some x) v input k = follows_later s n m k.to (Some e) (next (written (holder s) x v (waits (holder s) a)) (record w { input = input }) stack) h.low k.reaches (more _ _ _ l k.to k.stands)
+    answer_follows : (e : Event) (x : Option ℕ) (v : Value) (input : List ℕ) → HasAnswer s a w stack l m h e x v input → FollowsToStop (around s) mark (suc n) m (emit e (take_result (holder s) next x (waits (holder s) a) stack (Some v) (record w { input = input })))
+    answer_follows e None v input k = follows_later s mark n m k.to (Some e) (next (waits (holder s) a) (record w { input = input }) stack) h.low k.reaches (more _ _ _ l k.to k.stands)
+    answer_follows e (Some x) v input k = follows_later s mark n m k.to (Some e) (next (written (holder s) x v (waits (holder s) a)) (record w { input = input }) stack) h.low k.reaches (more _ _ _ l k.to k.stands)
 
     abbrev StandsEnvironment : (number : ℕ) → List Operand → Option ℕ → Type 0
     StandsEnvironment number os x = Lays (instruction_at s.image) s.label_at (place s a.function a.at) (plain (emission.pass c 10 os) ++ (plain (addi 17 0 number ∷ instructions.Ecall ∷ []) ++ plain (emission.take_result c x))) (place s a.function (a.at + 1))
@@ -272,10 +273,10 @@ module _ (s : Setup) (n : ℕ) (next : Next File) (more : (a : Activation File) 
     ecall_acts : (m1 : Watched) (number : ℕ) → register m1.now 17 ≡ number → act s.image s.room.size m1.now instructions.Ecall ≡ machine.environment_call m1.now number
     ecall_acts m1 number e = ap (λ (k : ℕ). machine.environment_call m1.now k) e
 
-    put_follows : (x : Option ℕ) (os : List Operand) (vs : List Value) → length os ≤ 8 → list_all (operand_fits s.unit (function_at s.unit a.function)) os ≡ true → taken_fits (function_at s.unit a.function) x ≡ true → operands (holder s) os a ≡ Some vs → StandsEnvironment put_byte_call os x → Follows (around s) (suc n) m (put_char vs (take_result (holder s) next x (waits (holder s) a) stack) w)
-    put_follows x os [] few fits taken e stands = follows_undefined s (suc n) m
-    put_follows x os (address p ∷ vs) few fits taken e stands = follows_undefined s (suc n) m
-    put_follows x os (integer k ∷ v ∷ vs) few fits taken e stands = follows_undefined s (suc n) m
+    put_follows : (x : Option ℕ) (os : List Operand) (vs : List Value) → length os ≤ 8 → list_all (operand_fits s.unit (function_at s.unit a.function)) os ≡ true → taken_fits (function_at s.unit a.function) x ≡ true → operands (holder s) os a ≡ Some vs → StandsEnvironment put_byte_call os x → FollowsToStop (around s) mark (suc n) m (put_char vs (take_result (holder s) next x (waits (holder s) a) stack) w)
+    put_follows x os [] few fits taken e stands = follows_undefined s mark (suc n) m
+    put_follows x os (address p ∷ vs) few fits taken e stands = follows_undefined s mark (suc n) m
+    put_follows x os (integer k ∷ v ∷ vs) few fits taken e stands = follows_undefined s mark (suc n) m
     put_follows x os (integer k ∷ []) few fits taken e stands =
         answer_follows (Puts (k % 256)) x (integer (k % 256)) w.input
         (environment_called s a w stack l m h os (integer k ∷ []) put_byte_call (Puts (k % 256)) x (integer (k % 256)) w.input (omega arith) (refl, refl) fits e few asked h.input_bytes (taken_there x taken) stands low_next aligned_here)
@@ -293,13 +294,13 @@ module _ (s : Setup) (n : ℕ) (next : Next File) (more : (a : Activation File) 
               ),
             )
 
-    get_follows : (x : Option ℕ) (os : List Operand) (vs : List Value) → length os ≤ 8 → list_all (operand_fits s.unit (function_at s.unit a.function)) os ≡ true → taken_fits (function_at s.unit a.function) x ≡ true → operands (holder s) os a ≡ Some vs → StandsEnvironment take_byte_call os x → Follows (around s) (suc n) m (get_char vs (take_result (holder s) next x (waits (holder s) a) stack) w)
-    get_follows x os (v ∷ vs) few fits taken e stands = follows_undefined s (suc n) m
+    get_follows : (x : Option ℕ) (os : List Operand) (vs : List Value) → length os ≤ 8 → list_all (operand_fits s.unit (function_at s.unit a.function)) os ≡ true → taken_fits (function_at s.unit a.function) x ≡ true → operands (holder s) os a ≡ Some vs → StandsEnvironment take_byte_call os x → FollowsToStop (around s) mark (suc n) m (get_char vs (take_result (holder s) next x (waits (holder s) a) stack) w)
+    get_follows x os (v ∷ vs) few fits taken e stands = follows_undefined s mark (suc n) m
     get_follows x os [] few fits taken e stands = by w.input refl
       where
-        by : (input : List ℕ) → w.input ≡ input → Follows (around s) (suc n) m (take_byte input (take_result (holder s) next x (waits (holder s) a) stack) w)
+        by : (input : List ℕ) → w.input ≡ input → FollowsToStop (around s) mark (suc n) m (take_byte input (take_result (holder s) next x (waits (holder s) a) stack) w)
         by [] i =
-            subst (λ (z : World). Follows (around s) (suc n) m (emit TakesEnd (take_result (holder s) next x (waits (holder s) a) stack (Some (integer (2 ^ 32 - 1))) z))) (ap (λ (z : List ℕ). record w { input = z }) (sym i))
+            subst (λ (z : World). FollowsToStop (around s) mark (suc n) m (emit TakesEnd (take_result (holder s) next x (waits (holder s) a) stack (Some (integer (2 ^ 32 - 1))) z))) (ap (λ (z : List ℕ). record w { input = z }) (sym i))
             (answer_follows TakesEnd x (integer (2 ^ 32 - 1)) []
             (environment_called s a w stack l m h os [] take_byte_call TakesEnd x (integer (2 ^ 32 - 1)) [] (omega arith) (refl, refl) fits e few asked (All-nil (λ byte. byte < 256)) (taken_there x taken) stands low_next aligned_here))
           where
@@ -338,9 +339,9 @@ module _ (s : Setup) (n : ℕ) (next : Next File) (more : (a : Activation File) 
                 )
 
     invoke_follows : (x : Option ℕ) (f : Callee) (os : List Operand) (vs : List Value) → length os ≤ 8 → callee_fits s.unit f os ≡ true → list_all (operand_fits s.unit (function_at s.unit a.function)) os ≡ true → taken_fits (function_at s.unit a.function) x ≡ true → operands (holder s) os a ≡ Some vs → Stands (call x f os)
-        → Follows (around s) (suc n) m (invoke f (enters (holder s) s.unit next (record { activation = waits (holder s) a; taken_by = x } ∷ stack)) vs (take_result (holder s) next x (waits (holder s) a) stack) w)
+        → FollowsToStop (around s) mark (suc n) m (invoke f (enters (holder s) s.unit next (record { activation = waits (holder s) a; taken_by = x } ∷ stack)) vs (take_result (holder s) next x (waits (holder s) a) stack) w)
     invoke_follows x (Function f) os vs few callee fits taken e stands =
-        follows_given s (suc n) m (slice_get s.unit.functions f.0) _ (λ g is.
+        follows_given s mark (suc n) m (slice_get s.unit.functions f.0) _ (λ g is.
         let counts : (length os == length g.parameters) ≡ true = subst (λ (o : Option TacFunctionTree). takes o os ≡ true) is callee in
         let count : length os ≡ length g.parameters = grind (arith, nat_tests, counts) in
         called_follows x f.0 os vs g is count few fits taken e stands)
@@ -355,16 +356,16 @@ module _ (s : Setup) (n : ℕ) (next : Next File) (more : (a : Activation File) 
     small_place : (x : ℕ) (rest : Bool) → nat_lt x (function_at s.unit a.function).temporaries && rest ≡ true → HasPlace c (place_of c.places x)
     small_place x rest fits = let t = and_left (nat_lt x (function_at s.unit a.function).temporaries) rest fits in let lt : x < (function_at s.unit a.function).temporaries = grind (arith, nat_tests, t) in there x lt
 
-    instruction_follows : (i : InstructionTree) → Stands i → FitsHere i → slice_get (function_at s.unit a.function).code a.at ≡ Some i → Follows (around s) (suc n) m (step (holder s) s.unit (Some i) next a w stack)
+    instruction_follows : (i : InstructionTree) → Stands i → FitsHere i → slice_get (function_at s.unit a.function).code a.at ≡ Some i → FollowsToStop (around s) mark (suc n) m (step (holder s) s.unit (Some i) next a w stack)
     instruction_follows (move x o) stands fits is =
-        follows_given s (suc n) m (operand (holder s) o a) _ (λ v e.
+        follows_given s mark (suc n) m (operand (holder s) o a) _ (λ v e.
         gives_follows (move x o) x v _ refl stands (move_does s a w.memory stack l (m.now.registers 2) m o v (place_of c.places x) amid (operand_of o v (and_right _ _ fits) e) (small_place x _ fits)))
     instruction_follows (unary op x o) stands fits is =
-        follows_given s (suc n) m (operand (holder s) o a >>= λ v. apply_unary op w.memory v) _ (λ u e.
+        follows_given s mark (suc n) m (operand (holder s) o a >>= λ v. apply_unary op w.memory v) _ (λ u e.
         let f = followed (operand (holder s) o a) (λ v. apply_unary op w.memory v) u e in
         gives_follows (unary op x o) x u _ refl stands (unary_does s a w.memory stack l (m.now.registers 2) m op o f.value u x amid (operand_of o f.value (and_right _ _ fits) f.first) f.then (small_place x _ fits)))
     instruction_follows (binary op x o p) stands fits is =
-        follows_given s (suc n) m (operand (holder s) o a >>= λ v. operand (holder s) p a >>= λ y. apply_binary op w.memory v y) _ (λ u e.
+        follows_given s mark (suc n) m (operand (holder s) o a >>= λ v. operand (holder s) p a >>= λ y. apply_binary op w.memory v y) _ (λ u e.
         let f = followed (operand (holder s) o a) (λ v. operand (holder s) p a >>= λ y. apply_binary op w.memory v y) u e in
         let g = followed (operand (holder s) p a) (λ y. apply_binary op w.memory f.value y) u f.then in
         let fits_three = and_left _ (operation_fits op) fits in
@@ -372,41 +373,41 @@ module _ (s : Setup) (n : ℕ) (next : Next File) (more : (a : Activation File) 
         gives_follows (binary op x o p) x u _ refl stands (binary_does s a w.memory stack l (m.now.registers 2) m op o p f.value g.value u x amid (and_right _ _ fits)
         (operand_of o f.value (and_right _ _ fits_two) f.first) (operand_of p g.value (and_right _ _ fits_three) g.first) g.then (small_place x _ fits_two)))
     instruction_follows (convert t x o) stands fits is =
-        follows_given s (suc n) m (operand (holder s) o a >>= λ v. values.convert t v) _ (λ u e.
+        follows_given s mark (suc n) m (operand (holder s) o a >>= λ v. values.convert t v) _ (λ u e.
         let f = followed (operand (holder s) o a) (λ v. values.convert t v) u e in
         gives_follows (convert t x o) x u _ refl stands (convert_does s a w.memory stack l (m.now.registers 2) m t o f.value u x amid (operand_of o f.value (and_right _ _ fits) f.first) f.then (small_place x _ fits)))
     instruction_follows (address_of x p) stands fits is =
-        follows_given s (suc n) m (pointer (holder s) p a w.memory >>= λ q. Some (address q)) _ (λ u e.
+        follows_given s mark (suc n) m (pointer (holder s) p a w.memory >>= λ q. Some (address q)) _ (λ u e.
         let f = followed (pointer (holder s) p a w.memory) (λ q. Some (address q)) u e in
-        subst (λ (z : Value). Follows (around s) (suc n) m (next (onward (written (holder s) x z a)) w stack)) (some_same _ u f.then)
+        subst (λ (z : Value). FollowsToStop (around s) mark (suc n) m (next (onward (written (holder s) x z a)) w stack)) (some_same _ u f.then)
         (gives_follows (address_of x p) x (address f.value) _ refl stands (address_of_does s a w.memory stack l (m.now.registers 2) m p f.value x amid (and_right _ _ fits) f.first (small_place x _ fits))))
     instruction_follows (load t x p) stands fits is =
-        follows_given s (suc n) m (pointer (holder s) p a w.memory >>= λ q. memory.load t w.memory q) _ (λ u e.
+        follows_given s mark (suc n) m (pointer (holder s) p a w.memory >>= λ q. memory.load t w.memory q) _ (λ u e.
         let f = followed (pointer (holder s) p a w.memory) (λ q. memory.load t w.memory q) u e in
         gives_follows (load t x p) x u _ refl stands (load_place_does s a w.memory stack l (m.now.registers 2) m t p f.value u x amid (and_right _ _ fits) f.first f.then (small_place x _ fits)))
     instruction_follows (store t p o) stands fits is =
-        follows_given s (suc n) m (pointer (holder s) p a w.memory >>= λ q. operand (holder s) o a >>= λ v. memory.store t w.memory q v) _ (λ later e.
+        follows_given s mark (suc n) m (pointer (holder s) p a w.memory >>= λ q. operand (holder s) o a >>= λ v. memory.store t w.memory q v) _ (λ later e.
         let f = followed (pointer (holder s) p a w.memory) (λ q. operand (holder s) o a >>= λ v. memory.store t w.memory q v) later e in
         let g = followed (operand (holder s) o a) (λ v. memory.store t w.memory f.value v) later f.then in
         straight_follows (store t p o) a later _ refl refl stands (store_place_does s a w.memory stack l (m.now.registers 2) m t p o f.value g.value later amid (and_left _ _ fits) f.first (operand_of o g.value (and_right _ _ fits) g.first) g.then))
     instruction_follows (copy size alignment p q) stands fits is =
-        follows_given s (suc n) m (pointer (holder s) p a w.memory >>= λ to. pointer (holder s) q a w.memory >>= λ from. memory.copy size alignment w.memory to from) _ (λ later e.
+        follows_given s mark (suc n) m (pointer (holder s) p a w.memory >>= λ to. pointer (holder s) q a w.memory >>= λ from. memory.copy size alignment w.memory to from) _ (λ later e.
         let f = followed (pointer (holder s) p a w.memory) (λ to. pointer (holder s) q a w.memory >>= λ from. memory.copy size alignment w.memory to from) later e in
         let g = followed (pointer (holder s) q a w.memory) (λ from. memory.copy size alignment w.memory f.value from) later f.then in
         straight_follows (copy size alignment p q) a later _ refl refl stands (copy_object_does s a w.memory stack l (m.now.registers 2) m size alignment p q f.value g.value later amid (and_right _ _ (and_left _ (address_fits s.unit (function_at s.unit a.function) q) fits)) (and_right _ _ fits) f.first g.first g.then))
     instruction_follows (fill blank p) stands fits is =
-        follows_given s (suc n) m (pointer (holder s) p a w.memory >>= λ q. memory.fill blank w.memory q) _ (λ later e.
+        follows_given s mark (suc n) m (pointer (holder s) p a w.memory >>= λ q. memory.fill blank w.memory q) _ (λ later e.
         let f = followed (pointer (holder s) p a w.memory) (λ q. memory.fill blank w.memory q) later e in
         straight_follows (fill blank p) a later _ refl refl stands (fill_object_does s a w.memory stack l (m.now.registers 2) m blank p f.value later amid (and_right _ _ fits) f.first f.then))
     instruction_follows (call x f os) stands fits is =
-        follows_given s (suc n) m (operands (holder s) os a) _ (λ vs e.
+        follows_given s mark (suc n) m (operands (holder s) os a) _ (λ vs e.
         let fits_two = and_left _ (list_all (operand_fits s.unit (function_at s.unit a.function)) os) fits in
         invoke_follows x f os vs (s.emittable.arguments a.function a.at (call x f os) is x f os refl) (and_right _ _ fits_two) (and_right _ _ fits) (and_left _ _ fits_two) e stands)
     instruction_follows (jump to) stands fits is =
         let lt : to < length (function_at s.unit a.function).code = grind (arith, nat_tests, fits) in
         goes_on a (going_to to a) w w stack l m h (jump_follows s a w stack l m to h (let next_low = low_next in let up = stands.1 in omega (arith, next_low, up)) (has.place_low to (omega (arith, lt))) (has.place_aligned to (omega (arith, lt))) stands.0)
     instruction_follows (branch condition to) stands fits is =
-        follows_given s (suc n) m (holds (holder s) condition a w.memory) _ (λ answer e.
+        follows_given s mark (suc n) m (holds (holder s) condition a w.memory) _ (λ answer e.
         let t : nat_lt to (length (function_at s.unit a.function).code) ≡ true = and_right (condition_fits s.unit (function_at s.unit a.function) condition) (nat_lt to (length (function_at s.unit a.function).code)) fits in
         let lt : to < length (function_at s.unit a.function).code = grind (arith, nat_tests, t) in
         goes_on a (going_to (if answer then to else (a.at + 1)) a) w w stack l m h
@@ -414,26 +415,26 @@ module _ (s : Setup) (n : ℕ) (next : Next File) (more : (a : Activation File) 
     instruction_follows (return None) stands fits is =
         ends_follows a w stack l m h None (function_leaves s a w stack l m h None [] has stands low_next aligned_here (does_none s m _ (amid, tt))) stack refl
     instruction_follows (return (Some o)) stands fits is =
-        follows_given s (suc n) m (operand (holder s) o a) _ (λ v e.
+        follows_given s mark (suc n) m (operand (holder s) o a) _ (λ v e.
         ends_follows a w stack l m h (Some v) (function_leaves s a w stack l m h (Some v) (operand_into c 10 o) has stands low_next aligned_here
         (does_is s m _ _ _ (into_does s a w.memory stack l (m.now.registers 2) m 10 o v (argument_scratch 10 (omega arith) (omega arith)) amid fits e) (λ m1 x2 k. (k.amid, subst (λ (z : ℕ). StandsFor w.memory l.address_of v z) (sym k.got) k.stands)))) stack refl)
 
   -- a step
-  pub step_follows : (a : Activation File) (w : World) (stack : List (Waiting File)) (l : Lay) (m : Watched) → StandsAt s a w stack l m → Follows (around s) (suc n) m (step (holder s) s.unit (linear_at s.unit a) next a w stack)
+  pub step_follows : (a : Activation File) (w : World) (stack : List (Waiting File)) (l : Lay) (m : Watched) → StandsAt s a w stack l m → FollowsToStop (around s) mark (suc n) m (step (holder s) s.unit (linear_at s.unit a) next a w stack)
   step_follows a w stack l m h = by (slice_get (function_at s.unit a.function).code a.at) refl
     where
       known : linear_at s.unit a ≡ slice_get (function_at s.unit a.function).code a.at
       known = ap (λ (o : Option TacFunctionTree). o >>= λ f. slice_get f.code a.at) (function_there s a.function h.related.known)
 
-      by : (o : Option InstructionTree) → slice_get (function_at s.unit a.function).code a.at ≡ o → Follows (around s) (suc n) m (step (holder s) s.unit (linear_at s.unit a) next a w stack)
-      by None e = subst (λ (o : Option InstructionTree). Follows (around s) (suc n) m (step (holder s) s.unit o next a w stack)) (sym (known ∙ e)) (follows_undefined s (suc n) m)
+      by : (o : Option InstructionTree) → slice_get (function_at s.unit a.function).code a.at ≡ o → FollowsToStop (around s) mark (suc n) m (step (holder s) s.unit (linear_at s.unit a) next a w stack)
+      by None e = subst (λ (o : Option InstructionTree). FollowsToStop (around s) mark (suc n) m (step (holder s) s.unit o next a w stack)) (sym (known ∙ e)) (follows_undefined s mark (suc n) m)
       by (Some i) e =
           let has = has_function s a.function h.related.known in
           let lt = slice_get_within (function_at s.unit a.function).code a.at i e in
-          subst (λ (o : Option InstructionTree). Follows (around s) (suc n) m (step (holder s) s.unit o next a w stack)) (sym (known ∙ e))
+          subst (λ (o : Option InstructionTree). FollowsToStop (around s) mark (suc n) m (step (holder s) s.unit o next a w stack)) (sym (known ∙ e))
           (instruction_follows a w stack l m h has (omega (arith, lt)) i (has.stands a.at i e) (instruction_fits_there s a.function a.at i h.related.known e) e)
 
--- the run goes on as the machine does
-pub follows : (s : Setup) (n : ℕ) (a : Activation File) (w : World) (stack : List (Waiting File)) (l : Lay) (m : Watched) → StandsAt s a w stack l m → Follows (around s) n m (steps (holder s) s.unit n a w stack)
-follows s zero a w stack l m h = follows_short s m h.low
-follows s (suc n) a w stack l m h = step_follows s n (steps (holder s) s.unit n) (λ b v others k m1 g. follows s n b v others k m1 g) a w stack l m h
+-- the run goes on as the machine does, until it stops
+pub follows : (s : Setup) (mark : Option Value) (n : ℕ) (a : Activation File) (w : World) (stack : List (Waiting File)) (l : Lay) (m : Watched) → StandsAt s a w stack l m → FollowsToStop (around s) mark n m (stopped_steps (holder s) s.unit mark n a w stack)
+follows s mark zero a w stack l m h = follows_stopped s mark m w l h.low h.related.blocks h.input
+follows s mark (suc n) a w stack l m h = step_follows s mark n (stopped_steps (holder s) s.unit mark n) (λ b v others k m1 g. follows s mark n b v others k m1 g) a w stack l m h

@@ -26,7 +26,7 @@ use Rattle.qs_emit.specs.Lies.{StandsFor}
 use Rattle.qs_emit.specs.Surroundings.{Lay, ground}
 use Rattle.qs_emit.specs.Relation.{Setup, cost, entry, around}
 use Rattle.qs_emit.specs.Entries.{IsEntry, HasReturned, ComesTo, IsResult}
-use Rattle.qs_emit.specs.Started.{main_run, IsStart, HasRoom, ExitsBehind, StartsTo, IsExitOf, FollowsFromStart, EmittedCodeFollowsFromStart}
+use Rattle.qs_emit.specs.Started.{main_run, main_world, IsStart, HasRoom, ExitsBehind, StartsTo, IsExitOf, FollowsFromStart, EmittedCodeFollowsFromStart}
 use Rattle.qs_emit.proofs.Injection.{value_there}
 use Rattle.qs_emit.proofs.Steps.{Takes, IsSteady, stepped, takes_step, stirred_bytes, same_stirred}
 use Rattle.qs_emit.proofs.Slots.{reads_free}
@@ -189,19 +189,28 @@ module _ (s : Setup) (arguments : List Value) (w : World) (l : Lay) (m : Watched
       status_of : (result : Option Value) (v : ℕ) → result ≡ Some (integer v) → IsResult left.memory r.lay result (register r.to.now 10) → r.to.now.registers 10 % 256 ≡ v % 256
       status_of result v e k = let i : IsResult left.memory r.lay (Some (integer v)) (register r.to.now 10) = subst (λ (z : Option Value). IsResult left.memory r.lay z (register r.to.now 10)) e k in ap (λ (x : ℕ). x % 256) i.0
 
-  starts_to : (n : ℕ) (trace : List Event) (end : Ending (Left Value Memory)) → ComesTo (around s) n m1 trace end → StartsTo s n m trace end
-  starts_to n trace (has_ended left) r = exits_behind trace left r
-  starts_to n trace is_undefined r = let step = first_step.by r.steps in record { steps = step.0; to = r.to; comes = step.1.1 ∙ r.comes; output = r.output }
-  starts_to n trace is_short r =
+  starts_to : (n : ℕ) (trace : List Event) (end : Ending (Left Value Memory)) (v : World) → ComesTo (around s) n m1 trace end v → StartsTo s n m trace end v
+  starts_to n trace (has_ended left) v r = exits_behind trace left r
+  starts_to n trace is_undefined v r = let step = first_step.by r.steps in record { steps = step.0; to = r.to; comes = step.1.1 ∙ r.comes; output = r.output }
+  starts_to n trace is_short v r =
       let step = first_step.by r.steps in
       let more = step.1.0 in
       let enough = r.enough in
       let low_then = r.seen.low in
       let same = low_same in
-      record { steps = step.0; to = r.to; enough = omega (arith, more, enough); comes = step.1.1 ∙ r.comes; seen = record { output = r.seen.output; x2 = r.seen.x2; low = omega (arith, low_then, same) } }
+      record {
+        steps = step.0;
+        to = r.to;
+        lay = r.lay;
+        enough = omega (arith, more, enough);
+        comes = step.1.1 ∙ r.comes;
+        seen = record { output = r.seen.output; x2 = r.seen.x2; low = omega (arith, low_then, same) };
+        blocks = r.blocks;
+        input = r.input;
+      }
 
-  runs : (n : ℕ) → HasRoom s arguments w m n → StartsTo s n m (events_of (main_run s arguments w n)) (ending_of (main_run s arguments w n))
-  runs n room = starts_to n (events_of (main_run s arguments w n)) (ending_of (main_run s arguments w n)) (emitted_code_follows s s.unit.main arguments w l m1 n entered room)
+  runs : (n : ℕ) → HasRoom s arguments w m n → StartsTo s n m (events_of (main_run s arguments w n)) (ending_of (main_run s arguments w n)) (main_world s arguments w n)
+  runs n room = starts_to n (events_of (main_run s arguments w n)) (ending_of (main_run s arguments w n)) (main_world s arguments w n) (emitted_code_follows s s.unit.main arguments w l m1 n entered room)
 
   -- ---- the other way
 
@@ -209,7 +218,7 @@ module _ (s : Setup) (arguments : List Value) (w : World) (l : Lay) (m : Watched
   same_exit a b x y u v e = (cc, (cc, cc))
 
   -- where the machine has stopped within n steps, the run has too
-  stops : (n : ℕ) (x : Sight) → HasStopped x → watched s.image s.room n m ≡ x → HasRoom s arguments w m n → (end : Ending (Left Value Memory)) → ending_of (main_run s arguments w n) ≡ end → (trace : List Event) → events_of (main_run s arguments w n) ≡ trace → StartsTo s n m trace end → (end ≡ is_undefined) ⊎ ((left : Left Value Memory) × ((end ≡ has_ended left) × ((k : ExitsBehind s m trace left.result) × (x ≡ exits (m.now.output ++ output_of trace) k.status (m.now.registers 2 - weight (cost s) trace)))))
+  stops : (n : ℕ) (x : Sight) → HasStopped x → watched s.image s.room n m ≡ x → HasRoom s arguments w m n → (end : Ending (Left Value Memory)) → ending_of (main_run s arguments w n) ≡ end → (trace : List Event) → events_of (main_run s arguments w n) ≡ trace → StartsTo s n m trace end (main_world s arguments w n) → (end ≡ is_undefined) ⊎ ((left : Left Value Memory) × ((end ≡ has_ended left) × ((k : ExitsBehind s m trace left.result) × (x ≡ exits (m.now.output ++ output_of trace) k.status (m.now.registers 2 - weight (cost s) trace)))))
   stops n x stopped e room is_undefined i trace j r = inl refl
   stops n x stopped e room is_short i trace j r = absurd (not_both r.to x stopped (sym r.comes ∙ stopped_later s.image s.room n r.steps m x r.enough e stopped))
   stops n x stopped e room (has_ended left) i trace j r =

@@ -72,33 +72,67 @@ module _ (image : Image) (r : Room) (quiet : IsQuiet r) where
 -- ---- steps
 
 -- what a step gives is what is watched, but for what others make of it
-abbrev IsNext : Room → (w to : Watched) → StepResult → Type 0
-IsNext r w to result = (next : State) × ((result ≡ Next next) × (to.now ≡ stirred r w.time next))
+record IsNext (r : Room) (w to : Watched) (result : StepResult) : Type 0 where
+  next : State
+  is : result ≡ Next next
+  set : is_set r next ≡ true
+  stirs : to.now ≡ stirred r w.time next
+  low : to.low ≡ min w.low (stack_pointer next)
+  time : to.time ≡ w.time + 1
+
+-- and it is what an instruction gives that keeps to the rules
+record IsActed (r : Room) (w to : Watched) (o : Option Instr) (result : StepResult) : Type 0 where
+  instruction : Instr
+  is : o ≡ Some instruction
+  keeps : keeps_to r w.now instruction ≡ true
+  gives : IsNext r w to result
 
 module _ (image : Image) (r : Room) (w to : Watched) where
-  set_next : (set : Bool) (s : State) → only set (goes (record { now = stirred r w.time s; low = min w.low (stack_pointer s); time = w.time + 1 })) ≡ goes to → to.now ≡ stirred r w.time s
-  set_next true s e = cc
-  set_next false s e = cc
+  set_next : (s : State) (set : Bool) → is_set r s ≡ set → only set (goes (record { now = stirred r w.time s; low = min w.low (stack_pointer s); time = w.time + 1 })) ≡ goes to → IsNext r w to (Next s)
+  set_next s true set e =
+      let same : to ≡ record { now = stirred r w.time s; low = min w.low (stack_pointer s); time = w.time + 1 } = cc in
+      record {
+        next = s;
+        is = refl;
+        set = set;
+        stirs = ap (λ (x : Watched). x.now) same;
+        low = ap (λ (x : Watched). x.low) same;
+        time = ap (λ (x : Watched). x.time) same;
+      }
+  set_next s false set e = cc
 
   result_next : (result : StepResult) → then_goes r w result ≡ goes to → IsNext r w to result
-  result_next (Next s) e = (s, (refl, set_next (is_set r s) s e))
+  result_next (Next s) e = set_next s (is_set r s) refl e
   result_next (Exits status) e = cc
   result_next (Traps cause) e = cc
 
-  kept_next : (keeps : Bool) (result : StepResult) → only keeps (then_goes r w result) ≡ goes to → IsNext r w to result
-  kept_next true result e = result_next result e
-  kept_next false result e = cc
+  kept_next : (i : Instr) (keeps : Bool) → keeps_to r w.now i ≡ keeps → (result : StepResult) → only keeps (then_goes r w result) ≡ goes to → IsActed r w to (Some i) result
+  kept_next i true keeps result e = record { instruction = i; is = refl; keeps = keeps; gives = result_next result e }
+  kept_next i false keeps result e = cc
 
-  decoded_next : (o : Option Instr) → watch_on image r w o ≡ goes to → IsNext r w to (act_on image r.size w.now o)
+  decoded_next : (o : Option Instr) → watch_on image r w o ≡ goes to → IsActed r w to o (act_on image r.size w.now o)
   decoded_next None e = cc
-  decoded_next (Some i) e = kept_next (keeps_to r w.now i) (act image r.size w.now i) e
+  decoded_next (Some i) e = kept_next i (keeps_to r w.now i) refl (act image r.size w.now i) e
 
-  fetched_next : (o : Option ℕ) → watch_on image r w (o >>= decode_of) ≡ goes to → IsNext r w to (step_on image r.size w.now o)
+  fetched_next : (o : Option ℕ) → watch_on image r w (o >>= decode_of) ≡ goes to → IsActed r w to (o >>= decode_of) (step_on image r.size w.now o)
   fetched_next None e = cc
   fetched_next (Some word) e = decoded_next (decode_of word) e
 
 pub watching_steps : WatchingSteps
-watching_steps image r w to e = let n = fetched_next image r w to (fetch image w.now.pc) e in record { next = n.0; steps = n.1.0; stirs = n.1.1 }
+watching_steps image r w to e =
+    let n = fetched_next image r w to (fetch image w.now.pc) e in
+    let gives = n.gives in
+    record {
+      next = gives.next;
+      instruction = n.instruction;
+      is = n.is;
+      keeps = n.keeps;
+      steps = gives.is;
+      set = gives.set;
+      stirs = gives.stirs;
+      low = gives.low;
+      time = gives.time;
+    }
 
 pub watching_leads : WatchingLeads
 watching_leads image r zero w to quiet e = cc

@@ -1,19 +1,21 @@
 -- What the image of a unit of linear code does: all that is promised of it, by its records alone.
-use Rattle.std.specs.Prelude.{◌≡◌, ℕ, ◌%◌, ◌^◌, ◌<◌, ◌≤◌, List, length, map, All, Option, Some}
+use Rattle.std.specs.Prelude.{◌≡◌, ℕ, ◌+◌, ◌%◌, ◌^◌, ◌<◌, ◌≤◌, List, length, map, All, Option, Some}
 use Rattle.qs_memory.specs.Values.{Value, integer}
-use Rattle.qs_memory.specs.Memory.{Memory}
+use Rattle.qs_memory.specs.Memory.{Memory, block_at}
+use Rattle.qs_memory.specs.Soundness.{IsLive}
 use Rattle.qs_events.specs.BoundedRun.{BoundedRun}
 use Rattle.qs_events.specs.Runs.{Left, has_ended, ending_of, bounded}
 use Rattle.qs_events.specs.Weights.{Costs, run_weight}
 use Rattle.qs_calls.specs.World.{World, RootRun, status_of}
+use Rattle.qs_isa.specs.Addresses.{data_start}
 use Rattle.qs_image.specs.Image.{Image}
 use Rattle.qs_machine.specs.State.{stack_top, stack_limit}
-use Rattle.qs_machine.specs.Run.{machine, least_stack_pointer}
+use Rattle.qs_machine.specs.Run.{start_memory, machine, least_stack_pointer}
 use Rattle.qs_tac.specs.Trees.{TacUnitTree}
 use Rattle.qs_tac.specs.Places.{PlacesTree}
-use Rattle.qs_tac.specs.Units.{tac_run}
+use Rattle.qs_tac.specs.Units.{tac_run, world_after}
 use Rattle.qs_emit.specs.Machine.{Watched}
-use Rattle.qs_emit.specs.Lies.{AreBytes}
+use Rattle.qs_emit.specs.Lies.{AreBytes, Lies, AreApart, owner_among}
 use Rattle.qs_emit.specs.Surroundings.{Surroundings, Lay}
 use Rattle.qs_emit_selection.specs.Data.{data_address}
 use Rattle.qs_emit.specs.Relation.{IsEmittable, function_at}
@@ -41,7 +43,27 @@ abbrev pub FunctionsFollow : TacUnitTree → Image → Type 0
 FunctionsFollow u image =
     (t : Surroundings) (root : ℕ) (arguments : List Value) (w : World) (l : Lay) (m : Watched) (n : ℕ)
     → AreSurroundings u image t → IsEntry u t (record_at image root).address root arguments w l m
-    → Follows t n m (tac_run u root arguments w n)
+    → Follows t n m (tac_run u root arguments w n) (world_after u root arguments w n)
+
+-- ---- at the start
+
+-- where the unit's data lie
+abbrev pub data_lay : TacUnitTree → Memory → Lay
+data_lay u first =
+    record { address_of = data_address u.data_blocks; owner = owner_among first (data_address u.data_blocks) 0 }
+
+-- the bytes that the machine starts with, whatever its arguments, its input and the size of its stack: the data hold the
+-- blocks of the memory to start from
+pub record Begins (u : TacUnitTree) (first : Memory) (image : Image) : Type 0 where
+  pub count : length first ≡ length u.data_blocks
+  pub live : (block : ℕ) → block < length first → IsLive first block
+  pub lies : Lies first (data_lay u first).address_of (data_lay u first).owner (start_memory image)
+  pub apart : AreApart first (data_lay u first).address_of
+  pub above : (block : ℕ) → block < length first → data_start ≤ (data_lay u first).address_of block
+  pub below :
+      (block : ℕ) → block < length first
+      → (data_lay u first).address_of block + (block_at first block).size ≤ data_start + length image.bytes
+  pub bytes : AreBytes (start_memory image)
 
 -- ---- from the start
 
@@ -83,6 +105,7 @@ StartFollows u first image =
 pub record Emitted (u : TacUnitTree) (first : Memory) (image : Image) : Type 0 where
   pub count : length image.functions ≡ length u.functions
   pub functions : FunctionsFollow u image
+  pub begins : Begins u first image
   pub start : StartFollows u first image
 
 abbrev pub ImagesFollow : Type 0

@@ -12,7 +12,7 @@ use Rattle.qs_machine.specs.State.{register, stack_pointer}
 use Rattle.qs_isa.specs.Registers.{ra, a0}
 use Rattle.qs_tac.specs.Holders.{is_saved_register}
 use Rattle.qs_tac.specs.Trees.{TacUnitTree}
-use Rattle.qs_tac.specs.Units.{tac_run}
+use Rattle.qs_tac.specs.Units.{tac_run, world_after}
 use Rattle.qs_emit.specs.Machine.{Watched, goes, base, watched}
 use Rattle.qs_emit.specs.Lies.{AreBytes, StandsFor}
 use Rattle.qs_emit.specs.Surroundings.{Surroundings, Lay, ground, HasBlocks}
@@ -56,13 +56,18 @@ pub record HasSeen (t : Surroundings) (m to : Watched) (trace : List Event) : Ty
   pub x2 : stack_pointer to.now ≡ x2_behind t.costs trace (stack_pointer m.now)
   pub low : to.low ≡ min m.low (stack_pointer m.now - weight t.costs trace)
 
--- the machine goes on behind these events, for at least as many steps as the run
-pub record GoesOn (t : Surroundings) (n : ℕ) (m : Watched) (trace : List Event) : Type 0 where
+-- the machine goes on behind these events, for at least as many steps as the run; where the run then has this world, its
+-- live blocks lie in the stack from x2 on and in the data, no byte is of two of them, their bytes hold their cells, a pointer
+-- as the address of its target, and the input that is left is the run's
+pub record GoesOn (t : Surroundings) (n : ℕ) (m : Watched) (trace : List Event) (w : World) : Type 0 where
   pub steps : ℕ
   pub to : Watched
+  pub lay : Lay
   pub enough : n ≤ steps
   pub comes : watched t.image t.room steps m ≡ goes to
   pub seen : HasSeen t m to trace
+  pub blocks : HasBlocks t (ground w.memory lay to.now.memory) (stack_pointer to.now)
+  pub input : to.now.input ≡ w.input
 
 -- where a result is returned a0 has it
 abbrev pub IsResult : Memory → Lay → Option Value → (word : ℕ) → Type 0
@@ -92,19 +97,19 @@ pub record CameFar (t : Surroundings) (m : Watched) (trace : List Event) : Type 
   pub comes : watched t.image t.room steps m ≡ goes to
   pub output : to.now.output ≡ m.now.output ++ output_of trace
 
-abbrev pub ComesTo : Surroundings → (n : ℕ) → Watched → List Event → Ending (Left Value Memory) → Type 0
-ComesTo t n m trace (has_ended left) = HasReturned t m trace left
-ComesTo t n m trace is_undefined = CameFar t m trace
-ComesTo t n m trace is_short = GoesOn t n m trace
+abbrev pub ComesTo : Surroundings → (n : ℕ) → Watched → List Event → Ending (Left Value Memory) → World → Type 0
+ComesTo t n m trace (has_ended left) w = HasReturned t m trace left
+ComesTo t n m trace is_undefined w = CameFar t m trace
+ComesTo t n m trace is_short w = GoesOn t n m trace w
 
--- the run of a root within n steps, where the stack has its weight
-abbrev pub Follows : Surroundings → (n : ℕ) → Watched → RootRun → Type 0
-Follows t n m run =
+-- the run of a root within n steps, where the stack has its weight; this is its world where it goes on
+abbrev pub Follows : Surroundings → (n : ℕ) → Watched → RootRun → World → Type 0
+Follows t n m run w =
     base t.room + weight t.costs (events_of run) ≤ stack_pointer m.now
-    → ComesTo t n m (events_of run) (ending_of run)
+    → ComesTo t n m (events_of run) (ending_of run) w
 
 abbrev pub EmittedCodeFollows : Type 0
 EmittedCodeFollows =
     (s : Setup) (root : ℕ) (arguments : List Value) (w : World) (l : Lay) (m : Watched) (n : ℕ)
     → IsEntry s.unit (around s) (entry s root) root arguments w l m
-    → Follows (around s) n m (tac_run s.unit root arguments w n)
+    → Follows (around s) n m (tac_run s.unit root arguments w n) (world_after s.unit root arguments w n)

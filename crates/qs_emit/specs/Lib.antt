@@ -7,4 +7,5 @@ pub mod Started
 pub mod Images
 pub mod Agree
 pub mod Emitted
+pub mod Emission
 pub mod Laws

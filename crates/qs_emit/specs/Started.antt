@@ -11,7 +11,7 @@ use Rattle.qs_isa.specs.Registers.{a0}
 use Rattle.qs_machine.specs.declared.answers.Cause.{Cause}
 use Rattle.qs_machine.specs.State.{register, stack_pointer}
 use Rattle.qs_tac.specs.Holders.{is_saved_register}
-use Rattle.qs_tac.specs.Units.{tac_run}
+use Rattle.qs_tac.specs.Units.{tac_run, world_after}
 use Rattle.qs_emit.specs.Machine.{Watched, exits, traps, breaks, base, watched}
 use Rattle.qs_emit.specs.Lies.{AreBytes, StandsFor}
 use Rattle.qs_emit.specs.Surroundings.{Lay, ground, HasBlocks}
@@ -21,6 +21,10 @@ use Rattle.qs_emit.specs.Entries.{GoesOn, CameFar}
 -- the run of main, within n steps
 abbrev pub main_run : Setup → List Value → World → (n : ℕ) → RootRun
 main_run s arguments w n = tac_run s.unit s.unit.main arguments w n
+
+-- the world that it has there
+abbrev pub main_world : Setup → List Value → World → (n : ℕ) → World
+main_world s arguments w n = world_after s.unit s.unit.main arguments w n
 
 -- the machine stands at the start of its code, with main's arguments in a0 and the next registers; the memory to start from
 -- is the unit's
@@ -55,10 +59,10 @@ pub record ExitsBehind (s : Setup) (m : Watched) (trace : List Event) (result : 
       ≡ exits (m.now.output ++ output_of trace) status (stack_pointer m.now - weight (cost s) trace)
   pub is : (v : ℕ) → result ≡ Some (integer v) → status ≡ v % 256
 
-abbrev pub StartsTo : Setup → (n : ℕ) → Watched → List Event → Ending (Left Value Memory) → Type 0
-StartsTo s n m trace (has_ended left) = ExitsBehind s m trace left.result
-StartsTo s n m trace is_undefined = CameFar (around s) m trace
-StartsTo s n m trace is_short = GoesOn (around s) n m trace
+abbrev pub StartsTo : Setup → (n : ℕ) → Watched → List Event → Ending (Left Value Memory) → World → Type 0
+StartsTo s n m trace (has_ended left) w = ExitsBehind s m trace left.result
+StartsTo s n m trace is_undefined w = CameFar (around s) m trace
+StartsTo s n m trace is_short w = GoesOn (around s) n m trace w
 
 -- an exit is that of the run
 pub record IsExitOf (s : Setup) (m : Watched) (run : RootRun) (output : List ℕ) (status low : ℕ) : Type 0 where
@@ -72,7 +76,7 @@ pub record IsExitOf (s : Setup) (m : Watched) (run : RootRun) (output : List ℕ
 pub record FollowsFromStart (s : Setup) (arguments : List Value) (w : World) (m : Watched) : Type 0 where
   pub runs :
       (n : ℕ) → HasRoom s arguments w m n
-      → StartsTo s n m (events_of (main_run s arguments w n)) (ending_of (main_run s arguments w n))
+      → StartsTo s n m (events_of (main_run s arguments w n)) (ending_of (main_run s arguments w n)) (main_world s arguments w n)
   pub exits :
       (n : ℕ) (output : List ℕ) (status low : ℕ) → HasRoom s arguments w m n
       → watched s.image s.room n m ≡ exits output status low

@@ -1,8 +1,8 @@
 // The laws of emitted code. Each is the contract of an empty function.
 ghost use Rattle.qs_emit.specs.Emitted.{ImagesFollow};
 ghost use Rattle.qs_emit.specs.Entries.{EmittedCodeFollows};
-ghost use Rattle.qs_emit.specs.Laws.{BlocksApartHaveOwners, CodeIsShort, WatchingLeads};
-ghost use Rattle.qs_emit.specs.Laws.{WatchingRefines, WatchingSteps};
+ghost use Rattle.qs_emit.specs.Laws.{BlocksApartHaveOwners, CodeIsShort, LyingBlocksDontMeet};
+ghost use Rattle.qs_emit.specs.Laws.{WatchingLeads, WatchingRefines, WatchingSteps};
 ghost use Rattle.qs_emit.specs.Started.{EmittedCodeFollowsFromStart};
 
 /// The machine that is watched is the machine, where it doesn't stop and nobody changes anything:
@@ -11,7 +11,8 @@ pub fn watching_refines()
     ensures { WatchingRefines }
 {}
 
-/// A step that is watched is one of the machine, and then others change what isn't kept.
+/// A step that is watched is one of the machine, by an instruction that keeps to the rules, and
+/// leaves x2 a multiple of 16 and no higher than at the entry; then others change what isn't kept.
 pub fn watching_steps()
     ensures { WatchingSteps }
 {}
@@ -40,10 +41,17 @@ pub fn blocks_apart_have_owners()
     ensures { BlocksApartHaveOwners }
 {}
 
+/// Live blocks that lie in the machine's memory are in ranges that don't meet.
+pub fn lying_blocks_dont_meet()
+    ensures { LyingBlocksDontMeet }
+{}
+
 /// An image that has a unit's code, records and data does what the unit does. Every function of it,
 /// from the address in its record, follows its linear code on every stack that has the run's weight
-/// by the costs of the records. From the start the machine and main's run agree both ways, within
-/// the same steps, and the least x2 is the stack's top less the weight.
+/// by the costs of the records; while the run goes on, the blocks that it has lie in the machine's
+/// data and stack. The machine starts with the memory to start from in its data. From the start the
+/// machine and main's run agree both ways, within the same steps, and the least x2 is the stack's
+/// top less the weight.
 pub fn images_follow()
     ensures { ImagesFollow }
 {}

@@ -1,7 +1,8 @@
 -- The labels of a unit count up, and each jump leads to one of them.
-use Rattle.std.proofs.Common.{◌≡◌, ℕ, zero, suc, ◌+◌, ◌<◌, ◌≤◌, Bool, true, false, List, [], ◌∷◌, ◌++◌, length, Some, None, refl, sym, ap, subst, ◌∙◌, arith}
+use Rattle.std.proofs.Common.{◌≡◌, ℕ, zero, suc, ◌+◌, ◌<◌, ◌≤◌, true, List, [], ◌∷◌, ◌++◌, length, Some, None, refl, sym, ap, subst, ◌∙◌, arith, ltb-true}
 use Rattle.std.specs.Prelude.{nat_lt, ◌&&◌, slice_index_or}
 use Rattle.std.specs.List.{list_all, slice_get}
+use Rattle.std.specs.Cmp.{first_so, second_so}
 use Rattle.qs_memory.specs.declared.operation.Signedness.{Signedness}
 use Rattle.qs_memory.specs.declared.operation.Signedness.TheVariants.{Signed, Unsigned}
 use Rattle.qs_memory.specs.declared.operation.Comparison.{Comparison}
@@ -28,17 +29,6 @@ use Rattle.qs_emit_selection.specs.Emission.{Labels, goes_to, environment, leave
 use Rattle.qs_emit_selection.specs.Labels.{label_count, LabelsCountUp, UnitLabelsCountUp}
 
 -- ---- tests
-
-left_true : (a b : Bool) → (a && b) ≡ true → a ≡ true
-left_true true b h = refl
-left_true false b h = absurd (cc)
-
-right_true : (a b : Bool) → (a && b) ≡ true → b ≡ true
-right_true true b h = h
-right_true false b h = absurd (cc)
-
-below : (n m : ℕ) → nat_lt n m ≡ true → n < m
-below n m h = grind (arith, h)
 
 -- ---- lists of items
 
@@ -133,7 +123,7 @@ module _ (u : TacUnitTree) (ps : List PlacesTree) (data_at : ℕ → ℕ) where
       (is : (k : ℕ) → labels.instruction k ≡ own + k) (room : own + length c.function.code < all) where
     target_below : (to : ℕ) → nat_lt to (length c.function.code) ≡ true → labels.instruction to < all
     target_below to h =
-        let less = below to (length c.function.code) h in
+        let less = ltb-true to (length c.function.code) h in
         let there = is to in
         omega (arith, less, there, room)
 
@@ -148,14 +138,14 @@ module _ (u : TacUnitTree) (ps : List PlacesTree) (data_at : ℕ → ℕ) where
     inside first (copy size alignment p q) h = inside_plain first all _
     inside first (fill blank p) h = inside_plain first all _
     inside first (call x f arguments) h =
-        let k = left_true _ (callee_fits u f arguments) (left_true (taken_fits c.function x && callee_fits u f arguments) (list_all (operand_fits u c.function) arguments) h) in
-        let fits = right_true (taken_fits c.function x) (callee_fits u f arguments) (left_true (taken_fits c.function x && callee_fits u f arguments) (list_all (operand_fits u c.function) arguments) h) in
+        let k = first_so _ (callee_fits u f arguments) (first_so (taken_fits c.function x && callee_fits u f arguments) (list_all (operand_fits u c.function) arguments) h) in
+        let fits = second_so (taken_fits c.function x) (callee_fits u f arguments) (first_so (taken_fits c.function x && callee_fits u f arguments) (list_all (operand_fits u c.function) arguments) h) in
         inside_joined first all _ _ (inside_plain first all _)
         (inside_joined first all _ _ (inside_callee labels first f arguments same fits) (inside_plain first all _))
     inside first (jump to) h = record { up = refl; lead = (target_below to h, tt) }
     inside first (branch condition to) h =
         inside_branch c first all condition (labels.instruction to)
-        (target_below to (right_true (condition_fits u c.function condition) (nat_lt to (length c.function.code)) h))
+        (target_below to (second_so (condition_fits u c.function condition) (nat_lt to (length c.function.code)) h))
     inside first (return None) h = inside_plain first all (leave c)
     inside first (return (Some o)) h = inside_plain first all _
 
@@ -167,10 +157,10 @@ module _ (u : TacUnitTree) (ps : List PlacesTree) (data_at : ℕ → ℕ) where
         let end : own + (k + 1) + length code + 1 ≡ own + k + suc (length code) + 1 = omega arith in (
           is k,
           up_joined (own + k + 1) (own + k + 1) (own + k + suc (length code) + 1) (instruction_items c labels i) (body_items c labels (k + 1) code)
-              ((inside (own + k + 1) i (left_true (instruction_fits u c.function i) (list_all (instruction_fits u c.function) code) h)).up)
+              ((inside (own + k + 1) i (first_so (instruction_fits u c.function i) (list_all (instruction_fits u c.function) code) h)).up)
               (subst (λ n. CountUp n (body_items c labels (k + 1) code) (own + k + suc (length code) + 1)) (sym next)
               (subst (λ n. CountUp (own + (k + 1)) (body_items c labels (k + 1) code) n) end
-              (body_up (k + 1) code (right_true (instruction_fits u c.function i) (list_all (instruction_fits u c.function) code) h)))),
+              (body_up (k + 1) code (second_so (instruction_fits u c.function i) (list_all (instruction_fits u c.function) code) h)))),
         )
 
     body_lead : (k : ℕ) (code : List InstructionTree) → list_all (instruction_fits u c.function) code ≡ true
@@ -178,13 +168,13 @@ module _ (u : TacUnitTree) (ps : List PlacesTree) (data_at : ℕ → ℕ) where
     body_lead k [] h = tt
     body_lead k (i ∷ code) h =
         lead_joined all (instruction_items c labels i) (body_items c labels (k + 1) code)
-        ((inside 0 i (left_true (instruction_fits u c.function i) (list_all (instruction_fits u c.function) code) h)).lead)
-        (body_lead (k + 1) code (right_true (instruction_fits u c.function i) (list_all (instruction_fits u c.function) code) h))
+        ((inside 0 i (first_so (instruction_fits u c.function i) (list_all (instruction_fits u c.function) code) h)).lead)
+        (body_lead (k + 1) code (second_so (instruction_fits u c.function i) (list_all (instruction_fits u c.function) code) h))
 
   -- ---- functions
 
   code_fits : (g : TacFunctionTree) → function_fits u g ≡ true → list_all (instruction_fits u g) g.code ≡ true
-  code_fits g h = right_true (list_all (parameter_fits g) g.parameters && list_all is_word g.blocks) (list_all (instruction_fits u g) g.code) h
+  code_fits g h = second_so (list_all (parameter_fits g) g.parameters && list_all is_word g.blocks) (list_all (instruction_fits u g) g.code) h
 
   function_up : (c : Context) (f : ℕ) → function_fits u c.function ≡ true → first_label u.functions f + length c.function.code + 2 ≤ all
       → CountUp (first_label u.functions f) (function_items c (labels_of u f) f) (first_label u.functions f + (length c.function.code + 2))
@@ -231,8 +221,8 @@ module _ (u : TacUnitTree) (ps : List PlacesTree) (data_at : ℕ → ℕ) where
       let total : first_label (g ∷ gs) (length (g ∷ gs)) ≡ length g.code + 2 + first_label gs (length gs) = refl in
       up_joined (first_label u.functions f) (first_label u.functions (f + 1)) all (function_items (context f g) (labels_of u f) f) (functions_items u ps data_at (f + 1) gs)
       (subst (λ n. CountUp (first_label u.functions f) (function_items (context f g) (labels_of u f) f) n) (sym next)
-      (function_up (context f g) f (left_true (function_fits u g) (list_all (function_fits u) gs) h) (omega (arith, end, total))))
-      (functions_up (f + 1) gs (goes_on f g gs on) (right_true (function_fits u g) (list_all (function_fits u) gs) h) (omega (arith, end, total, next)))
+      (function_up (context f g) f (first_so (function_fits u g) (list_all (function_fits u) gs) h) (omega (arith, end, total))))
+      (functions_up (f + 1) gs (goes_on f g gs on) (second_so (function_fits u g) (list_all (function_fits u) gs) h) (omega (arith, end, total, next)))
 
   functions_lead : (f : ℕ) (gs : List TacFunctionTree) → GoesOn u f gs → list_all (function_fits u) gs ≡ true
       → first_label u.functions f + first_label gs (length gs) ≡ all
@@ -242,8 +232,8 @@ module _ (u : TacUnitTree) (ps : List PlacesTree) (data_at : ℕ → ℕ) where
       let next = next_label f g gs on in
       let total : first_label (g ∷ gs) (length (g ∷ gs)) ≡ length g.code + 2 + first_label gs (length gs) = refl in
       lead_joined all (function_items (context f g) (labels_of u f) f) (functions_items u ps data_at (f + 1) gs)
-      (function_lead (context f g) f (left_true (function_fits u g) (list_all (function_fits u) gs) h) (omega (arith, end, total)))
-      (functions_lead (f + 1) gs (goes_on f g gs on) (right_true (function_fits u g) (list_all (function_fits u) gs) h) (omega (arith, end, total, next)))
+      (function_lead (context f g) f (first_so (function_fits u g) (list_all (function_fits u) gs) h) (omega (arith, end, total)))
+      (functions_lead (f + 1) gs (goes_on f g gs on) (second_so (function_fits u g) (list_all (function_fits u) gs) h) (omega (arith, end, total, next)))
 
   goes_on_from_0 : (i : ℕ) → first_label u.functions (0 + i) ≡ first_label u.functions 0 + first_label u.functions i
   goes_on_from_0 i =
@@ -253,9 +243,9 @@ module _ (u : TacUnitTree) (ps : List PlacesTree) (data_at : ℕ → ℕ) where
 
   labels_count_up : unit_fits u ≡ true → LabelsCountUp u ps data_at
   labels_count_up h =
-      let both = left_true (list_all (function_fits u) u.functions && nat_lt u.main (length u.functions)) (list_all data_fits u.data_blocks) h in
-      let fit = left_true (list_all (function_fits u) u.functions) (nat_lt u.main (length u.functions)) both in
-      let main = below u.main (length u.functions) (right_true (list_all (function_fits u) u.functions) (nat_lt u.main (length u.functions)) both) in
+      let both = first_so (list_all (function_fits u) u.functions && nat_lt u.main (length u.functions)) (list_all data_fits u.data_blocks) h in
+      let fit = first_so (list_all (function_fits u) u.functions) (nat_lt u.main (length u.functions)) both in
+      let main = ltb-true u.main (length u.functions) (second_so (list_all (function_fits u) u.functions) (nat_lt u.main (length u.functions)) both) in
       let less = first_below u.functions u.main main in
       let zero_is = first_at_0 u.functions in
       let on : GoesOn u 0 u.functions = λ i. goes_on_from_0 i in

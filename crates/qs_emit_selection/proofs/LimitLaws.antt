@@ -1,9 +1,10 @@
 -- What holds of a function that has no fault.
 use Rattle.std.proofs.Common.{◌≡◌, ◌^◌, ◌≤◌, Bool, true, false, length, Option, Some, None, refl, arith}
-use Rattle.std.specs.Prelude.{◌&&◌, nat_le, if◌then◌else◌}
+use Rattle.std.specs.Prelude.{nat_le, if◌then◌else◌}
 use Rattle.std.specs.List.{list_all}
 use Rattle.std.proofs.lemmas.Bool.Decides.{nat_tests}
 use Rattle.std.specs.Option.{option_or}
+use Rattle.std.proofs.lemmas.Bool.{and_parts}
 use Rattle.qs_tac.specs.Trees.{TacFunctionTree}
 use Rattle.qs_tac.specs.Places.{PlacesTree}
 use Rattle.qs_frames.specs.Layout.{layout}
@@ -16,11 +17,6 @@ pub record IsFree (f : TacFunctionTree) (p : PlacesTree) : Type 0 where
   pub code : list_all passes_few f.code ≡ true
   pub places : places_fit p ≡ true
   pub cost : (layout f p).cost ≤ 2 ^ 28
-
-pub and_true : (a b : Bool) → a && b ≡ true → (a ≡ true) × (b ≡ true)
-and_true true true h = (refl, refl)
-and_true true false h = cc
-and_true false b h = cc
 
 record AreThree (a b c : Bool) : Type 0 where
   first : a ≡ true
@@ -39,7 +35,7 @@ three false b c h = cc
 pub is_free : (f : TacFunctionTree) (p : PlacesTree) → function_fault f p ≡ None → IsFree f p
 is_free f p h =
     let t = three (has_few f) (places_fit p) (frame_fits f p) h in
-    let few = and_true (nat_le (length f.parameters) 8) (list_all passes_few f.code) t.first in
+    let few = and_parts (nat_le (length f.parameters) 8) (list_all passes_few f.code) t.first in
     record {
       parameters = grind (arith, nat_tests, few.0);
       code = few.1;

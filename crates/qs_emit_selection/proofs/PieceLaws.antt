@@ -1,5 +1,5 @@
 -- The steps of loops that pieces are made by.
-use Rattle.std.proofs.Common.{◌≡◌, ℕ, suc, ◌≢◌, ◌+◌, ◌-◌, ◌*◌, ◌%◌, ◌^◌, ◌<◌, Bool, true, false, List, [], ◌∷◌, ◌++◌, Option, Some, refl, ap, sym, ◌∙◌, append_assoc, arith}
+use Rattle.std.proofs.Common.{◌≡◌, ℕ, suc, ◌≢◌, ◌+◌, ◌-◌, ◌*◌, ◌%◌, ◌^◌, ◌<◌, Bool, false, List, [], ◌∷◌, ◌++◌, Option, Some, refl, ap, sym, ◌∙◌, append_assoc, arith, eq-eqb}
 use Rattle.std.specs.Prelude.{◌==◌, if◌then◌else◌}
 use Rattle.std.proofs.Math.Pow.{pow-lt}
 use Rattle.std.proofs.lemmas.Bool.Decides.{nat_tests}
@@ -29,9 +29,6 @@ next_shift exponent number h =
 shifted : (exponent : ℕ) → exponent < 32 → 1 * 2 ^ exponent % 2 ^ 32 ≡ 2 ^ exponent
 shifted exponent h = let l : 2 ^ exponent < 2 ^ 32 = pow-lt h in omega (arith, l)
 
-same : (a b : ℕ) → a ≡ b → (a == b) ≡ true
-same a b h = grind (arith, nat_tests, h)
-
 other : (a b : ℕ) → a ≢ b → (a == b) ≡ false
 other a b h = grind (arith, nat_tests, h)
 
@@ -40,7 +37,7 @@ pub shift_found :
     → shift_among (32 - exponent) exponent number ≡ whole → Some exponent ≡ whole
 shift_found exponent number whole h e all =
     ap (λ (b : Bool). if b then Some exponent else shift_among (32 - (exponent + 1)) (exponent + 1) number)
-    (sym (same (2 ^ exponent) number (sym (shifted exponent h) ∙ e)))
+    (sym (eq-eqb (2 ^ exponent) number (sym (shifted exponent h) ∙ e)))
     ∙ (sym (next_shift exponent number h) ∙ all)
 
 pub shift_goes_on :

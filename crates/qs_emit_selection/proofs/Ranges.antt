@@ -2,7 +2,7 @@
 use Rattle.std.proofs.Common.{◌≡◌, ◌⊎◌, inl, inr, ⊎_elim, ℕ, zero, suc, ◌+◌, ◌-◌, ◌*◌, ◌/◌, ◌%◌, ◌^◌, ◌==◌, ◌<◌, ◌≤◌, Bool, true, false, List, [], ◌∷◌, ◌++◌, length, Option, Some, None, refl, subst, arith}
 use Rattle.std.specs.Prelude.{nat_lt, nat_le, ◌&&◌, ◌||◌, if◌then◌else◌, unwrap_or}
 use Rattle.std.specs.List.{list_all}
-use Rattle.std.proofs.lemmas.Bool.{cases_lt}
+use Rattle.std.proofs.lemmas.Bool.{cases_lt, and_parts}
 use Rattle.std.proofs.lemmas.Bool.Decides.{nat_tests}
 use Rattle.qs_base.specs.Words.{sign_extend}
 use Rattle.qs_memory.specs.Partial.{◌>>=◌, only_if}
@@ -201,16 +201,11 @@ restore_instrs (r ∷ registers) i h n =
 
 -- ---- tests
 
-and_true : (a b : Bool) → a && b ≡ true → (a ≡ true) × (b ≡ true)
-and_true true true h = (refl, refl)
-and_true true false h = cc
-and_true false b h = cc
-
 word_small : (n : ℕ) → nat_lt n (2 ^ 32) ≡ true → n < 2 ^ 32
 word_small n h = grind (arith, nat_tests, h)
 
 element_small : (n : ℕ) → is_element n ≡ true → n < 2 ^ 32
-element_small n h = let t = and_true (nat_le 1 n) (nat_le n 16777216) h in let l : n ≤ 16777216 = grind (arith, nat_tests, t.1) in omega (arith, l)
+element_small n h = let t = and_parts (nat_le 1 n) (nat_le n 16777216) h in let l : n ≤ 16777216 = grind (arith, nat_tests, t.1) in omega (arith, l)
 
 negated_small : (n : ℕ) → negated n < 2 ^ 32
 negated_small n = omega arith
@@ -354,8 +349,8 @@ module _ (u : TacUnitTree) (c : Context) (ok : IsContext c) where
   index_anchor : (a : Anchor) (index : Option Index) → IsAnchor a → index_fits u c.function index ≡ true → IsAnchor (add_index c a index)
   index_anchor a None h k = h
   index_anchor a (Some index) h k =
-      let t = and_true (operand_fits u c.function index.count && is_element index.element) _ k in
-      let v = and_true (operand_fits u c.function index.count) (is_element index.element) t.0 in
+      let t = and_parts (operand_fits u c.function index.count && is_element index.element) _ k in
+      let v = and_parts (operand_fits u c.function index.count) (is_element index.element) t.0 in
       either_anchor (is_constant index.count) _ _ (λ e. h) (λ e. record {
         code_is = then_instrs a.code _ h.code_is (then_instrs (operand_code c 11 index.count) _ (operand_instrs 11 index.count (omega arith) v.0) (elements_instrs a.register (operand_register c 11 index.count) index.element h.register_is (register_small 11 index.count (omega arith)) (element_small index.element v.1)));
         register_is = omega arith;
@@ -364,8 +359,8 @@ module _ (u : TacUnitTree) (c : Context) (ok : IsContext c) where
 
   anchor_is : (p : Address) → address_fits u c.function p ≡ true → IsAnchor (anchor_of c p)
   anchor_is p h =
-      let t = and_true (operand_fits u c.function p.base && index_fits u c.function p.index) _ h in
-      let v = and_true (operand_fits u c.function p.base) (index_fits u c.function p.index) t.0 in
+      let t = and_parts (operand_fits u c.function p.base && index_fits u c.function p.index) _ h in
+      let v = and_parts (operand_fits u c.function p.base) (index_fits u c.function p.index) t.0 in
       index_anchor (based c (displacement p) p.base) p.index (based_anchor (displacement p) p.base (omega arith) v.0) v.1
 
   address_into_instrs : (rd : ℕ) (p : Address) → rd < 32 → address_fits u c.function p ≡ true → AreInstrs (address_into c rd p)
@@ -515,7 +510,7 @@ module _ (u : TacUnitTree) (c : Context) (ok : IsContext c) where
   pass_instrs : (register : ℕ) (os : List Operand) → register + length os ≤ 31 → list_all (operand_fits u c.function) os ≡ true → AreInstrs (pass c register os)
   pass_instrs register [] h k = tt
   pass_instrs register (o ∷ os) h k =
-      let t = and_true (operand_fits u c.function o) (list_all (operand_fits u c.function) os) k in
+      let t = and_parts (operand_fits u c.function o) (list_all (operand_fits u c.function) os) k in
       then_instrs (into c register o) _ (into_instrs register o (omega (arith, h)) t.0) (pass_instrs (register + 1) os (omega (arith, h)) t.1)
 
   taken_instrs : (x : Option ℕ) → AreInstrs (take_result c x)
@@ -559,7 +554,7 @@ module _ (u : TacUnitTree) (c : Context) (labels : Labels) (ok : IsContext c) wh
 
   compared_items : (op : Comparison) (s : Signedness) (x y : Operand) (l : ℕ) → operand_fits u c.function x && operand_fits u c.function y ≡ true → AreItems (compare_items c op s x y l)
   compared_items op s x y l h =
-      let t = and_true (operand_fits u c.function x) (operand_fits u c.function y) h in
+      let t = and_parts (operand_fits u c.function x) (operand_fits u c.function y) h in
       then_items (plain (both c x y)) _ (plain_items _ (both_instrs u c ok x y t.0 t.1)) (branch_item op s (operand_register c 10 x) (operand_register c 11 y) l (register_small u c ok 10 x (omega arith)) (register_small u c ok 11 y (omega arith)), tt)
 
   condition_items : (b : Condition) (l : ℕ) → condition_fits u c.function b ≡ true → AreItems (branch_items c b l)
@@ -570,44 +565,44 @@ module _ (u : TacUnitTree) (c : Context) (labels : Labels) (ok : IsContext c) wh
 
   instruction_are : (i : InstructionTree) → instruction_fits u c.function i ≡ true → HasFewArguments i → AreItems (instruction_items c labels i)
   instruction_are (move x o) h few =
-      let t = and_true _ (operand_fits u c.function o) h in
+      let t = and_parts _ (operand_fits u c.function o) h in
       plain_items _ (move_instrs u c ok o (place_of c.places x) t.1 (ok.places x))
   instruction_are (unary op x o) h few =
-      let t = and_true _ (operand_fits u c.function o) h in
+      let t = and_parts _ (operand_fits u c.function o) h in
       gives_items x _ (λ rd r. then_instrs (operand_code c 10 o) (unary_instruction op rd (operand_register c 10 o) ∷ []) (operand_instrs u c ok 10 o (omega arith) t.1) (unary_instr u c ok op rd _ r (register_small u c ok 10 o (omega arith)), tt))
   instruction_are (binary op x o p) h few =
-      let t = and_true _ (operation_fits op) h in
-      let v = and_true _ (operand_fits u c.function p) t.0 in
-      let w = and_true _ (operand_fits u c.function o) v.0 in
+      let t = and_parts _ (operation_fits op) h in
+      let v = and_parts _ (operand_fits u c.function p) t.0 in
+      let w = and_parts _ (operand_fits u c.function o) v.0 in
       gives_items x _ (λ rd r. binary_instrs u c ok op rd o p r w.1 v.1 t.1)
   instruction_are (convert s x o) h few =
-      let t = and_true _ (operand_fits u c.function o) h in
+      let t = and_parts _ (operand_fits u c.function o) h in
       gives_items x _ (λ rd r. then_instrs (operand_code c 10 o) (conversion s rd (operand_register c 10 o) ∷ []) (operand_instrs u c ok 10 o (omega arith) t.1) (conversion_instr u c ok s rd _ r (register_small u c ok 10 o (omega arith)), tt))
   instruction_are (address_of x p) h few =
-      let t = and_true _ (address_fits u c.function p) h in
+      let t = and_parts _ (address_fits u c.function p) h in
       gives_items x _ (λ rd r. address_into_instrs u c ok rd p r t.1)
   instruction_are (load s x p) h few =
-      let t = and_true _ (address_fits u c.function p) h in
+      let t = and_parts _ (address_fits u c.function p) h in
       let a = anchor_is u c ok p t.1 in
       gives_items x _ (λ rd r. then_instrs (anchor_of c p).code (pieces.load (pieces.load_kind s) rd (anchor_of c p).register (anchor_of c p).immediate ∷ []) a.code_is ((r, a.register_is, a.immediate_is), tt))
   instruction_are (store s p o) h few =
-      let t = and_true (address_fits u c.function p) (operand_fits u c.function o) h in
+      let t = and_parts (address_fits u c.function p) (operand_fits u c.function o) h in
       let a = anchor_is u c ok p t.0 in
       plain_items _ (then_instrs (anchor_of c p).code _ a.code_is (then_instrs (operand_code c 14 o) _ (operand_instrs u c ok 14 o (omega arith) t.1) ((a.register_is, register_small u c ok 14 o (omega arith), a.immediate_is), tt)))
   instruction_are (copy size alignment p q) h few =
-      let t = and_true _ (address_fits u c.function q) h in
-      let v = and_true _ (address_fits u c.function p) t.0 in
-      let w = and_true (nat_lt size (2 ^ 32)) (nat_le 1 alignment) v.0 in
+      let t = and_parts _ (address_fits u c.function q) h in
+      let v = and_parts _ (address_fits u c.function p) t.0 in
+      let w = and_parts (nat_lt size (2 ^ 32)) (nat_le 1 alignment) v.0 in
       plain_items _ (then_instrs (address_into c 15 p) _ (address_into_instrs u c ok 15 p (omega arith) v.1) (then_instrs (address_into c 16 q) _ (address_into_instrs u c ok 16 q (omega arith) t.1) (copy_instrs size alignment (word_small size w.0))))
   instruction_are (fill blank p) h few =
-      let t = and_true (nat_lt (blank_size blank) (2 ^ 32)) (address_fits u c.function p) h in
+      let t = and_parts (nat_lt (blank_size blank) (2 ^ 32)) (address_fits u c.function p) h in
       plain_items _ (then_instrs (address_into c 15 p) _ (address_into_instrs u c ok 15 p (omega arith) t.1) (fill_instrs (is_word_address p) (blank_size blank) (word_small (blank_size blank) t.0)))
   instruction_are (call x f arguments) h few =
-      let t = and_true _ (list_all (operand_fits u c.function) arguments) h in
+      let t = and_parts _ (list_all (operand_fits u c.function) arguments) h in
       let n = few x f arguments refl in
       then_items (plain (pass c 10 arguments)) _ (plain_items _ (pass_instrs u c ok 10 arguments (omega (arith, n)) t.1)) (then_items (goes_to labels f) _ (goes_items f) (plain_items _ (taken_instrs u c ok x)))
   instruction_are (jump to) h few = (omega arith, tt)
-  instruction_are (branch b to) h few = let t = and_true (condition_fits u c.function b) _ h in condition_items b _ t.0
+  instruction_are (branch b to) h few = let t = and_parts (condition_fits u c.function b) _ h in condition_items b _ t.0
   instruction_are (return None) h few = plain_items (leave c) (leave_instrs u c ok)
   instruction_are (return (Some o)) h few = plain_items _ (then_instrs (into c 10 o) (leave c) (into_instrs u c ok 10 o (omega arith) h) (leave_instrs u c ok))
 

@@ -16,6 +16,7 @@ use Rattle.qs_tac.specs.declared.operands.Operand.{Operand}
 use Rattle.qs_frames.specs.Layout.{largest_frame}
 use Rattle.qs_calls.specs.declared.callee.Callee.{Callee}
 use Rattle.qs_emit_selection.specs.Operands.{Context, frame_of}
+use Rattle.qs_emit_selection.specs.Limits.{most_arguments}
 use Rattle.qs_emit_selection.specs.Emission.{Labels, instruction_items, enter, function_items, unit_items}
 
 -- ---- words
@@ -42,10 +43,10 @@ pub record IsContext (c : Context) : Type 0 where
   pub cost : (frame_of c).cost ≤ largest_frame
 
 abbrev pub HasFewArguments : InstructionTree → Type 0
-HasFewArguments i = (x : Option ℕ) (f : Callee) (arguments : List Operand) → i ≡ call x f arguments → length arguments ≤ 8
+HasFewArguments i = (x : Option ℕ) (f : Callee) (arguments : List Operand) → i ≡ call x f arguments → length arguments ≤ most_arguments
 
 pub record AreSelectedWords (u : TacUnitTree) (c : Context) (labels : Labels) : Type 0 where
-  pub enter : length c.function.parameters ≤ 8 → AreItems (plain (enter c))
+  pub enter : length c.function.parameters ≤ most_arguments → AreItems (plain (enter c))
   pub instruction :
       (i : InstructionTree) → instruction_fits u c.function i ≡ true → HasFewArguments i
       → AreItems (instruction_items c labels i)

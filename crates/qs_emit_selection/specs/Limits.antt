@@ -2,6 +2,7 @@
 use Rattle.std.specs.Prelude.{◌≡◌, ℕ, ◌+◌, ◌&&◌, nat_lt, nat_le, Bool, true, if◌then◌else◌, List, [], ◌∷◌, length, Option, Some, None, slice_index_or}
 use Rattle.std.specs.List.{list_all}
 use Rattle.std.specs.Option.{option_or}
+use Rattle.qs_base.specs.Parameters.{most_parameters}
 use Rattle.qs_tac.specs.Trees.{InstructionTree, move, unary, binary, convert, address_of, load, store}
 use Rattle.qs_tac.specs.Trees.{copy, fill, call, jump, branch, return, TacFunctionTree, TacUnitTree}
 use Rattle.qs_tac.specs.Places.{PlacesTree, no_places}
@@ -12,10 +13,10 @@ use Rattle.qs_emit_selection.specs.Data.{data_sizes}
 use Rattle.qs_emit_selection.specs.declared.fault.SelectionFault.{SelectionFault}
 use Rattle.qs_emit_selection.specs.declared.fault.SelectionFault.TheVariants as faults
 
--- ---- parameters and arguments: registers pass so many, `most_parameters` of qs_image, on which nothing here stands
+-- ---- parameters and arguments: registers pass them all
 
 abbrev pub most_arguments : ℕ
-most_arguments = 8
+most_arguments = most_parameters
 
 abbrev pub passes_few : InstructionTree → Bool
 passes_few (move x o) = true

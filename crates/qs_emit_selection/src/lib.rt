@@ -1,4 +1,5 @@
-//! Instruction selection: what each instruction of linear code becomes in machine code.
+//! Instruction selection: what each instruction of linear code becomes in machine code, and in how
+//! many words.
 #![tactic(auto)]
 
 mod addresses;
@@ -25,4 +26,4 @@ pub use laws::{
     functions_keep_words, unit_labels_count_up, units_keep_words, what_is_selected_are_words,
     words_are_kept,
 };
-pub use selection::{data_sizes, first_labels, select};
+pub use selection::{check_fits, data_sizes, first_labels, select};

@@ -9,11 +9,12 @@ ghost use Rattle.qs_emit_selection.specs.Limits as spec;
 ghost use Rattle.qs_emit_selection.specs.Limits.{functions_fault};
 
 use crate::fault::SelectionFault;
+use qs_base::MOST_PARAMETERS;
 use qs_frames::{total_within, try_layout};
 use qs_tac::{Instruction, Place, Places, TacFunction, TacUnit};
 
-// As many as registers pass: `MOST_PARAMETERS` of qs_image, on which nothing here stands.
-const MOST_ARGUMENTS: usize = 8;
+// As many as registers pass.
+const MOST_ARGUMENTS: usize = MOST_PARAMETERS as usize;
 
 // As many as an image holds: `MOST_DATA_BYTES` of qs_image, on which nothing here stands.
 const LARGEST_DATA: u32 = 16_777_216;

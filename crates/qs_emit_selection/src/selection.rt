@@ -159,9 +159,22 @@ fn selected(
 }
 
 /// The machine code of a unit whose temporaries stand in these places, as items: a function's
-/// places stand by its number. Where there is a fault, it is `NoMemory` or the unit's first.
-pub fn select(alloc: Global, unit: &TacUnit, places: &[Places]) -> Result<Vec<Item>, SelectionFault>
-    ensures items { IfOk result (units.IsSelection (unit_tree unit.now) (places_trees places.now)) }
+/// places stand by its number. `check_fits` tells whether there is any.
+pub fn select(alloc: Global, unit: &TacUnit, places: &[Places]) -> Result<Vec<Item>, NoMemory>
+    requires { limits.UnitFits (unit_tree unit.now) (places_trees places.now) }
+    ensures { IfOk result (units.IsSelection (unit_tree unit.now) (places_trees places.now)) }
+{
+    let none = Places {
+        at: Vec::new(alloc),
+    };
+    let sizes = data_sizes(alloc, &unit.data_blocks)?;
+    let items = selected(alloc, unit, &sizes, places, &none)?;
+    Ok(items)
+}
+
+/// Whether machine code is selected for a unit whose temporaries stand in these places. Where it
+/// isn't, the fault is `NoMemory` or the unit's first.
+pub fn check_fits(alloc: Global, unit: &TacUnit, places: &[Places]) -> Result<(), SelectionFault>
     ensures fits { OnOk result (limits.UnitFits (unit_tree unit.now) (places_trees places.now)) }
     ensures fault { IfErr result (units.IsFault (unit_tree unit.now) (places_trees places.now)) }
 {
@@ -171,6 +184,6 @@ pub fn select(alloc: Global, unit: &TacUnit, places: &[Places]) -> Result<Vec<It
     let sizes = data_sizes(alloc, &unit.data_blocks)?;
     match first_fault(unit, &sizes, places, &none) {
         Some(fault) => Err(fault),
-        None => Ok(selected(alloc, unit, &sizes, places, &none)?),
+        None => Ok(()),
     }
 }

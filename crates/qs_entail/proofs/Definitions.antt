@@ -1,5 +1,5 @@
 -- Where definitions are in order, each name has the value of the body of its first definition.
-use Rattle.std.proofs.Common.{◌≡◌, ℕ, List, [], ◌∷◌, ◌++◌, length, refl, sym, ap, ◌∙◌, subst, true, false}
+use Rattle.std.proofs.Common.{◌≡◌, ℕ, List, [], ◌∷◌, ◌++◌, length, refl, sym, ap, ◌∙◌, subst, true, false, ap₂}
 use Rattle.std.specs.Prelude.{pos, ◌+ℤ◌, ◌-ℤ◌, ◌*ℤ◌, Bool, ◌&&◌, ◌||◌, if◌then◌else◌, int_le, int_lt, Option, Some, None, Ok}
 use Rattle.std.specs.Prelude.{not as flip}
 use Rattle.std.specs.Ordering.{int_eq}
@@ -13,7 +13,6 @@ use Rattle.qs_assert.specs.Values.{State, wrapped_unsigned, wrapped_signed, bit_
 use Rattle.qs_entail.specs.Faults.{definition}
 use Rattle.qs_entail.specs.Meaning.{defined_by, InRange}
 use Rattle.qs_entail.proofs.PushingLaws.{made}
-use Rattle.qs_entail.proofs.ReplacementLaws.{pair}
 
 abbrev Names : Type 0
 Names = List ℕ → Option Extended
@@ -28,7 +27,7 @@ mutual
   term_apart (number k) s e f = refl
   term_apart (variable x) s e f = refl
   term_apart (add ts) s e f = (terms_apart ts s e f).0
-  term_apart (sub t u) s e f = pair (λ x y. x -ℤ y) (term_apart t s e f) (term_apart u s e f)
+  term_apart (sub t u) s e f = ap₂ (λ x y. x -ℤ y) (term_apart t s e f) (term_apart u s e f)
   term_apart (mul ts) s e f = (terms_apart ts s e f).1
   term_apart (div t k) s e f = ap (λ z. quotient z k) (term_apart t s e f)
   term_apart (wrapu t) s e f = ap wrapped_unsigned (term_apart t s e f)
@@ -40,14 +39,14 @@ mutual
   terms_apart (term_and t ts) s e f =
       let a = term_apart t s e f in
       let b = terms_apart ts s e f in
-      (pair (λ x y. x +ℤ y) a b.0, pair (λ x y. x *ℤ y) a b.1)
+      (ap₂ (λ x y. x +ℤ y) a b.0, ap₂ (λ x y. x *ℤ y) a b.1)
 
 mutual
   condition_apart : (c : CondTree) (s : State) (e f : Names) → holds c (with_names s e) ≡ holds c (with_names s f)
-  condition_apart (le t u) s e f = pair int_le (term_apart t s e f) (term_apart u s e f)
-  condition_apart (lt t u) s e f = pair int_lt (term_apart t s e f) (term_apart u s e f)
-  condition_apart (eq t u) s e f = pair int_eq (term_apart t s e f) (term_apart u s e f)
-  condition_apart (ne t u) s e f = ap flip (pair int_eq (term_apart t s e f) (term_apart u s e f))
+  condition_apart (le t u) s e f = ap₂ int_le (term_apart t s e f) (term_apart u s e f)
+  condition_apart (lt t u) s e f = ap₂ int_lt (term_apart t s e f) (term_apart u s e f)
+  condition_apart (eq t u) s e f = ap₂ int_eq (term_apart t s e f) (term_apart u s e f)
+  condition_apart (ne t u) s e f = ap flip (ap₂ int_eq (term_apart t s e f) (term_apart u s e f))
   condition_apart (not c) s e f = ap flip (condition_apart c s e f)
   condition_apart (and cs) s e f = (conditions_apart cs s e f).0
   condition_apart (or cs) s e f = (conditions_apart cs s e f).1
@@ -57,7 +56,7 @@ mutual
   conditions_apart (cond_and c cs) s e f =
       let a = condition_apart c s e f in
       let b = conditions_apart cs s e f in
-      (pair (λ x y. x && y) a b.0, pair (λ x y. x || y) a b.1)
+      (ap₂ (λ x y. x && y) a b.0, ap₂ (λ x y. x || y) a b.1)
 
 -- ---- an assertion reads only the names in it
 
@@ -73,10 +72,10 @@ mutual
   value_agrees (total parts) known s e f k g = (values_agree parts known s e f k g).0
   value_agrees (greatest parts) known s e f k g = (values_agree parts known s e f k g).1
   value_agrees (product parts) known s e f k g = (values_agree parts known s e f k g).2
-  value_agrees (guard c a) known s e f k g = pair (λ x y. if x then y else infinite) (condition_apart c s e f) (value_agrees a known s e f k g)
+  value_agrees (guard c a) known s e f k g = ap₂ (λ x y. if x then y else infinite) (condition_apart c s e f) (value_agrees a known s e f k g)
   value_agrees (choose c a b) known s e f k g =
       let k' = and_parts (names_known a known) (names_known b known) k in
-      pair (λ x y. if x then y else value b (with_names s e)) (condition_apart c s e f) (value_agrees a known s e f k'.0 g)
+      ap₂ (λ x y. if x then y else value b (with_names s e)) (condition_apart c s e f) (value_agrees a known s e f k'.0 g)
       ∙ ap (λ y. if holds c (with_names s f) then value a (with_names s f) else y) (value_agrees b known s e f k'.1 g)
   value_agrees (named n) known s e f k g = g n k
 
@@ -86,7 +85,7 @@ mutual
       let b = and_parts (names_known a known) (all_names_known ps known) k in
       let x = value_agrees a known s e f b.0 g in
       let y = values_agree ps known s e f b.1 g in
-      (pair plus x y.0, pair greater x y.1, pair times x y.2)
+      (ap₂ plus x y.0, ap₂ greater x y.1, ap₂ times x y.2)
 
 -- ---- definitions
 

@@ -1,5 +1,5 @@
 -- Branches of conditionals and bodies of names have the values of what they replace.
-use Rattle.std.proofs.Common.{◌≡◌, ℕ, List, refl, sym, ap, ◌∙◌, true, false}
+use Rattle.std.proofs.Common.{◌≡◌, ℕ, List, refl, sym, ap, ◌∙◌, true, false, ap₂}
 use Rattle.std.specs.Prelude.{Bool, if◌then◌else◌}
 use Rattle.qs_assert.specs.Bounds.{same_name}
 use Rattle.qs_assert.specs.Sameness.{same_cond}
@@ -8,9 +8,6 @@ use Rattle.qs_assert.specs.Values.{State, infinite, holds, or_infinite, value, s
 use Rattle.qs_assert.proofs.SamenessLaws.{cond_same, name_equal}
 use Rattle.qs_entail.specs.Faults.{branch, branches, unfolded, all_unfolded}
 
-pub pair : {A B C : Type 0} (f : A → B → C) {a a' : A} {b b' : B} → a ≡ a' → b ≡ b' → f a b ≡ f a' b'
-pair f {a' = a'} {b = b} p q = ap (λ x. f x b) p ∙ ap (f a') q
-
 -- the values of the three kinds of lists of parts
 pub record SameValues (ps qs : AssertionTrees) (s : State) : Type 0 where
   pub sums : sum_of ps s ≡ sum_of qs s
@@ -18,14 +15,14 @@ pub record SameValues (ps qs : AssertionTrees) (s : State) : Type 0 where
   pub products : product_of ps s ≡ product_of qs s
 
 same_values_and : (a b : AssertionTree) (ps qs : AssertionTrees) (s : State) → value a s ≡ value b s → SameValues ps qs s → SameValues (assertion_and a ps) (assertion_and b qs) s
-same_values_and a b ps qs s e v = record { sums = pair plus e v.sums; greatest_parts = pair greater e v.greatest_parts; products = pair times e v.products }
+same_values_and a b ps qs s e v = record { sums = ap₂ plus e v.sums; greatest_parts = ap₂ greater e v.greatest_parts; products = ap₂ times e v.products }
 
 -- ---- branches
 
 chosen : (same first : Bool) (x y x' y' : AssertionTree) (c : CondTree) (s : State) → (same ≡ true → holds c s ≡ first) → value x s ≡ value x' s → value y s ≡ value y' s → value (if same then (if first then x else y) else choose c x y) s ≡ (if holds c s then value x' s else value y' s)
 chosen true true x y x' y' c s h e f = e ∙ sym (ap (λ b. if b then value x' s else value y' s) (h refl))
 chosen true false x y x' y' c s h e f = f ∙ sym (ap (λ b. if b then value x' s else value y' s) (h refl))
-chosen false first x y x' y' c s h e f = pair (λ u v. if holds c s then u else v) e f
+chosen false first x y x' y' c s h e f = ap₂ (λ u v. if holds c s then u else v) e f
 
 mutual
   pub branch_value : (b : CondTree) (first : Bool) (p : AssertionTree) (s : State) → holds b s ≡ first → value (branch b first p) s ≡ value p s
@@ -61,7 +58,7 @@ mutual
   unfolded_value n body (greatest parts) s h = (unfolded_values n body parts s h).greatest_parts
   unfolded_value n body (product parts) s h = (unfolded_values n body parts s h).products
   unfolded_value n body (guard c a) s h = ap (λ u. if holds c s then u else infinite) (unfolded_value n body a s h)
-  unfolded_value n body (choose c x y) s h = pair (λ u v. if holds c s then u else v) (unfolded_value n body x s h) (unfolded_value n body y s h)
+  unfolded_value n body (choose c x y) s h = ap₂ (λ u v. if holds c s then u else v) (unfolded_value n body x s h) (unfolded_value n body y s h)
   unfolded_value n body (named m) s h = by_name (same_name n m) n m body s (name_equal n m) h
 
   unfolded_values : (n : List ℕ) (body : AssertionTree) (ps : AssertionTrees) (s : State) → or_infinite (s.names n) ≡ value body s → SameValues (all_unfolded n body ps) ps s

@@ -1,4 +1,5 @@
-//! Certificates that one assertion is at least another: which are valid, and that these are sound.
+//! Certificates that one assertion is at least another: which are valid, that these are sound, and
+//! their check, which finds the first fault.
 #![tactic(auto)]
 
 mod branches;

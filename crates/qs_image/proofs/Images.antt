@@ -1,9 +1,8 @@
 -- The bytes of an image are read, and as that image.
-use Rattle.std.proofs.Common.{◌≡◌, ℕ, ◌+◌, ◌*◌, ◌/◌, ◌^◌, ◌<◌, ◌≤◌, true, List, [], ◌∷◌, ◌++◌, length, take, drop, All, sum, Some, None, refl, sym, ap, ◌∙◌, append_assoc, arith}
-use Rattle.std.specs.Prelude.{nat_le, nat_lt, codes}
+use Rattle.std.proofs.Common.{◌≡◌, ℕ, ◌+◌, ◌*◌, ◌/◌, ◌^◌, ◌<◌, ◌≤◌, true, List, [], ◌∷◌, ◌++◌, length, take, drop, All, sum, Some, None, refl, sym, ap, ◌∙◌, append_assoc, arith, le-leb, lt-ltb}
+use Rattle.std.specs.Prelude.{codes}
 use Rattle.std.specs.Option.{option_map}
 use Rattle.std.proofs.lemmas.Bool.{and_from, eq-eqb}
-use Rattle.std.proofs.lemmas.Bool.Decides.{nat_tests}
 use Rattle.std.proofs.lemmas.List.{length-append, take_at, drop_at}
 use Rattle.std.proofs.lemmas.List.Elements.{All-weaker}
 use Rattle.std.proofs.lemmas.List.Sums.{list_all-from_AllPass}
@@ -122,12 +121,6 @@ addresses_pass image w =
 costs_pass : (image : Image) → IsWellFormed image → cost_fault image.functions ≡ None
 costs_pass image w = ap (option_map Cost) (costs-hold 0 image.functions w.costs)
 
-le-holds : (a b : ℕ) → a ≤ b → nat_le a b ≡ true
-le-holds a b h = grind (arith, nat_tests)
-
-lt-holds : (a b : ℕ) → a < b → nat_lt a b ≡ true
-lt-holds a b h = grind (arith, nat_tests)
-
 same_sum : {f s c d f' s' c' d' : ℕ} → f ≡ f' → s ≡ s' → c ≡ c' → d ≡ d' → 32 + 12 * f + s + 4 * c + d ≡ 32 + 12 * f' + s' + 4 * c' + d'
 same_sum p q r s = omega arith
 
@@ -144,16 +137,16 @@ passes_image image w =
     let add_up : sum (lengths_of (table_of b)) ≡ names_length b =
     ap (λ (x : List ℕ). sum (lengths_of x)) s.table ∙ ap (λ (k : ℕ). sum (lengths k t)) n_is ∙ lengths-table_from image.functions (all_fit image w) ∙ sym h.joined in
     record {
-      long = le-holds 32 (length b) (omega (arith, len));
+      long = le-leb 32 (length b) (omega (arith, len));
       magic = refl;
       code = rw h.code (between-holds 1 262144 (length image.code) w.code_count);
-      octets = rw h.octets (le-holds _ _ w.byte_count);
+      octets = rw h.octets (le-leb _ _ w.byte_count);
       functions = rw h.functions (between-holds 1 512 (length image.functions) w.function_count);
       joined = rw h.joined (between-holds 1 1048576 (length (joined_names image.functions)) w.names_length);
-      parameters = rw h.parameters (le-holds _ _ w.parameters);
-      unsigned_set = rw (h.parameters, h.unsigned_set) (lt-holds _ _ w.unsigned_set);
-      enough = le-holds (size b) (length b) (omega (arith, same_size));
-      no_more = le-holds (length b) (size b) (omega (arith, same_size));
+      parameters = rw h.parameters (le-leb _ _ w.parameters);
+      unsigned_set = rw (h.parameters, h.unsigned_set) (lt-ltb _ _ w.unsigned_set);
+      enough = le-leb (size b) (length b) (omega (arith, same_size));
+      no_more = le-leb (length b) (size b) (omega (arith, same_size));
       names = and_from _ _ (eq-eqb _ _ add_up) (ap (λ (i : Image). are_names i.functions) says ∙ names_pass image w);
       addresses = ap are_addresses says ∙ addresses_pass image w;
       costs = ap (λ (i : Image). cost_fault i.functions) says ∙ costs_pass image w;

@@ -7,7 +7,8 @@ use Rattle.qs_isa.specs.Addresses.{code_start}
 use Rattle.qs_image.specs.declared.fault.HeaderWord.TheVariants as header
 use Rattle.qs_image.specs.declared.fault.ImageFault.{ImageFault}
 use Rattle.qs_image.specs.declared.fault.ImageFault.TheVariants.{Short, Magic, Count, Trailing, Entry, Cost, Names}
-use Rattle.qs_image.specs.Limits.{most_code_words, most_data_bytes, most_functions, most_name_bytes, most_parameters, largest_cost}
+use Rattle.qs_base.specs.Parameters.{most_main_parameters}
+use Rattle.qs_image.specs.Limits.{most_code_words, most_data_bytes, most_functions, most_name_bytes, largest_cost}
 use Rattle.qs_image.specs.Image.{Image, FunctionRecord}
 use Rattle.qs_image.specs.Bytes.{header_bytes, header_word, code_count, byte_count, function_count, names_length, size, table_of, lengths_of, image_of}
 
@@ -46,7 +47,7 @@ count_tests bytes =
     ∷ unless (nat_le (byte_count bytes) most_data_bytes) (Count header.ByteCount)
     ∷ unless (is_between 1 most_functions (function_count bytes)) (Count header.FunctionCount)
     ∷ unless (is_between 1 most_name_bytes (names_length bytes)) (Count header.NamesLength)
-    ∷ unless (nat_le (header_word header.Parameters bytes) most_parameters) (Count header.Parameters)
+    ∷ unless (nat_le (header_word header.Parameters bytes) most_main_parameters) (Count header.Parameters)
     ∷ unless (nat_lt (header_word header.UnsignedSet bytes) (2 ^ header_word header.Parameters bytes)) (Count header.UnsignedSet)
     ∷ []
 

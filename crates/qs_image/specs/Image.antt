@@ -2,7 +2,8 @@
 use Rattle.std.specs.Prelude.{◌≡◌, ℕ, ◌+◌, ◌*◌, ◌/◌, ◌%◌, ◌^◌, ◌<◌, ◌≤◌, ◌≢◌, List, [], ◌∷◌, ◌++◌, length, map, codes, All, AllPairs, Contains, IsTrue}
 use Rattle.qs_base.specs.Names.{is_name}
 use Rattle.qs_isa.specs.Addresses.{code_start}
-use Rattle.qs_image.specs.Limits.{most_code_words, most_data_bytes, most_functions, most_name_bytes, most_parameters, largest_cost}
+use Rattle.qs_base.specs.Parameters.{most_main_parameters}
+use Rattle.qs_image.specs.Limits.{most_code_words, most_data_bytes, most_functions, most_name_bytes, largest_cost}
 
 -- a function with a body
 pub record FunctionRecord : Type 0 where
@@ -91,7 +92,7 @@ pub record IsWellFormed (image : Image) : Type 0 where
   pub byte_count : length image.bytes ≤ most_data_bytes
   pub function_count : IsBetween 1 most_functions (length image.functions)
   pub names_length : IsBetween 1 most_name_bytes (length (joined_names image.functions))
-  pub parameters : image.parameters ≤ most_parameters
+  pub parameters : image.parameters ≤ most_main_parameters
   pub unsigned_set : image.unsigned_set < 2 ^ image.parameters
   pub names : All (λ f. IsTrue (is_name f.name)) image.functions
   pub differ : AllPairs (λ f g. f.name ≢ g.name) image.functions

@@ -17,10 +17,6 @@ most_functions = 512
 abbrev pub most_name_bytes : ℕ
 most_name_bytes = 1048576
 
--- main's parameters; the same number as `parameter_limit` of qs_types, for another reason: registers hold so many
-abbrev pub most_parameters : ℕ
-most_parameters = 8
-
 -- the bytes of stack that a call costs; those of `largest_frame` of qs_frames, on which nothing here stands
 abbrev pub largest_cost : ℕ
 largest_cost = 2 ^ 28

@@ -14,10 +14,6 @@ pub const MOST_FUNCTIONS: u32 = 512;
 /// The most bytes of names together.
 pub const MOST_NAME_BYTES: u32 = 1_048_576;
 
-// The same number as `PARAMETER_LIMIT` of qs_typing, for another reason: registers hold so many.
-/// The most parameters of main.
-pub const MOST_PARAMETERS: u32 = 8;
-
 // The bytes of `LARGEST_FRAME` of qs_frames, on which nothing here stands.
 /// The most bytes of stack that a call costs.
 pub const LARGEST_COST: u32 = 1 << 28;

@@ -8,13 +8,12 @@ ghost use Rattle.qs_image.specs.Faults.{header_tests, size_tests, HasNoFault, Is
 ghost use Rattle.qs_image.specs.View.{image_in, have_names, section_tests, AreSections};
 
 use crate::fault::{HeaderWord, ImageFault};
-use crate::limits::{
-    MOST_CODE_WORDS, MOST_DATA_BYTES, MOST_FUNCTIONS, MOST_NAME_BYTES, MOST_PARAMETERS,
-};
+use crate::limits::{MOST_CODE_WORDS, MOST_DATA_BYTES, MOST_FUNCTIONS, MOST_NAME_BYTES};
 use crate::records::{RECORD_BYTES, is_address};
 use crate::sections::{HEADER_BYTES, Sections};
 use crate::view::ImageView;
 use crate::word::header_word;
+use qs_base::MOST_MAIN_PARAMETERS;
 
 fn count_fault(bytes: &[u8]) -> Option<ImageFault>
     requires { header_bytes ≤ length bytes.now }
@@ -34,7 +33,7 @@ fn count_fault(bytes: &[u8]) -> Option<ImageFault>
         Some(ImageFault::Count(HeaderWord::FunctionCount))
     } else if names_length < 1 || names_length > MOST_NAME_BYTES {
         Some(ImageFault::Count(HeaderWord::NamesLength))
-    } else if parameters > MOST_PARAMETERS {
+    } else if parameters > MOST_MAIN_PARAMETERS {
         Some(ImageFault::Count(HeaderWord::Parameters))
     } else if unsigned_set >> parameters != 0 {
         Some(ImageFault::Count(HeaderWord::UnsignedSet))

@@ -1,18 +1,11 @@
 -- Conjunctions of tests.
-use Rattle.std.proofs.Common.{◌≡◌, ℕ, Bool, true, false, cond, ◌&&◌, Option, Some, None, refl, ◌==◌}
+use Rattle.std.proofs.Common.{◌≡◌, ℕ, Bool, true, false, ◌&&◌, Option, Some, None, refl, ◌==◌}
 use Rattle.qs_lexer.proofs.Fronts.{is_at}
+pub use Rattle.std.proofs.lemmas.Bool.{and_right as and_false}
 
 pub and_true : (b c : Bool) → b ≡ true → (b && c) ≡ c
 and_true true c h = refl
 and_true false c h = cc
-
-pub and_false : (b c : Bool) → c ≡ false → (b && c) ≡ false
-and_false true c h = h
-and_false false c h = refl
-
-pub cond_true : (b : Bool) (m n : ℕ) → b ≡ true → cond b m n ≡ m
-cond_true true m n h = refl
-cond_true false m n h = cc
 
 pub three_true : (x y z : Bool) → x ≡ true → y ≡ true → (x && y && z) ≡ z
 three_true true true z p q = refl

@@ -1,6 +1,7 @@
 -- The first byte decides which form a token can have.
 use Rattle.std.proofs.Common.{◌≡◌, ℕ, ◌<◌, zero, suc, Bool, true, false, cond, not, ◌&&◌, ◌||◌, List, [], ◌∷◌, is_some, take, refl, ap, sym, arith, ◌==◌}
 use Rattle.std.proofs.lemmas.Bool.Decides.{nat_tests}
+use Rattle.std.proofs.lemmas.Bool.{and_left}
 use Rattle.qs_base.specs.Bytes.{is_digit, is_letter}
 use Rattle.qs_base.specs.Names.{is_word}
 use Rattle.qs_lexer.specs.Bytes.{is_space, starts, starts_with}
@@ -15,10 +16,6 @@ use Rattle.qs_syntax_vocabulary.proofs.PunctuatorLaws.{no_punctuator}
 
 abbrev begins_no_punctuator : ℕ → Bool
 begins_no_punctuator byte = is_letter byte || is_digit byte || byte == 39 || byte == 34
-
-left_false : (b c : Bool) → b ≡ false → (b && c) ≡ false
-left_false true c h = cc
-left_false false c h = refl
 
 no_punctuator_begins : (a : ℕ) (xs : List ℕ) → begins_no_punctuator a ≡ true → is_punctuator (a ∷ xs) ≡ false
 no_punctuator_begins a xs h = ap is_some (no_punctuator (starts (λ byte. not (begins_no_punctuator byte))) refl (a ∷ xs) (ap not h))
@@ -109,19 +106,19 @@ form_cons LineComment a xs h = absurd h
 form_cons BlockComment a xs h = absurd h
 form_cons LineMarker a xs h = absurd h
 form_cons Word a xs h = sym (only_first (is_word (a ∷ xs)) (is_number (a ∷ xs)) (is_quoted 39 (a ∷ xs)) (is_quoted 34 (a ∷ xs)) (is_punctuator (a ∷ xs))
-    (left_false (is_digit a) _ (letter_no_digit a h)) (left_false (a == 39) _ (letter_no a 39 h (omega arith))) (left_false (a == 34) _ (letter_no a 34 h (omega arith)))
+    (and_left (is_digit a) _ (letter_no_digit a h)) (and_left (a == 39) _ (letter_no a 39 h (omega arith))) (and_left (a == 34) _ (letter_no a 34 h (omega arith)))
     (no_punctuator_begins a xs (or_1 (is_letter a) (is_digit a) (a == 39) (a == 34) h)))
 form_cons Number a xs h = sym (only_second (is_word (a ∷ xs)) (is_number (a ∷ xs)) (is_quoted 39 (a ∷ xs)) (is_quoted 34 (a ∷ xs)) (is_punctuator (a ∷ xs))
-    (left_false (is_letter a) _ (digit_no_letter a h)) (left_false (a == 39) _ (digit_no a 39 h (omega arith))) (left_false (a == 34) _ (digit_no a 34 h (omega arith)))
+    (and_left (is_letter a) _ (digit_no_letter a h)) (and_left (a == 39) _ (digit_no a 39 h (omega arith))) (and_left (a == 34) _ (digit_no a 34 h (omega arith)))
     (no_punctuator_begins a xs (or_2 (is_letter a) (is_digit a) (a == 39) (a == 34) h)))
 form_cons Character a xs h = sym (only_third (is_word (a ∷ xs)) (is_number (a ∷ xs)) (is_quoted 39 (a ∷ xs)) (is_quoted 34 (a ∷ xs)) (is_punctuator (a ∷ xs))
-    (left_false (is_letter a) _ (byte_no_letter a 39 h (omega arith))) (left_false (is_digit a) _ (byte_no_digit a 39 h (omega arith))) (left_false (a == 34) _ (byte_no_less a 39 34 h (omega arith)))
+    (and_left (is_letter a) _ (byte_no_letter a 39 h (omega arith))) (and_left (is_digit a) _ (byte_no_digit a 39 h (omega arith))) (and_left (a == 34) _ (byte_no_less a 39 34 h (omega arith)))
     (no_punctuator_begins a xs (or_3 (is_letter a) (is_digit a) (a == 39) (a == 34) h)))
 form_cons Text a xs h = sym (only_fourth (is_word (a ∷ xs)) (is_number (a ∷ xs)) (is_quoted 39 (a ∷ xs)) (is_quoted 34 (a ∷ xs)) (is_punctuator (a ∷ xs))
-    (left_false (is_letter a) _ (byte_no_letter a 34 h (omega arith))) (left_false (is_digit a) _ (byte_no_digit a 34 h (omega arith))) (left_false (a == 39) _ (byte_no_byte a 34 39 h (omega arith)))
+    (and_left (is_letter a) _ (byte_no_letter a 34 h (omega arith))) (and_left (is_digit a) _ (byte_no_digit a 34 h (omega arith))) (and_left (a == 39) _ (byte_no_byte a 34 39 h (omega arith)))
     (no_punctuator_begins a xs (or_4 (is_letter a) (is_digit a) (a == 39) (a == 34) h)))
 form_cons Other a xs h = sym (only_fifth (is_word (a ∷ xs)) (is_number (a ∷ xs)) (is_quoted 39 (a ∷ xs)) (is_quoted 34 (a ∷ xs)) (is_punctuator (a ∷ xs))
-    (left_false (is_letter a) _ h.0) (left_false (is_digit a) _ h.1) (left_false (a == 39) _ h.2) (left_false (a == 34) _ h.3))
+    (and_left (is_letter a) _ h.0) (and_left (is_digit a) _ h.1) (and_left (a == 39) _ h.2) (and_left (a == 34) _ h.3))
 
 -- ---- which first bytes a class of tokens has
 

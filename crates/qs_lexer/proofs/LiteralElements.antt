@@ -1,7 +1,8 @@
 -- The elements of a literal, one behind the other.
 use Rattle.std.proofs.Common.{◌≡◌, ℕ, ◌+◌, ◌-◌, ◌<◌, ◌≤◌, zero, suc, Bool, true, false, cond, ◌||◌, List, [], ◌∷◌, ◌++◌, Result, Ok, Err, length, drop, refl, ap, sym, ◌∙◌, arith, ◌==◌}
 use Rattle.std.specs.List.{list_any}
-use Rattle.std.proofs.lemmas.List.{drop-drop, length-drop}
+use Rattle.std.proofs.lemmas.List.{drop-drop, length-drop, drop_all}
+use Rattle.std.proofs.Math.Bool.{or_assoc}
 use Rattle.qs_lexer.specs.Literals.{byte_values, character_of_elements, character_with, element_length, elements_behind, escape_length, first_element, is_bad, is_wide}
 use Rattle.qs_lexer.specs.declared.literals.Element.{Element}
 use Rattle.qs_lexer.specs.declared.literals.Element.TheVariants as item
@@ -33,16 +34,10 @@ first_and_others (b ∷ bs) h =
     ap (λ es. first_element (b ∷ bs) ∷ es)
     (behind_drop (element_length (b ∷ bs) - 1) bs ∙ ap (elements_behind 0) (drop_less (element_length (b ∷ bs)) b bs (element_some (b ∷ bs))))
 
-drop_past : (n : ℕ) (bytes : List ℕ) → length bytes ≤ n → drop n bytes ≡ []
-drop_past zero [] h = refl
-drop_past zero (b ∷ bs) h = absurd (omega arith)
-drop_past (suc n) [] h = refl
-drop_past (suc n) (b ∷ bs) h = drop_past n bs (omega arith)
-
 -- ---- one element or several
 
 pub one_element : (body : List ℕ) → 0 < length body → length body ≤ element_length body → character_of_elements (elements_behind 0 body) ≡ character_with (first_element body)
-one_element body h l = ap character_of_elements (first_and_others body h ∙ ap (λ bs. first_element body ∷ elements_behind 0 bs) (drop_past (element_length body) body l))
+one_element body h l = ap character_of_elements (first_and_others body h ∙ ap (λ bs. first_element body ∷ elements_behind 0 bs) (drop_all (element_length body) body l))
 
 pub several_elements : (body : List ℕ) → element_length body < length body → character_of_elements (elements_behind 0 body) ≡ Err faults.BadLiteral
 several_elements body l =
@@ -63,12 +58,8 @@ abbrev pub text_after : Bool → List Element → Result TokenKind FaultKind
 text_after wide list =
     cond (list_any is_bad list) (Err faults.BadLiteral) (cond (wide || list_any is_wide list) (Err faults.WideLiteral) (Ok kinds.Text))
 
-or_or : (x y z : Bool) → (x || (y || z)) ≡ ((x || y) || z)
-or_or true y z = refl
-or_or false y z = refl
-
 good_first : (wide : Bool) (first : Element) (others : List Element) → is_bad first ≡ false → text_after wide (first ∷ others) ≡ text_after (wide || is_wide first) others
-good_first wide first others h = rw (h, or_or wide (is_wide first) (list_any is_wide others)) refl
+good_first wide first others h = rw (h, sym (or_assoc wide (is_wide first) (list_any is_wide others))) refl
 
 pub text_goes_on : (body rest : List ℕ) (at n : ℕ) (first : Element) (wide still : Bool) → at < length body → rest ≡ drop at body → n ≡ element_length rest → first ≡ first_element rest → is_bad first ≡ false → still ≡ (wide || is_wide first)
     → text_after wide (elements_behind 0 (drop at body)) ≡ text_after still (elements_behind 0 (drop (at + n) body))

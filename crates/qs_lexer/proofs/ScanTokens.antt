@@ -4,6 +4,7 @@ use Rattle.std.proofs.lemmas.List.{length-take-le}
 use Rattle.std.proofs.lemmas.Bool.Decides.{nat_tests}
 use Rattle.std.specs.List.{list_all, prefix_len}
 use Rattle.std.proofs.lemmas.List.Sums.{prefix_len-le-length}
+use Rattle.std.proofs.lemmas.Bool.{and_right, cond-true}
 use Rattle.qs_base.specs.Bytes.{is_digit, is_letter, is_word_byte}
 use Rattle.qs_base.specs.Names.{is_word}
 use Rattle.qs_lexer.specs.Bytes.{first_then, is_number_byte, starts, starts_with}
@@ -21,7 +22,7 @@ use Rattle.qs_syntax_vocabulary.specs.declared.punctuator.Punctuator.{Punctuator
 use Rattle.qs_syntax_vocabulary.specs.declared.tokens.TokenKind.TheVariants as kinds
 use Rattle.qs_lexer.proofs.Fronts.{list_all_take, closes_take, end_within, longest_of_le, longest_of_at, longest_same}
 use Rattle.qs_syntax_vocabulary.proofs.PunctuatorLaws.{no_punctuator}
-use Rattle.qs_lexer.proofs.Conjunctions.{and_true, and_false, cond_true, at_none, at_some}
+use Rattle.qs_lexer.proofs.Conjunctions.{and_true, at_none, at_some}
 
 -- ---- words and numbers: a byte of the one class, and bytes of the other
 
@@ -32,7 +33,7 @@ first_then_take f g a bs h (suc m) w l = and_true (f a) (list_all g (take m bs))
 first_then_longest : (f g : ℕ → Bool) (rest : List ℕ) → starts f rest ≡ true → ((b : ℕ) → f b ≡ true → g b ≡ true) → Longest (first_then f g) rest (prefix_len g rest)
 first_then_longest f g [] h i = cc
 first_then_longest f g (a ∷ bs) h i =
-    let e : prefix_len g (a ∷ bs) ≡ 1 + prefix_len g bs = cond_true (g a) (1 + prefix_len g bs) 0 (i a h) in
+    let e : prefix_len g (a ∷ bs) ≡ 1 + prefix_len g bs = cond-true (g a) (1 + prefix_len g bs) 0 (i a h) in
     let w : prefix_len g bs ≤ length bs = prefix_len-le-length g bs in
     rw e (longest_of_le (first_then f g) (a ∷ bs) (1 + prefix_len g bs) (omega arith) (λ m b l. first_then_take f g a bs h m b (omega arith)))
 
@@ -79,7 +80,7 @@ quoted_longest quote (a ∷ tail) n h e =
 not_quoted : (quote : ℕ) (rest : List ℕ) → end_of (quote_turn quote) false (drop 1 rest) ≡ None → NoFront (is_quoted quote) rest
 not_quoted quote rest e zero b = refl
 not_quoted quote [] e (suc k) b = absurd (omega arith)
-not_quoted quote (a ∷ tail) e (suc k) b = and_false (a == quote) (closes (quote_turn quote) false (take k tail)) (closes_take (quote_turn quote) false tail k (omega arith) ∙ at_none (end_of (quote_turn quote) false tail) k e)
+not_quoted quote (a ∷ tail) e (suc k) b = and_right (a == quote) (closes (quote_turn quote) false (take k tail)) (closes_take (quote_turn quote) false tail k (omega arith) ∙ at_none (end_of (quote_turn quote) false tail) k e)
 
 pub character_ends : (fresh : Bool) (rest : List ℕ) (n : ℕ) (piece : Piece) → starts_with 39 rest ≡ true → end_of (quote_turn 39) false (drop 1 rest) ≡ Some n → piece ≡ token_or_fault (n + 1) (character_of (take (n + 1) rest)) → Stands fresh Character rest piece
 character_ends fresh rest n piece h e s =

@@ -4,6 +4,7 @@ use Rattle.std.proofs.lemmas.List.{length-take-le}
 use Rattle.std.proofs.lemmas.Bool.Decides.{nat_tests}
 use Rattle.std.specs.List.{list_all, prefix_len}
 use Rattle.std.proofs.lemmas.List.Sums.{prefix_len-le-length}
+use Rattle.std.proofs.lemmas.Bool.{and_right, cond-true}
 use Rattle.qs_base.specs.Bytes.{is_digit, is_in_line}
 use Rattle.qs_lexer.specs.Bytes.{blanks_then_digit, digit_after_blanks, is_blank, is_empty, is_space, starts, starts_with}
 use Rattle.qs_lexer.specs.Ends.{closes, comment_turn, end_of}
@@ -13,7 +14,7 @@ use Rattle.qs_lexer.specs.declared.pieces.Class.TheVariants.{Space, LineComment,
 use Rattle.qs_lexer.specs.declared.pieces.Piece.{Piece}
 use Rattle.qs_lexer.specs.declared.pieces.Piece.TheVariants as pieces
 use Rattle.qs_lexer.proofs.Fronts.{list_all_take, closes_take, end_within, longest_of_le, longest_of_at}
-use Rattle.qs_lexer.proofs.Conjunctions.{and_true, and_false, cond_true, three_true, third_false, second_false, at_none, at_some}
+use Rattle.qs_lexer.proofs.Conjunctions.{and_true, three_true, third_false, second_false, at_none, at_some}
 
 -- a white piece of n bytes
 white_is : (n : ℕ) (rest : List ℕ) (still : Bool) (piece : Piece) → n ≤ length rest → piece ≡ pieces.White n still → piece ≡ pieces.White (length (take n rest)) still
@@ -35,7 +36,7 @@ space_first fresh a tail piece h s = inl (record {
 
     each : (m : ℕ) → 1 < m → m ≤ suc (length tail) → has_form Space (take m (a ∷ tail)) ≡ false
     each zero l w = absurd (omega arith)
-    each (suc m) l w = and_false (is_space a) (is_empty (take m tail)) (not_empty m tail (omega arith) (omega arith))
+    each (suc m) l w = and_right (is_space a) (is_empty (take m tail)) (not_empty m tail (omega arith) (omega arith))
 
 pub space_stands : (fresh : Bool) (rest : List ℕ) (still : Bool) (piece : Piece) → starts is_space rest ≡ true → ((a : ℕ) (tail : List ℕ) → rest ≡ a ∷ tail → still ≡ still_fresh fresh (a ∷ [])) → piece ≡ pieces.White 1 still → Stands fresh Space rest piece
 space_stands fresh [] still piece h e s = cc
@@ -44,7 +45,7 @@ space_stands fresh (a ∷ tail) still piece h e s = space_first fresh a tail pie
 -- ---- comments up to the line's end
 
 in_line_first : (x : ℕ) (tail : List ℕ) → is_in_line x ≡ true → prefix_len is_in_line (x ∷ tail) ≡ 1 + prefix_len is_in_line tail
-in_line_first x tail h = cond_true (is_in_line x) (1 + prefix_len is_in_line tail) 0 h
+in_line_first x tail h = cond-true (is_in_line x) (1 + prefix_len is_in_line tail) 0 h
 
 byte_in_line : (a x : ℕ) → (a == x) ≡ true → 11 ≤ x → is_in_line a ≡ true
 byte_in_line a x h l = grind (arith, nat_tests)
@@ -178,7 +179,7 @@ no_start tail k h = by (starts is_blank tail) (digit_after_blanks tail) (starts 
   where
     by : (x y p q : Bool) → (x ≡ false → p ≡ false) → (y ≡ false → q ≡ false) → (x && y) ≡ false → (p && q) ≡ false
     by false y p q f g h = rw (f refl) refl
-    by true false p q f g h = and_false p q (g refl)
+    by true false p q f g h = and_right p q (g refl)
     by true true p q f g h = cc
 
 pub directive_stands : (fresh : Bool) (rest tail : List ℕ) (piece : Piece) → tail ≡ drop 1 rest → blanks_then_digit tail ≡ false → piece ≡ piece_without LineMarker → Stands fresh LineMarker rest piece

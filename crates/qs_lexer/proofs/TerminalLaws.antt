@@ -1,10 +1,11 @@
 -- The terminals of a text.
-use Rattle.std.proofs.Common.{◌≡◌, ℕ, ◌+◌, ◌-◌, ◌<◌, ◌≤◌, zero, suc, Bool, true, ◌&&◌, List, [], ◌∷◌, ◌++◌, length, drop, get_or, All, refl, ap, sym, ◌∙◌, arith, Fits, w8}
+use Rattle.std.proofs.Common.{◌≡◌, ℕ, ◌+◌, ◌-◌, ◌<◌, ◌≤◌, zero, suc, true, List, [], ◌∷◌, ◌++◌, length, drop, get_or, All, refl, ap, sym, ◌∙◌, arith, Fits, w8}
 use Rattle.std.proofs.lemmas.Bool.Decides.{nat_tests}
 use Rattle.std.specs.Cmp.{first_so, second_so}
 use Rattle.std.specs.List.{list_all}
 use Rattle.std.proofs.lemmas.List.{append-nil, drop_all}
 use Rattle.std.proofs.lemmas.List.Elements.{All-head, All-tail}
+use Rattle.std.proofs.lemmas.Bool.{and_from}
 use Rattle.qs_base.specs.Names.{is_name}
 use Rattle.qs_lexer.specs.Laws.{InOrder, IsTokenOf, spelling}
 use Rattle.qs_lexer.specs.Terminals.{terminal, terminal_of, terminals}
@@ -54,9 +55,6 @@ number_low text tokens t k d l =
 
 -- ---- they are terminals
 
-and_true : (b c : Bool) → b ≡ true → c ≡ true → (b && c) ≡ true
-and_true b c p q = rw (p, q) refl
-
 seen : (at : ℕ) (bytes : List ℕ) (kind : TokenKind) → (kind ≡ kinds.Name → is_name bytes ≡ true) → is_valued kind ≡ true → list_all is_byte bytes ≡ true → is_well_formed (terminal_of at bytes kind) ≡ true
 seen at bytes kinds.Name n v b = n refl
 seen at bytes (kinds.Keyword keyword) n v b = refl
@@ -68,7 +66,7 @@ seen at bytes (kinds.Punctuator punctuator) n v b = refl
 all_seen : (text : List ℕ) (at : ℕ) (tokens : List Token) → list_all is_byte text ≡ true → All (IsTokenOf text) tokens → all_valued tokens ≡ true → list_all is_well_formed (terminals text at tokens) ≡ true
 all_seen text at [] b a v = refl
 all_seen text at (t ∷ ts) b a v =
-    and_true (is_well_formed (terminal text at t)) (list_all is_well_formed (terminals text (at + 1) ts))
+    and_from (is_well_formed (terminal text at t)) (list_all is_well_formed (terminals text (at + 1) ts))
     (seen at (spelling text t) t.kind (All-head (IsTokenOf text) t ts a).name (first_so (is_valued t.kind) (all_valued ts) v) (bytes_take (t.end - t.start) (drop t.start text) (bytes_drop t.start text b)))
     (all_seen text (at + 1) ts b (All-tail (IsTokenOf text) t ts a) (second_so (is_valued t.kind) (all_valued ts) v))
 
@@ -81,7 +79,7 @@ fits_byte n f = grind (arith, nat_tests)
 
 pub slice_bytes : (xs : List ℕ) → ((i : ℕ) → Fits w8 (get_or xs i 0)) → list_all is_byte xs ≡ true
 slice_bytes [] f = refl
-slice_bytes (x ∷ xs) f = and_true (is_byte x) (list_all is_byte xs) (fits_byte x (f 0)) (slice_bytes xs (λ i. f (suc i)))
+slice_bytes (x ∷ xs) f = and_from (is_byte x) (list_all is_byte xs) (fits_byte x (f 0)) (slice_bytes xs (λ i. f (suc i)))
 
 -- ---- the loop
 

@@ -2,6 +2,8 @@
 use Rattle.std.proofs.Common.{◌≡◌, ℕ, ◌-◌, ◌^◌, inl, inr, zero, suc, Bool, true, false, cond, not, ◌&&◌, ◌||◌, List, [], ◌∷◌, ◌++◌, Option, Some, None, option_map, Result, Ok, Err, length, take, drop, refl, ap, sym, ◌∙◌, arith, nat_lt, ◌==◌}
 use Rattle.std.proofs.lemmas.Bool.Decides.{nat_tests}
 use Rattle.std.specs.List.{find, list_all, list_any}
+use Rattle.std.specs.Cmp.{first_so}
+use Rattle.std.proofs.lemmas.Bool.{and_parts}
 use Rattle.qs_lexer.specs.Bytes.{starts_with}
 use Rattle.qs_lexer.specs.Literals.{byte_values, character_of, character_of_elements, character_with, element_length, elements, elements_behind, elements_of, escape, first_element, hexadecimal_count, is_bad, is_wide, hexadecimal_escape, inside, octal_count, octal_escape, simple, simple_escape, simple_escapes, simple_with, text_of, valued}
 use Rattle.qs_lexer.specs.Numbers.{are_digits, base_of, digits_of, has_suffix, number_of, number_without_suffix, typed, value_of, without_suffix}
@@ -40,10 +42,6 @@ GivesValued (Err fault) = Unit {0}
 
 -- ---- numbers
 
-and_first : (b c : Bool) → (b && c) ≡ true → b ≡ true
-and_first true c h = refl
-and_first false c h = cc
-
 int_fits : (value : ℕ) (unsigned : Bool) → nat_lt value (2 ^ 31) ≡ true → nat_lt value (cond unsigned (2 ^ 32) (2 ^ 31)) ≡ true
 int_fits value true h = grind (arith, nat_tests)
 int_fits value false h = h
@@ -56,7 +54,7 @@ typed_valued : (base : ℕ) (suffix : Bool) (value : ℕ) → GivesValued (typed
 typed_valued base suffix value =
     let wider : Result TokenKind FaultKind = cond (nat_lt value (2 ^ 32) && (suffix || not (base == 10))) (Ok (kinds.Number value true)) (Err faults.WideLiteral) in
     valued_if (nat_lt value (2 ^ 31)) (Ok (kinds.Number value suffix)) wider (int_fits value suffix)
-    (valued_if (nat_lt value (2 ^ 32) && (suffix || not (base == 10))) (Ok (kinds.Number value true)) (Err faults.WideLiteral) (and_first (nat_lt value (2 ^ 32)) (suffix || not (base == 10))) tt)
+    (valued_if (nat_lt value (2 ^ 32) && (suffix || not (base == 10))) (Ok (kinds.Number value true)) (Err faults.WideLiteral) (first_so (nat_lt value (2 ^ 32)) (suffix || not (base == 10))) tt)
 
 without_valued : (literal : List ℕ) (suffix : Bool) → GivesValued (number_without_suffix literal suffix)
 without_valued literal suffix =
@@ -80,14 +78,10 @@ low_if false x y p q = q
 valued_low : (value : ℕ) → is_low (valued value) ≡ true
 valued_low value = low_if (nat_lt value 256) (item.Byte value) item.Wide (λ h. h) refl
 
-both : (b c : Bool) → (b && c) ≡ true → (b ≡ true) × (c ≡ true)
-both true c h = (refl, h)
-both false c h = cc
-
 found_low : (rows : List (ℕ × ℕ)) (byte : ℕ) → list_all (λ row. is_byte row.1) rows ≡ true → is_low (simple_with (option_map (λ row. row.1) (find (λ row. row.0 == byte) rows))) ≡ true
 found_low [] byte h = refl
 found_low (row ∷ rows) byte h =
-    let b : (is_byte row.1 ≡ true) × (list_all (λ row. is_byte row.1) rows ≡ true) = both (is_byte row.1) (list_all (λ row. is_byte row.1) rows) h in
+    let b : (is_byte row.1 ≡ true) × (list_all (λ row. is_byte row.1) rows ≡ true) = and_parts (is_byte row.1) (list_all (λ row. is_byte row.1) rows) h in
     by (row.0 == byte) b.0 (found_low rows byte b.1)
   where
     by : (x : Bool) → is_byte row.1 ≡ true → is_low (simple_with (option_map (λ row. row.1) (find (λ row. row.0 == byte) rows))) ≡ true → is_low (simple_with (option_map (λ row. row.1) (cond x (Some row) (find (λ row. row.0 == byte) rows)))) ≡ true
@@ -107,7 +101,7 @@ escape_low bytes =
 
 first_low : (bytes : List ℕ) → list_all is_byte bytes ≡ true → is_low (first_element bytes) ≡ true
 first_low [] h = refl
-first_low (byte ∷ bytes) h = low_if (byte == 92) (escape bytes) (item.Byte byte) (λ e. escape_low bytes) (both (is_byte byte) (list_all is_byte bytes) h).0
+first_low (byte ∷ bytes) h = low_if (byte == 92) (escape bytes) (item.Byte byte) (λ e. escape_low bytes) (and_parts (is_byte byte) (list_all is_byte bytes) h).0
 
 low_character : (first : Element) → is_low first ≡ true → GivesValued (character_with first)
 low_character item.Bad h = tt
@@ -126,13 +120,13 @@ pub bytes_take : (n : ℕ) (bytes : List ℕ) → list_all is_byte bytes ≡ tru
 bytes_take zero bytes h = refl
 bytes_take (suc n) [] h = refl
 bytes_take (suc n) (byte ∷ bytes) h =
-    let b : (is_byte byte ≡ true) × (list_all is_byte bytes ≡ true) = both (is_byte byte) (list_all is_byte bytes) h in
+    let b : (is_byte byte ≡ true) × (list_all is_byte bytes ≡ true) = and_parts (is_byte byte) (list_all is_byte bytes) h in
     rw (b.0) (bytes_take n bytes b.1)
 
 pub bytes_drop : (n : ℕ) (bytes : List ℕ) → list_all is_byte bytes ≡ true → list_all is_byte (drop n bytes) ≡ true
 bytes_drop zero bytes h = h
 bytes_drop (suc n) [] h = refl
-bytes_drop (suc n) (byte ∷ bytes) h = bytes_drop n bytes (both (is_byte byte) (list_all is_byte bytes) h).1
+bytes_drop (suc n) (byte ∷ bytes) h = bytes_drop n bytes (and_parts (is_byte byte) (list_all is_byte bytes) h).1
 
 character_valued : (literal : List ℕ) → list_all is_byte literal ≡ true → GivesValued (character_of literal)
 character_valued literal h = body_valued (inside literal) (bytes_drop 1 (take (length literal - 1) literal) (bytes_take (length literal - 1) literal h))
@@ -142,13 +136,13 @@ character_valued literal h = body_valued (inside literal) (bytes_drop 1 (take (l
 elements_low : (taken : ℕ) (bytes : List ℕ) → list_all is_byte bytes ≡ true → list_all is_low (elements_behind taken bytes) ≡ true
 elements_low taken [] h = refl
 elements_low zero (byte ∷ bytes) h =
-    rw (first_low (byte ∷ bytes) h) (elements_low (element_length (byte ∷ bytes) - 1) bytes (both (is_byte byte) (list_all is_byte bytes) h).1)
-elements_low (suc taken) (byte ∷ bytes) h = elements_low taken bytes (both (is_byte byte) (list_all is_byte bytes) h).1
+    rw (first_low (byte ∷ bytes) h) (elements_low (element_length (byte ∷ bytes) - 1) bytes (and_parts (is_byte byte) (list_all is_byte bytes) h).1)
+elements_low (suc taken) (byte ∷ bytes) h = elements_low taken bytes (and_parts (is_byte byte) (list_all is_byte bytes) h).1
 
 values_low : (list : List Element) → list_all is_low list ≡ true → list_all is_byte (byte_values list) ≡ true
 values_low [] h = refl
 values_low (item.Byte value ∷ others) h =
-    let b : (is_byte value ≡ true) × (list_all is_low others ≡ true) = both (is_byte value) (list_all is_low others) h in
+    let b : (is_byte value ≡ true) × (list_all is_low others ≡ true) = and_parts (is_byte value) (list_all is_low others) h in
     rw (b.0) (values_low others b.1)
 values_low (item.Wide ∷ others) h = values_low others h
 values_low (item.Bad ∷ others) h = values_low others h
@@ -203,7 +197,7 @@ all_valued tokens = list_all (λ t. is_valued t.kind) tokens
 with_valued : (tokens : List Token) (t : Token) → all_valued tokens ≡ true → is_valued t.kind ≡ true → all_valued (tokens ++ t ∷ []) ≡ true
 with_valued [] t h k = rw k refl
 with_valued (x ∷ xs) t h k =
-    let b : (is_valued x.kind ≡ true) × (all_valued xs ≡ true) = both (is_valued x.kind) (all_valued xs) h in
+    let b : (is_valued x.kind ≡ true) × (all_valued xs ≡ true) = and_parts (is_valued x.kind) (all_valued xs) h in
     rw (b.0) (with_valued xs t b.1 k)
 
 pub read_valued : (text : List ℕ) (tokens : List Token) (fresh : Bool) (at : ℕ) → list_all is_byte text ≡ true → ReadsTo text tokens fresh at → all_valued tokens ≡ true

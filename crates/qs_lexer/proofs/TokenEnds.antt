@@ -4,6 +4,7 @@ use Rattle.std.proofs.Math.Seq.{take-append_seam}
 use Rattle.std.proofs.lemmas.Bool.Decides.{nat_tests}
 use Rattle.std.specs.Cmp.{first_so, second_so}
 use Rattle.std.specs.List.{list_all, prefix_len}
+use Rattle.std.proofs.lemmas.Bool.{and_right}
 use Rattle.qs_base.specs.Bytes.{is_digit, is_letter, is_word_byte}
 use Rattle.qs_base.specs.Names.{is_word}
 use Rattle.qs_lexer.specs.Bytes.{is_number_byte, is_space, starts}
@@ -14,7 +15,6 @@ use Rattle.qs_lexer.specs.declared.pieces.Class.TheVariants.{Word, Number}
 use Rattle.qs_lexer.specs.declared.pieces.Piece.TheVariants as pieces
 use Rattle.qs_syntax_vocabulary.specs.declared.tokens.TokenKind.{TokenKind}
 use Rattle.qs_lexer.proofs.PieceClasses.{next_is}
-use Rattle.qs_lexer.proofs.Conjunctions.{and_false}
 use Rattle.qs_lexer.proofs.ScanTokens.{number_stands, word_stands}
 
 prefix_all : (p : ℕ → Bool) (word : List ℕ) (stop : ℕ) (rest : List ℕ) → list_all p word ≡ true → p stop ≡ false → prefix_len p (word ++ stop ∷ rest) ≡ length word
@@ -25,7 +25,7 @@ letter_class : (fresh : Bool) (a : ℕ) (others : List ℕ) → is_letter a ≡ 
 letter_class fresh a others h =
     let space : is_space a ≡ false = grind (arith, nat_tests) in
     let slash : (a == 47) ≡ false = grind (arith, nat_tests) in
-    let hash : (fresh && a == 35) ≡ false = and_false fresh (a == 35) (grind (arith, nat_tests)) in
+    let hash : (fresh && a == 35) ≡ false = and_right fresh (a == 35) (grind (arith, nat_tests)) in
     rw (space, slash, hash, h) refl
 
 pub word_next : (fresh : Bool) (word : List ℕ) (kind : TokenKind) (stop : ℕ) (rest : List ℕ) → is_word word ≡ true → word_of word ≡ Ok kind → is_word_byte stop ≡ false → Next fresh (word ++ stop ∷ rest) (pieces.Token (length word) kind)
@@ -41,7 +41,7 @@ digit_class : (fresh : Bool) (a : ℕ) (others : List ℕ) → is_digit a ≡ tr
 digit_class fresh a others h =
     let space : is_space a ≡ false = grind (arith, nat_tests) in
     let slash : (a == 47) ≡ false = grind (arith, nat_tests) in
-    let hash : (fresh && a == 35) ≡ false = and_false fresh (a == 35) (grind (arith, nat_tests)) in
+    let hash : (fresh && a == 35) ≡ false = and_right fresh (a == 35) (grind (arith, nat_tests)) in
     let letter : is_letter a ≡ false = grind (arith, nat_tests) in
     rw (space, slash, hash, letter, h) refl
 

@@ -1,5 +1,5 @@
 -- The runs of linear code follow those of core, and back.
-use Rattle.std.proofs.Common.{◌≡◌, ℕ, zero, suc, ◌+◌, ◌-◌, ◌*◌, ◌<◌, ◌≤◌, ◌⊎◌, inl, inr, ◌==◌, false, if◌then◌else◌, List, [], ◌∷◌, length, map, Option, Some, None, refl, sym, ap, ◌∙◌, subst, arith}
+use Rattle.std.proofs.Common.{◌≡◌, ℕ, zero, suc, ◌+◌, ◌-◌, ◌*◌, ◌<◌, ◌≤◌, ◌⊎◌, inl, inr, ◌==◌, false, if◌then◌else◌, List, [], ◌∷◌, length, map, Option, Some, None, refl, sym, ap, ◌∙◌, subst, arith, suc-mul}
 use Rattle.std.proofs.Math.Nat.{mul-le-mul_right}
 use Rattle.std.proofs.lemmas.Bool.{cases_lt}
 use Rattle.std.proofs.lemmas.Bool.Decides.{nat_tests}
@@ -29,7 +29,7 @@ use Rattle.qs_tac.specs.Units.{tac_run}
 use Rattle.qs_lower_expressions.specs.Threads.{threaded_function, threaded_unit}
 use Rattle.qs_lower.specs.Units.{function_code, straight_function, straight_unit}
 use Rattle.qs_lower_expressions.proofs.ThreadLaws.{code_in}
-use Rattle.qs_lower_expressions.proofs.JumpLaws.{IsWeight, one_more}
+use Rattle.qs_lower_expressions.proofs.JumpLaws.{IsWeight}
 use Rattle.qs_lower_expressions.proofs.RealisationLaws.{Stack, Tally, counted, weighed, Suits, Model, moved_by, ComesBy, BoundedBy, comes_same, comes_alike, comes_emit, comes_real_by, CallsMade, entering_in, IsCode}
 use Rattle.qs_lower.proofs.StmtReal.{Equal, equal_keeps}
 use Rattle.qs_lower.proofs.UnitReal as unit
@@ -211,7 +211,7 @@ module _ (u : CoreUnitTree) (turns : ℕ) where
         by_order (inr few) = omega (arith, few)
         by_order (inl more) =
             let heavy : suc n * weight ≤ i * weight = mul-le-mul_right weight more in
-            let step = one_more n weight in
+            let step = suc-mul n weight in
             absurd (omega (arith, heavy, step, le))
 
     counts :

@@ -1,6 +1,7 @@
 -- The code of expressions and statements uses no more temporaries than core holds values.
 use Rattle.std.proofs.Common.{◌≡◌, ℕ, ◌+◌, ◌≤◌, max, Bool, true, false, List, [], ◌∷◌, map, Option, Some, None, refl, arith}
 use Rattle.std.specs.Prelude.{if◌then◌else◌}
+use Rattle.std.proofs.lemmas.Bool.{and_parts}
 use Rattle.qs_memory.specs.Partial.{◌>>=◌}
 use Rattle.qs_memory.specs.Scalars.{is_integer, same_scalar}
 use Rattle.qs_memory.specs.Operands.{binary_takes, conversion_takes}
@@ -17,7 +18,6 @@ use Rattle.qs_core.specs.Expressions.{type_of}
 use Rattle.qs_core.specs.Fits.{expr_fits, exprs_fit, pointer_fits, stmt_fits, stmts_fit}
 use Rattle.qs_core.specs.Sizes as counts
 use Rattle.qs_core.specs.Sizes.{is_operand, parts_held, held, all_held, held_in, held_in_all}
-use Rattle.qs_core.proofs.FitLaws.{both}
 use Rattle.qs_tac.specs.Trees.{InstructionTree}
 use Rattle.qs_tac.specs.declared.operands.Operand.{Operand}
 use Rattle.qs_tac.specs.declared.operands.Condition.{Condition}
@@ -342,35 +342,35 @@ module _ (c : CoreUnitTree) (g : CoreFunctionTree) (v : ℕ) where
   expr_holds (core.variable s x) h = operand_holds _
   expr_holds (core.temporary s k) h = operand_holds _
   expr_holds (core.address_of b) h = operand_holds _
-  expr_holds (core.load s a) h = value_holds _ (lowered v a).base_used _ (expr_holds a (both (expr_fits c g a) _ h).0).base_fits (omega arith)
+  expr_holds (core.load s a) h = value_holds _ (lowered v a).base_used _ (expr_holds a (and_parts (expr_fits c g a) _ h).0).base_fits (omega arith)
   expr_holds (core.member offset a) h =
-      by_address_holds (behind (lowered v a) offset) (behind_holds (lowered v a).index (lowered v a) offset refl (own_small a) (expr_holds a (both (expr_fits c g a) _ (both _ _ h).0).0)) (omega arith)
+      by_address_holds (behind (lowered v a) offset) (behind_holds (lowered v a).index (lowered v a) offset refl (own_small a) (expr_holds a (and_parts (expr_fits c g a) _ (and_parts _ _ h).0).0)) (omega arith)
   expr_holds (core.unary op a) h =
-      simple_or_holds ((lowered v a).simple >>= unary_of op) _ (compound_holds op (gives_integer a) (gives_truth a) a (lowered v a) (expr_holds a (both (expr_fits c g a) _ h).0))
+      simple_or_holds ((lowered v a).simple >>= unary_of op) _ (compound_holds op (gives_integer a) (gives_truth a) a (lowered v a) (expr_holds a (and_parts (expr_fits c g a) _ h).0))
   expr_holds (core.binary op a b) h =
-      let two = both (expr_fits c g a) (expr_fits c g b) (both _ (binary_takes op _ _) h).0 in
+      let two = and_parts (expr_fits c g a) (expr_fits c g b) (and_parts _ (binary_takes op _ _) h).0 in
       let first = expr_holds a two.0 in
       simple_or_holds (folded op (lowered v a).simple (lowered v b).simple) _
       (stepped_holds op (constant_step op (lowered v b).simple) a b (lowered v a) _ first (operation_holds op a b (lowered v a) (lowered v b) first (expr_holds b two.1)))
   expr_holds (core.conversion s a) h =
-      let two = both (expr_fits c g a) (conversion_takes s (type_of a)) h in
+      let two = and_parts (expr_fits c g a) (conversion_takes s (type_of a)) h in
       let types = converts s (type_of a) two.1 in
       conversion_holds (is_operand a) s (is_idle s a) a (lowered v a) types.to (integers c g v a two.0 types.from) (operands_there c g v a two.0) (expr_holds a two.0)
   expr_holds (core.logical_and a b) h =
-      let two = both (expr_fits c g a) (expr_fits c g b) h in
+      let two = and_parts (expr_fits c g a) (expr_fits c g b) h in
       and_holds (lowered v a).known (gives_truth b) a b (lowered v a) (lowered v b) (expr_holds a two.0) (expr_holds b two.1)
   expr_holds (core.logical_or a b) h =
-      let two = both (expr_fits c g a) (expr_fits c g b) h in
+      let two = and_parts (expr_fits c g a) (expr_fits c g b) h in
       or_holds (lowered v a).known (gives_truth b) a b (lowered v a) (lowered v b) (expr_holds a two.0) (expr_holds b two.1)
   expr_holds (core.conditional q a b) h =
-      let three = both _ (expr_fits c g b) (both _ (same_scalar (type_of a) (type_of b)) h).0 in
-      let two = both (expr_fits c g q) (expr_fits c g a) three.0 in
+      let three = and_parts _ (expr_fits c g b) (and_parts _ (same_scalar (type_of a) (type_of b)) h).0 in
+      let two = and_parts (expr_fits c g q) (expr_fits c g a) three.0 in
       choice_holds (lowered v q).known q a b (lowered v q) (lowered v a) (lowered v b) (expr_holds q two.0) (expr_holds a two.1) (expr_holds b three.1)
 
   arguments_hold : (es : List CoreExprTree) → exprs_fit c g es ≡ true → all_used (map (lowered v) es) ≤ all_held es
   arguments_hold [] h = omega arith
   arguments_hold (e ∷ es) h =
-      let two = both (expr_fits c g e) (exprs_fit c g es) h in
+      let two = and_parts (expr_fits c g e) (exprs_fit c g es) h in
       let first = expr_holds e two.0 in
       let i = first.used_fits in
       let j = first.own_fits in
@@ -403,33 +403,33 @@ module _ (c : CoreUnitTree) (g : CoreFunctionTree) (v : ℕ) where
     pub stmt_holds : (t : ℕ) (b q : Bool) (s : CoreStmtTree) → stmt_fits c g b q s ≡ true → (stmt_code v t s).used ≤ held_in s
     stmt_holds t b q core.skip h = omega arith
     stmt_holds t b q (core.seq ss) h = stmts_hold t b q ss h
-    stmt_holds t b q (core.assign x e) h = (expr_holds e (both (expr_fits c g e) _ h).0).parts_fit
+    stmt_holds t b q (core.assign x e) h = (expr_holds e (and_parts (expr_fits c g e) _ h).0).parts_fit
     stmt_holds t b q (core.store s a e) h =
-        let two = both (pointer_fits c g a) (expr_fits c g e) (both _ _ h).0 in
-        access_used a e (lowered v a) (lowered v e) (used_by (lowered v e)) (expr_holds a (both (expr_fits c g a) _ two.0).0) (expr_holds e two.1).used_fits
+        let two = and_parts (pointer_fits c g a) (expr_fits c g e) (and_parts _ _ h).0 in
+        access_used a e (lowered v a) (lowered v e) (used_by (lowered v e)) (expr_holds a (and_parts (expr_fits c g a) _ two.0).0) (expr_holds e two.1).used_fits
     stmt_holds t b q (core.copy size alignment a e) h =
-        let two = both (pointer_fits c g a) (pointer_fits c g e) (both _ _ (both _ _ h).0).0 in
-        access_used a e (lowered v a) (lowered v e) (lowered v e).base_used (expr_holds a (both (expr_fits c g a) _ two.0).0)
-        (expr_holds e (both (expr_fits c g e) _ two.1).0).base_fits
-    stmt_holds t b q (core.fill blank a) h = (expr_holds a (both (expr_fits c g a) _ (both (pointer_fits c g a) _ h).0).0).base_fits
-    stmt_holds t b q (core.call x to es) h = arguments_hold es (both (exprs_fit c g es) _ h).0
+        let two = and_parts (pointer_fits c g a) (pointer_fits c g e) (and_parts _ _ (and_parts _ _ h).0).0 in
+        access_used a e (lowered v a) (lowered v e) (lowered v e).base_used (expr_holds a (and_parts (expr_fits c g a) _ two.0).0)
+        (expr_holds e (and_parts (expr_fits c g e) _ two.1).0).base_fits
+    stmt_holds t b q (core.fill blank a) h = (expr_holds a (and_parts (expr_fits c g a) _ (and_parts (pointer_fits c g a) _ h).0).0).base_fits
+    stmt_holds t b q (core.call x to es) h = arguments_hold es (and_parts (exprs_fit c g es) _ h).0
     stmt_holds t b q (core.branch e s r) h =
-        let two = both _ (stmt_fits c g b q r) h in
-        let one = both (expr_fits c g e) (stmt_fits c g b q s) two.0 in
+        let two = and_parts _ (stmt_fits c g b q r) h in
+        let one = and_parts (expr_fits c g e) (stmt_fits c g b q s) two.0 in
         branch_used (lowered v e).known t (lowered v e) (stmt_code v t s) (stmt_code v t r) (expr_holds e one.0).test_fits (stmt_holds t b q s one.1) (stmt_holds t b q r two.1)
     stmt_holds t b q (core.loop body step) h =
-        let two = both (stmt_fits c g true true body) (stmt_fits c g true false step) h in
+        let two = and_parts (stmt_fits c g true true body) (stmt_fits c g true false step) h in
         let i = stmt_holds t true true body two.0 in
         let j = stmt_holds t true false step two.1 in
         omega arith
     stmt_holds t b q core.break h = omega arith
     stmt_holds t b q core.continue h = omega arith
     stmt_holds t b q (core.return None) h = omega arith
-    stmt_holds t b q (core.return (Some e)) h = (expr_holds e (both (expr_fits c g e) _ h).0).used_fits
+    stmt_holds t b q (core.return (Some e)) h = (expr_holds e (and_parts (expr_fits c g e) _ h).0).used_fits
 
     pub stmts_hold : (t : ℕ) (b q : Bool) (ss : CoreStmts) → stmts_fit c g b q ss ≡ true → (stmts_code v t ss).used ≤ held_in_all ss
     stmts_hold t b q no_stmts h = omega arith
-    stmts_hold t b q (stmt_and s no_stmts) h = let i = stmt_holds t b q s (both (stmt_fits c g b q s) _ h).0 in omega arith
+    stmts_hold t b q (stmt_and s no_stmts) h = let i = stmt_holds t b q s (and_parts (stmt_fits c g b q s) _ h).0 in omega arith
     stmts_hold t b q (stmt_and s (stmt_and r ss)) h =
-        let two = both (stmt_fits c g b q s) (stmts_fit c g b q (stmt_and r ss)) h in
+        let two = and_parts (stmt_fits c g b q s) (stmts_fit c g b q (stmt_and r ss)) h in
         both_used (stmt_code v t s).ends (stmt_code v t s) (stmts_code v t (stmt_and r ss)) (stmt_holds t b q s two.0) (stmts_hold t b q (stmt_and r ss) two.1)

@@ -1,6 +1,7 @@
 -- What stands for several plans, one after the other.
 use Rattle.std.proofs.Common.{◌≡◌, ℕ, ◌+◌, ◌<◌, max, Bool, true, false, if◌then◌else◌, List, [], ◌∷◌, ◌++◌, length, append_assoc, Option, Some, None, IsSome, refl, sym, ap, ◌∙◌, arith}
 use Rattle.std.specs.Prelude.{◌||◌}
+use Rattle.std.proofs.Math.Bool.{or_assoc}
 use Rattle.qs_tac.specs.Trees.{InstructionTree}
 use Rattle.qs_lower_expressions.specs.Expressions.{ExprCode}
 use Rattle.qs_lower.specs.Statements.{Part, Tested, StmtCode, Way, Exits, Falls, leaves, is_break, before, redirected, next_falls, tested_behind, of_before, of_ways, of_both}
@@ -10,14 +11,10 @@ pub joined_ends : (ss : List StmtCode) (last : StmtCode) → (joined_before ss l
 joined_ends [] last = refl
 joined_ends (s ∷ ss) last = joined_ends ss last
 
-or_assoc : (a b c : Bool) → (a || (b || c)) ≡ ((a || b) || c)
-or_assoc true b c = refl
-or_assoc false b c = refl
-
 pub joined_breaks : (ss : List StmtCode) (last : StmtCode) → (joined_before ss last).breaks ≡ (some_breaks ss || last.breaks)
 joined_breaks [] last = refl
 joined_breaks (s ∷ ss) last =
-    ap (λ (b : Bool). s.breaks || b) (joined_breaks ss last) ∙ or_assoc s.breaks (some_breaks ss) last.breaks
+    ap (λ (b : Bool). s.breaks || b) (joined_breaks ss last) ∙ sym (or_assoc s.breaks (some_breaks ss) last.breaks)
 
 pub joined_used : (ss : List StmtCode) (last : StmtCode) → (joined_before ss last).used ≡ max (most_used ss) last.used
 joined_used [] last = grind arith

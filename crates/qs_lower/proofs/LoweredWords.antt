@@ -3,6 +3,7 @@ use Rattle.std.proofs.Common.{◌≡◌, ℕ, ◌+◌, ◌%◌, ◌^◌, ◌≤�
 use Rattle.std.specs.Prelude.{nat_lt, nat_le, if◌then◌else◌, sum_by}
 use Rattle.std.proofs.lemmas.Bool.Decides.{nat_tests}
 use Rattle.std.proofs.lemmas.List.Sums.{sum_by-cons}
+use Rattle.std.proofs.lemmas.Bool.{and_parts}
 use Rattle.qs_memory.specs.Partial.{◌>>=◌}
 use Rattle.qs_memory.specs.Sizes.{largest_size}
 use Rattle.qs_memory.specs.Scalars.{is_integer, same_scalar}
@@ -23,7 +24,6 @@ use Rattle.qs_core.specs.Sizes as counts
 use Rattle.qs_core.specs.Sizes.{is_operand, is_block, read_words, as_operand, as_address, as_condition, as_assigned, converted_words, use_of, taken_words, address_words, assigned_words, all_taken_words}
 use Rattle.qs_core.specs.declared.numbers.BlockId.{BlockId}
 use Rattle.qs_core.specs.declared.numbers.BlockId.TheVariants as blocks
-use Rattle.qs_core.proofs.FitLaws.{both}
 use Rattle.qs_tac.specs.Trees.{TacFunctionTree}
 use Rattle.qs_tac.specs.Sizes as sizes
 use Rattle.qs_tac.specs.Sizes.{is_near, constant_words, operand_words}
@@ -307,20 +307,20 @@ module _ (c : CoreUnitTree) (g : CoreFunctionTree) (v : ℕ) (f : TacFunctionTre
   expr_words (core.temporary s k) h = any_operand (Temporary (v + k)) (omega arith) (omega arith) (omega arith) (omega arith)
   expr_words (core.address_of b) h = any_operand (block_operand b) (omega arith) (omega arith) (omega arith) (omega arith)
   expr_words (core.load s a) h =
-      load_within f free near (address_words a) s (lowered v a) (expr_words a (both (expr_fits c g a) _ h).0).address_fits (omega arith) (omega arith) (omega arith) (omega arith)
+      load_within f free near (address_words a) s (lowered v a) (expr_words a (and_parts (expr_fits c g a) _ h).0).address_fits (omega arith) (omega arith) (omega arith) (omega arith)
   expr_words (core.member offset a) h =
-      let two = both _ (nat_le offset largest_size) h in
+      let two = and_parts _ (nat_le offset largest_size) h in
       let same : further None offset ≡ offset = omega arith in
       let w : is_word (further None offset) ≡ true = ap is_word same ∙ small_word offset two.1 in
       widened f free near (of_member offset (lowered v a)) (omega arith) (omega arith) (omega arith) (omega arith)
-      (member_by (is_block a) a offset refl w (expr_words a (both (expr_fits c g a) _ two.0).0))
+      (member_by (is_block a) a offset refl w (expr_words a (and_parts (expr_fits c g a) _ two.0).0))
   expr_words (core.unary op a) h =
-      let first = expr_words a (both (expr_fits c g a) _ h).0 in
+      let first = expr_words a (and_parts (expr_fits c g a) _ h).0 in
       let m = some_taken a in
       simple_or_in ((lowered v a).simple >>= unary_of op) _ (λ p same. any_operand p (omega arith) (omega arith) (omega arith) (omega arith))
       (compound_in op (gives_integer a) (gives_truth a) a (lowered v a) first)
   expr_words (core.binary op a b) h =
-      let two = both (expr_fits c g a) (expr_fits c g b) (both _ (binary_takes op _ _) h).0 in
+      let two = and_parts (expr_fits c g a) (expr_fits c g b) (and_parts _ (binary_takes op _ _) h).0 in
       let first = expr_words a two.0 in
       let second = expr_words b two.1 in
       let m = some_taken a in
@@ -335,18 +335,18 @@ module _ (c : CoreUnitTree) (g : CoreFunctionTree) (v : ℕ) (f : TacFunctionTre
           let n = some_taken b in
           constant_in p e (omega arith) (omega arith) (omega arith) (omega arith)
   expr_words (core.conversion s a) h =
-      let two = both (expr_fits c g a) (conversion_takes s (type_of a)) h in
+      let two = and_parts (expr_fits c g a) (conversion_takes s (type_of a)) h in
       let types = converts s (type_of a) two.1 in
       conversion_by (is_operand a) s (is_idle s a) a (lowered v a) refl types.to (integers c g v a two.0 types.from) (operands_there c g v a two.0) (expr_words a two.0)
   expr_words (core.logical_and a b) h =
-      let two = both (expr_fits c g a) (expr_fits c g b) h in
+      let two = and_parts (expr_fits c g a) (expr_fits c g b) h in
       and_in (lowered v a).known (gives_truth b) a b (lowered v a) (lowered v b) (expr_words a two.0) (expr_words b two.1)
   expr_words (core.logical_or a b) h =
-      let two = both (expr_fits c g a) (expr_fits c g b) h in
+      let two = and_parts (expr_fits c g a) (expr_fits c g b) h in
       or_in (lowered v a).known (gives_truth b) a b (lowered v a) (lowered v b) (expr_words a two.0) (expr_words b two.1)
   expr_words (core.conditional q a b) h =
-      let three = both _ (expr_fits c g b) (both _ (same_scalar (type_of a) (type_of b)) h).0 in
-      let two = both (expr_fits c g q) (expr_fits c g a) three.0 in
+      let three = and_parts _ (expr_fits c g b) (and_parts _ (same_scalar (type_of a) (type_of b)) h).0 in
+      let two = and_parts (expr_fits c g q) (expr_fits c g a) three.0 in
       choice_in (lowered v q).known q a b (lowered v q) (lowered v a) (lowered v b) (expr_words q two.0) (expr_words a two.1) (expr_words b three.1)
 
   -- ---- arguments
@@ -356,7 +356,7 @@ module _ (c : CoreUnitTree) (g : CoreFunctionTree) (v : ℕ) (f : TacFunctionTre
       → code_words f free near (all_code (map (lowered v) es) t at) + sum_by (operand_words f) (all_operands (map (lowered v) es) t) ≤ all_taken_words es
   arguments_words [] h t at le = omega arith
   arguments_words (e ∷ es) h t at le =
-      let two = both (expr_fits c g e) (exprs_fit c g es) h in
+      let two = and_parts (expr_fits c g e) (exprs_fit c g es) h in
       let d = lowered v e in
       let first = (expr_words e two.0).taken_fits t at le in
       let rest = arguments_words es two.1 (t + own d) (at + size_of d) (omega arith) in

@@ -1,8 +1,9 @@
 -- The operands and constants that expressions become fit, and so does the code of every expression.
-use Rattle.std.proofs.Common.{◌≡◌, ℕ, ◌+◌, ◌*◌, ◌<◌, ◌≤◌, ◌%◌, ◌^◌, Bool, true, false, List, [], ◌∷◌, length, map, Option, Some, None, refl, sym, ap, subst, arith}
+use Rattle.std.proofs.Common.{◌≡◌, ℕ, ◌+◌, ◌*◌, ◌<◌, ◌≤◌, ◌%◌, ◌^◌, Bool, true, false, List, [], ◌∷◌, length, map, Option, Some, None, refl, sym, ap, subst, arith, lt-ltb}
 use Rattle.std.specs.Prelude.{◌&&◌, nat_le, nat_lt, not}
 use Rattle.std.specs.List.{list_all}
 use Rattle.std.proofs.lemmas.Bool.Decides.{nat_tests}
+use Rattle.std.proofs.lemmas.Bool.{and_parts, and_from}
 use Rattle.qs_base.proofs.WordLaws.{sub-below, xor-below}
 use Rattle.qs_memory.specs.Partial.{◌>>=◌, only_if}
 use Rattle.qs_memory.specs.Values.{integer, has_type}
@@ -28,7 +29,6 @@ use Rattle.qs_core.specs.Trees as core
 use Rattle.qs_core.specs.Trees.{CoreExprTree, CoreFunctionTree, CoreUnitTree}
 use Rattle.qs_core.specs.Interfaces.{interface_of}
 use Rattle.qs_core.specs.Fits.{block_fits, expr_fits, exprs_fit, pointer_fits}
-use Rattle.qs_core.proofs.FitLaws.{both}
 use Rattle.qs_tac.specs.Trees.{TacFunctionTree, TacUnitTree}
 use Rattle.qs_tac.specs.declared.operands.Operand.{Operand}
 use Rattle.qs_tac.specs.declared.operands.Operand.TheVariants.{Temporary, Integer, Byte, Constant, Null, Local, Data}
@@ -37,7 +37,7 @@ use Rattle.qs_lower_expressions.specs.Operands.{constant, converted, truth_of, t
 use Rattle.qs_lower_expressions.specs.Expressions.{lowered, size_of, code_of, own, all_size, all_code, all_operands, all_used}
 use Rattle.qs_lower.specs.Units.{free_from}
 use Rattle.qs_lower.proofs.PresenceLaws.{variable_there, temporary_there}
-use Rattle.qs_lower_expressions.proofs.ExprFits.{together, below, Fit, fit_both, ExprFits, code_of_fits, operand_of_fits, operand_fits_all, load_fits, member_fits, compound_fits, simple_or_fits, if_fits, convert_fits, of_operation_fits, stepped_fits, and_fits, or_fits, conditional_fits}
+use Rattle.qs_lower_expressions.proofs.ExprFits.{Fit, fit_both, ExprFits, code_of_fits, operand_of_fits, operand_fits_all, load_fits, member_fits, compound_fits, simple_or_fits, if_fits, convert_fits, of_operation_fits, stepped_fits, and_fits, or_fits, conditional_fits}
 
 -- ---- constants
 
@@ -64,8 +64,8 @@ calculated op s m n k hm hn h =
 element_of : (op : BinaryOperation) (s t : Scalar) → binary_takes op s t ≡ true → operation_fits op ≡ true
 element_of (binaries.Arithmetic op s) t r h = refl
 element_of (binaries.Compare op s) t r h = refl
-element_of (binaries.Move direction s element) t r h = (both _ _ h).1
-element_of (binaries.Difference element) t r h = (both _ _ h).1
+element_of (binaries.Move direction s element) t r h = (and_parts _ _ h).1
+element_of (binaries.Difference element) t r h = (and_parts _ _ h).1
 element_of (binaries.ComparePointers op) t r h = refl
 
 step_word : (op : BinaryOperation) (right : Option Operand) (bytes : ℕ) → constant_step op right ≡ Some bytes → is_word bytes ≡ true
@@ -79,7 +79,7 @@ step_word (binaries.Move Up s element) (Some o) bytes h = by_constant (constant 
     by_constant None h = cc
     by_constant (Some n) h =
         let c = only_if_value (is_upward s n && is_word (n * element)) (n * element) bytes h in
-        subst (λ (k : ℕ). is_word k ≡ true) c.1 (both (is_upward s n) (is_word (n * element)) c.0).1
+        subst (λ (k : ℕ). is_word k ≡ true) c.1 (and_parts (is_upward s n) (is_word (n * element)) c.0).1
 step_word (binaries.Move Down s element) right bytes h = cc
 step_word (binaries.Difference element) right bytes h = cc
 step_word (binaries.ComparePointers op) right bytes h = cc
@@ -99,7 +99,7 @@ module _ (u : TacUnitTree) (f : TacFunctionTree) where
   constant_word (Data i) h = tt
 
   byte_word : (n : ℕ) → is_word (n % 2 ^ 8) ≡ true
-  byte_word n = let small : n % 2 ^ 8 < 2 ^ 32 = omega arith in below small
+  byte_word n = let small : n % 2 ^ 8 < 2 ^ 32 = omega arith in lt-ltb _ _ small
 
   converted_one : (s : Scalar) (o : Operand) → operand_fits u f o ≡ true → option_fits u f (converted s o) ≡ true
   converted_one scalars.Char (Temporary t) h = h
@@ -137,7 +137,7 @@ module _ (u : TacUnitTree) (f : TacFunctionTree) where
 
   of_word : (g : ℕ → ℕ) → ((n : ℕ) → n < 2 ^ 32 → g n < 2 ^ 32) → (k : Option ℕ) → AreWords k → option_fits u f (k >>= λ n. Some (Constant (g n))) ≡ true
   of_word g small None h = refl
-  of_word g small (Some n) h = below (small n (word_of h))
+  of_word g small (Some n) h = lt-ltb _ _ (small n (word_of h))
 
   of_truth_value : (g : Bool → Bool) (k : Option Bool) → option_fits u f (k >>= λ b. Some (truth_operand (g b))) ≡ true
   of_truth_value g None = refl
@@ -159,7 +159,7 @@ module _ (u : TacUnitTree) (f : TacFunctionTree) where
     where
       by_result : (o : Option ℕ) → calculate op s m n ≡ o → option_fits u f (o >>= λ x. Some (Constant x)) ≡ true
       by_result None is = refl
-      by_result (Some x) is = below (calculated op s m n x (word_of h) (word_of k) is)
+      by_result (Some x) is = lt-ltb _ _ (calculated op s m n x (word_of h) (word_of k) is)
   binary_one (binaries.Compare op s) m n h k = truth_word (compares op s m n) u f
   binary_one (binaries.Move direction s element) m n h k = refl
   binary_one (binaries.Difference element) m n h k = refl
@@ -195,10 +195,10 @@ module _ (c : CoreUnitTree) (g : CoreFunctionTree) (u : TacUnitTree) (f : TacFun
   block_operand_fits (blocks.Data i) h = subst (λ (n : ℕ). nat_lt i n ≡ true) (sym has.data_blocks) h
 
   variable_in : (x : ℕ) → x < length g.variables → nat_lt x f.temporaries ≡ true
-  variable_in x h = let numbers = has.numbers in let there : x < f.temporaries = omega (arith, numbers) in below there
+  variable_in x h = let numbers = has.numbers in let there : x < f.temporaries = omega (arith, numbers) in lt-ltb _ _ there
 
   temporary_in : (k : ℕ) → k < length g.temporaries → nat_lt (length g.variables + k) f.temporaries ≡ true
-  temporary_in k h = let numbers = has.numbers in let there : length g.variables + k < f.temporaries = omega (arith, numbers) in below there
+  temporary_in k h = let numbers = has.numbers in let there : length g.variables + k < f.temporaries = omega (arith, numbers) in lt-ltb _ _ there
 
   pub lowered_fits : (e : CoreExprTree) → expr_fits c g e ≡ true → ExprFits u f (lowered v e)
   lowered_fits (core.literal s n) h = operand_fits_all u f (Constant n) (literal_word s n h)
@@ -206,39 +206,39 @@ module _ (c : CoreUnitTree) (g : CoreFunctionTree) (u : TacUnitTree) (f : TacFun
   lowered_fits (core.variable s x) h = operand_fits_all u f (Temporary x) (variable_in x (variable_there g x s h))
   lowered_fits (core.temporary s k) h = operand_fits_all u f (Temporary (v + k)) (temporary_in k (temporary_there g k s h))
   lowered_fits (core.address_of b) h = operand_fits_all u f (block_operand b) (block_operand_fits b h)
-  lowered_fits (core.load s a) h = load_fits u f s (lowered v a) (lowered_fits a (both (expr_fits c g a) _ h).0)
+  lowered_fits (core.load s a) h = load_fits u f s (lowered v a) (lowered_fits a (and_parts (expr_fits c g a) _ h).0)
   lowered_fits (core.member offset a) h =
-      let two = both _ (nat_le offset largest_size) h in
-      member_fits u f (lowered v a) offset (small_word offset two.1) (lowered_fits a (both (expr_fits c g a) _ two.0).0)
+      let two = and_parts _ (nat_le offset largest_size) h in
+      member_fits u f (lowered v a) offset (small_word offset two.1) (lowered_fits a (and_parts (expr_fits c g a) _ two.0).0)
   lowered_fits (core.unary op a) h =
-      let first = lowered_fits a (both (expr_fits c g a) _ h).0 in
+      let first = lowered_fits a (and_parts (expr_fits c g a) _ h).0 in
       simple_or_fits u f ((lowered v a).simple >>= unary_of op) _ (unary_fits u f op (lowered v a).simple first.simple)
       (compound_fits u f op (gives_integer a) (gives_truth a) (lowered v a) first)
   lowered_fits (core.binary op a b) h =
-      let three = both _ (binary_takes op _ _) h in
-      let two = both (expr_fits c g a) (expr_fits c g b) three.0 in
+      let three = and_parts _ (binary_takes op _ _) h in
+      let two = and_parts (expr_fits c g a) (expr_fits c g b) three.0 in
       let first = lowered_fits a two.0 in
       let second = lowered_fits b two.1 in
       simple_or_fits u f (folded op (lowered v a).simple (lowered v b).simple) _ (folded_fits u f op (lowered v a).simple (lowered v b).simple first.simple second.simple)
       (stepped_fits u f (constant_step op (lowered v b).simple) (lowered v a) _ (step_word op (lowered v b).simple) first
       (of_operation_fits u f op (lowered v a) (lowered v b) (element_of op _ _ three.1) first second))
   lowered_fits (core.conversion s a) h =
-      let first = lowered_fits a (both (expr_fits c g a) _ h).0 in
+      let first = lowered_fits a (and_parts (expr_fits c g a) _ h).0 in
       simple_or_fits u f ((lowered v a).simple >>= converted s) _ (converted_fits u f s (lowered v a).simple first.simple)
       (if_fits u f (is_idle s a) (lowered v a) _ first (convert_fits u f s (lowered v a) (converted_one u f s) first))
   lowered_fits (core.logical_and a b) h =
-      let two = both (expr_fits c g a) (expr_fits c g b) h in
+      let two = and_parts (expr_fits c g a) (expr_fits c g b) h in
       and_fits u f (lowered v a).known (gives_truth b) (lowered v a) (lowered v b) (lowered_fits a two.0) (lowered_fits b two.1)
   lowered_fits (core.logical_or a b) h =
-      let two = both (expr_fits c g a) (expr_fits c g b) h in
+      let two = and_parts (expr_fits c g a) (expr_fits c g b) h in
       or_fits u f (lowered v a).known (gives_truth b) (lowered v a) (lowered v b) (lowered_fits a two.0) (lowered_fits b two.1)
   lowered_fits (core.conditional q a b) h =
-      let three = both _ (expr_fits c g b) (both _ _ h).0 in
-      let two = both (expr_fits c g q) (expr_fits c g a) three.0 in
+      let three = and_parts _ (expr_fits c g b) (and_parts _ _ h).0 in
+      let two = and_parts (expr_fits c g q) (expr_fits c g a) three.0 in
       conditional_fits u f (lowered v q).known (lowered v q) (lowered v a) (lowered v b) (lowered_fits q two.0) (lowered_fits a two.1) (lowered_fits b three.1)
 
   pub pointer_lowered : (a : CoreExprTree) → pointer_fits c g a ≡ true → ExprFits u f (lowered v a)
-  pointer_lowered a h = lowered_fits a (both (expr_fits c g a) _ h).0
+  pointer_lowered a h = lowered_fits a (and_parts (expr_fits c g a) _ h).0
 
   -- ---- arguments
 
@@ -247,7 +247,7 @@ module _ (c : CoreUnitTree) (g : CoreFunctionTree) (u : TacUnitTree) (f : TacFun
       → at + all_size (map (lowered v) es) < length f.code → Fit u f (all_code (map (lowered v) es) t at)
   arguments_fit [] h t at used room = refl
   arguments_fit (e ∷ es) h t at used room =
-      let two = both (expr_fits c g e) (exprs_fit c g es) h in
+      let two = and_parts (expr_fits c g e) (exprs_fit c g es) h in
       fit_both u f (code_of (lowered v e) t at) (all_code (map (lowered v) es) (t + own (lowered v e)) (at + size_of (lowered v e)))
       (code_of_fits u f (lowered v e) (lowered_fits e two.0) t at (omega (arith, used)) (omega (arith, room)))
       (arguments_fit es two.1 (t + own (lowered v e)) (at + size_of (lowered v e)) (omega (arith, used)) (omega (arith, room)))
@@ -257,8 +257,8 @@ module _ (c : CoreUnitTree) (g : CoreFunctionTree) (u : TacUnitTree) (f : TacFun
       → list_all (operand_fits u f) (all_operands (map (lowered v) es) t) ≡ true
   argument_operands [] h t used = refl
   argument_operands (e ∷ es) h t used =
-      let two = both (expr_fits c g e) (exprs_fit c g es) h in
-      together (operand_of_fits u f (lowered v e) (lowered_fits e two.0) t (omega (arith, used)))
+      let two = and_parts (expr_fits c g e) (exprs_fit c g es) h in
+      and_from _ _ (operand_of_fits u f (lowered v e) (lowered_fits e two.0) t (omega (arith, used)))
       (argument_operands es two.1 (t + own (lowered v e)) (omega (arith, used)))
 
   pub argument_count : (es : List CoreExprTree) (t : ℕ) → length (all_operands (map (lowered v) es) t) ≡ length es

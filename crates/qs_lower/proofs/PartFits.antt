@@ -1,6 +1,7 @@
 -- The code of parts of statements fits: of what goes on, of one part behind another, and of branches.
 use Rattle.std.proofs.Common.{◌≡◌, ℕ, ◌+◌, ◌<◌, ◌≤◌, Bool, true, false, List, ◌++◌, length, Option, Some, None, refl, sym, ap, ◌∙◌, subst, arith}
 use Rattle.std.specs.Prelude.{◌&&◌, ◌||◌, not, if◌then◌else◌}
+use Rattle.std.proofs.lemmas.Bool.{or_right}
 use Rattle.qs_tac.specs.Trees.{InstructionTree, TacFunctionTree, TacUnitTree}
 use Rattle.qs_lower_expressions.specs.Exits.{Exit, falls, goes, is_fall, settled, exit_size, exit_code}
 use Rattle.qs_lower_expressions.specs.Expressions.{ExprCode}
@@ -308,10 +309,6 @@ module _ (u : TacUnitTree) (f : TacFunctionTree) where
       fits = λ x at room g. h.fits (exits x) at (room_of x at room) (reach_of x at g);
     }
 
-  or_true : (b c : Bool) → c ≡ true → (b || c) ≡ true
-  or_true true c h = refl
-  or_true false c h = h
-
   more_breaks : (b c q : Bool) (p : Part) → PartFits (taken false c q) p → PartFits (taken false (b || c) q) p
   more_breaks b c q p h = record {
     starts = λ x at room g. h.starts x at room (record { next = g.next; on_break = follows_right b c x.on_break _ g.on_break; on_continue = g.on_continue });
@@ -326,7 +323,7 @@ module _ (u : TacUnitTree) (f : TacFunctionTree) where
     test = k.test;
     used = k.used;
     rest = more_breaks b c q d.rest k.rest;
-    breaks = or_true b c k.breaks;
+    breaks = or_right b c k.breaks;
   }
 
   joined_stmt_fits : (t : ℕ) (q : Bool) (a b : StmtCode) → StmtFits t q a → StmtFits t q b → StmtFits t q (of_joined a b)
@@ -551,7 +548,7 @@ module _ (u : TacUnitTree) (f : TacFunctionTree) where
     test = g;
     used = used;
     rest = fewer_breaks b c q rest h;
-    breaks = or_true b c hw;
+    breaks = or_right b c hw;
   }
   test_of_fits t e i eb b c q rest (Some to_continue) g used hw h = tt
 

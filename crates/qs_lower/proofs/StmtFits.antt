@@ -1,7 +1,8 @@
 -- The code of loops and of statements fits.
-use Rattle.std.proofs.Common.{◌≡◌, ℕ, ◌+◌, ◌<◌, ◌≤◌, Bool, true, false, List, [], ◌∷◌, ◌++◌, length, map, Option, Some, None, refl, ap, subst, arith}
+use Rattle.std.proofs.Common.{◌≡◌, ℕ, ◌+◌, ◌<◌, ◌≤◌, Bool, true, false, List, [], ◌∷◌, ◌++◌, length, map, Option, Some, None, refl, ap, subst, arith, lt-ltb}
 use Rattle.std.specs.Prelude.{◌&&◌, ◌||◌, not, nat_le, if◌then◌else◌}
 use Rattle.std.proofs.lemmas.List.{length-map}
+use Rattle.std.proofs.lemmas.Bool.{and_parts, or_from, and_from}
 use Rattle.qs_memory.specs.Memory.{BlankTree}
 use Rattle.qs_memory.specs.Sizes.{largest_size, blank_size}
 use Rattle.qs_memory.specs.Scalars.{is_type, same_scalars}
@@ -16,7 +17,6 @@ use Rattle.qs_core.specs.declared.numbers.Target.TheVariants as targets
 use Rattle.qs_core.specs.Expressions.{type_of}
 use Rattle.qs_core.specs.Interfaces.{target_type, interface_of}
 use Rattle.qs_core.specs.Fits.{expr_fits, exprs_fit, pointer_fits, destination_fits, call_fits, stmt_fits, stmts_fit}
-use Rattle.qs_core.proofs.FitLaws.{both}
 use Rattle.qs_tac.specs.Trees.{store, copy, fill, call, jump, return, TacFunctionTree, TacUnitTree}
 use Rattle.qs_tac.specs.Fits as tac
 use Rattle.qs_tac.specs.Fits.{is_word}
@@ -24,13 +24,9 @@ use Rattle.qs_lower_expressions.specs.Exits.{Exit, falls, goes, is_fall, settled
 use Rattle.qs_lower_expressions.specs.Expressions.{ExprCode, code_of, operand_of, address_at, lowered, all_code, all_operands}
 use Rattle.qs_lower.specs.Statements.{Exits, next_falls, to_next, to_break, to_continue, Part, Tested, StmtCode, target_of, taken_by, of_store, of_copy, of_fill, of_return, of_plain_return, Way, of_before, of_ways, of_branch, is_next, body_falls, body_exits, front_exits, step_exits, test_last, last_falls, last_exits, body_first, body_alone, plain_loop, loop_part, of_loop, stmt_code, stmts_code}
 use Rattle.qs_lower.proofs.PresenceLaws.{variable_there, temporary_there}
-use Rattle.qs_lower_expressions.proofs.ExprFits.{together, below, Fit, fit_cons, fit_one, fit_both, Lands, Behind, lands_behind, lands_at, settled_lands, test_starts, ExprFits, code_of_fits, operand_of_fits, address_at_fits}
+use Rattle.qs_lower_expressions.proofs.ExprFits.{Fit, fit_cons, fit_one, fit_both, Lands, Behind, lands_behind, lands_at, settled_lands, test_starts, ExprFits, code_of_fits, operand_of_fits, address_at_fits}
 use Rattle.qs_lower.proofs.OperandFits.{small_word, Has, lowered_fits, pointer_lowered, arguments_fit, argument_operands, argument_count}
 use Rattle.qs_lower.proofs.PartFits.{taken, AllFollow, AllReach, Follows, Reaches, PartFits, TestedFits, OptionFits, Fits, follows, follows_settled, reaches, reaches_settled, reach_follows, by_way_fits, straight_fits, both_fits, branch_fits}
-
-neither : {a b : Bool} → a ≡ false → b ≡ false → (a || b) ≡ false
-neither {a = false} h k = k
-neither {a = true} h k = cc
 
 module _ (u : TacUnitTree) (f : TacFunctionTree) where
   -- ---- loops
@@ -161,7 +157,7 @@ module _ (u : TacUnitTree) (f : TacFunctionTree) where
 
           loop_fits : Fit u f ((test_last t d step).code x at)
           loop_fits =
-              fit_cons u f (jump (d.front.entry front_at)) (d.rest.code exits_of_rest rest_at ++ (step.code exits_of_step step_at ++ (d.front.code exits_of_front front_at ++ d.test.test (goes (d.rest.entry rest_at)) x.next t test_at))) (below head_in)
+              fit_cons u f (jump (d.front.entry front_at)) (d.rest.code exits_of_rest rest_at ++ (step.code exits_of_step step_at ++ (d.front.code exits_of_front front_at ++ d.test.test (goes (d.rest.entry rest_at)) x.next t test_at))) (lt-ltb _ _ head_in)
               (fit_both u f (d.rest.code exits_of_rest rest_at)
               (step.code exits_of_step step_at ++ (d.front.code exits_of_front front_at ++ d.test.test (goes (d.rest.entry rest_at)) x.next t test_at)) rest_fits
               (fit_both u f (step.code exits_of_step step_at) (d.front.code exits_of_front front_at ++ d.test.test (goes (d.rest.entry rest_at)) x.next t test_at) step_fits
@@ -347,7 +343,7 @@ module _ (u : TacUnitTree) (f : TacFunctionTree) where
       (fit_both u f (code_of e (t + p.base_own) (at + p.base_size)) (store s (address_at p t) (operand_of e (t + p.base_own)) ∷ [])
       (code_of_fits u f e k (t + p.base_own) (at + p.base_size) (omega (arith, used)) (omega (arith, room)))
       (fit_one u f (store s (address_at p t) (operand_of e (t + p.base_own)))
-      (together (address_at_fits u f p h t (omega (arith, used))) (operand_of_fits u f e k (t + p.base_own) (omega (arith, used)))))))
+      (and_from _ _ (address_at_fits u f p h t (omega (arith, used))) (operand_of_fits u f e k (t + p.base_own) (omega (arith, used)))))))
 
   copy_fits :
       (t : ℕ) (q : Bool) (size alignment : ℕ) (p e : ExprCode) → is_word size ≡ true → nat_le 1 alignment ≡ true → ExprFits u f p → ExprFits u f e
@@ -360,7 +356,7 @@ module _ (u : TacUnitTree) (f : TacFunctionTree) where
       (fit_both u f (e.base_code (t + p.base_own) (at + p.base_size)) (copy size alignment (address_at p t) (address_at e (t + p.base_own)) ∷ [])
       (k.base_code (t + p.base_own) (at + p.base_size) (omega (arith, used)) (omega (arith, room)))
       (fit_one u f (copy size alignment (address_at p t) (address_at e (t + p.base_own)))
-      (together (together (together size_is alignment_is) (address_at_fits u f p h t (omega (arith, used))))
+      (and_from _ _ (and_from _ _ (and_from _ _ size_is alignment_is) (address_at_fits u f p h t (omega (arith, used))))
       (address_at_fits u f e k (t + p.base_own) (omega (arith, used)))))))
 
   fill_fits : (t : ℕ) (q : Bool) (blank : BlankTree) (p : ExprCode) → is_word (blank_size blank) ≡ true → ExprFits u f p → Fits u f t q (of_fill t blank p)
@@ -368,7 +364,7 @@ module _ (u : TacUnitTree) (f : TacFunctionTree) where
       straight_fits u f t q _ _ _
       (λ used at room.
       fit_both u f (p.base_code t at) (fill blank (address_at p t) ∷ []) (h.base_code t at used (omega (arith, room)))
-      (fit_one u f (fill blank (address_at p t)) (together size_is (address_at_fits u f p h t used))))
+      (fit_one u f (fill blank (address_at p t)) (and_from _ _ size_is (address_at_fits u f p h t used))))
 
 -- ---- statements
 
@@ -386,10 +382,10 @@ module _ (c : CoreUnitTree) (g : CoreFunctionTree) (u : TacUnitTree) (f : TacFun
   taken_in None r es h = refl
   taken_in (Some k) None es h = cc
   taken_in (Some k) (Some s) es h =
-      let there = temporary_there g k s (both _ _ h).0 in
+      let there = temporary_there g k s (and_parts _ _ h).0 in
       let numbers = has.numbers in
       let within : v + k < f.temporaries = omega (arith, there, numbers) in
-      below within
+      lt-ltb _ _ within
 
   call_in :
       (x : Option ℕ) (to : Callee) (es : List CoreExprTree) (t : ℕ) → call_fits g x (signature_of (interface_of c) to) es ≡ true
@@ -401,64 +397,64 @@ module _ (c : CoreUnitTree) (g : CoreFunctionTree) (u : TacUnitTree) (f : TacFun
           → (tac.taken_fits f (taken_by v x) && tac.callee_fits u to (all_operands (map (lowered v) es) t)) ≡ true
       by_signature None is h = cc
       by_signature (Some s) is h =
-          let two = both (same_scalars (map type_of es) s.parameters) (destination_fits g s.result_type x es) h in
+          let two = and_parts (same_scalars (map type_of es) s.parameters) (destination_fits g s.result_type x es) h in
           let many : length (map type_of es) ≡ length s.parameters = ap length (scalars_same (map type_of es) s.parameters two.0) in
           let same = length-map es type_of in
           let count = argument_count c g u f has es t in
-          together (taken_in x s.result_type es two.1) (has.callee to s is (all_operands (map (lowered v) es) t) (omega (arith, many, same, count)))
+          and_from _ _ (taken_in x s.result_type es two.1) (has.callee to s is (all_operands (map (lowered v) es) t) (omega (arith, many, same, count)))
 
   mutual
     pub stmt_fits_all : (t : ℕ) (b q : Bool) (s : CoreStmtTree) → stmt_fits c g b q s ≡ true → Fits u f t q (stmt_code v t s)
     stmt_fits_all t b q core.skip h = by_way_fits u f t q to_next refl
     stmt_fits_all t b q (core.seq ss) h = stmts_fit_all t b q ss h
     stmt_fits_all t b q (core.assign x e) h =
-        let two = both (expr_fits c g e) _ h in
+        let two = and_parts (expr_fits c g e) _ h in
         let first = lowered_fits c g u f has e two.0 in
         straight_fits u f t q _ _ _ (λ used at room. first.into (target_of v x) t at (target_in x _ two.1) used room)
     stmt_fits_all t b q (core.store s a e) h =
-        let two = both (pointer_fits c g a) (expr_fits c g e) (both _ _ h).0 in
+        let two = and_parts (pointer_fits c g a) (expr_fits c g e) (and_parts _ _ h).0 in
         store_fits u f t q s (lowered v a) (lowered v e) (pointer_lowered c g u f has a two.0) (lowered_fits c g u f has e two.1)
     stmt_fits_all t b q (core.copy size alignment a e) h =
-        let size_is = both _ (nat_le size largest_size) h in
-        let alignment_is = both _ (nat_le 1 alignment) size_is.0 in
-        let two = both (pointer_fits c g a) (pointer_fits c g e) alignment_is.0 in
+        let size_is = and_parts _ (nat_le size largest_size) h in
+        let alignment_is = and_parts _ (nat_le 1 alignment) size_is.0 in
+        let two = and_parts (pointer_fits c g a) (pointer_fits c g e) alignment_is.0 in
         copy_fits u f t q size alignment (lowered v a) (lowered v e) (small_word size size_is.1) alignment_is.1
         (pointer_lowered c g u f has a two.0) (pointer_lowered c g u f has e two.1)
     stmt_fits_all t b q (core.fill blank a) h =
-        let two = both (pointer_fits c g a) (nat_le (blank_size blank) largest_size) h in
+        let two = and_parts (pointer_fits c g a) (nat_le (blank_size blank) largest_size) h in
         fill_fits u f t q blank (lowered v a) (small_word (blank_size blank) two.1) (pointer_lowered c g u f has a two.0)
     stmt_fits_all t b q (core.call x to es) h =
-        let two = both (exprs_fit c g es) _ h in
+        let two = and_parts (exprs_fit c g es) _ h in
         straight_fits u f t q _ _ _
         (λ used at room.
         fit_both u f (all_code (map (lowered v) es) t at) (call (taken_by v x) to (all_operands (map (lowered v) es) t) ∷ [])
         (arguments_fit c g u f has es two.0 t at used (omega (arith, room)))
         (fit_one u f (call (taken_by v x) to (all_operands (map (lowered v) es) t))
-        (together (call_in x to es t two.1) (argument_operands c g u f has es two.0 t used))))
+        (and_from _ _ (call_in x to es t two.1) (argument_operands c g u f has es two.0 t used))))
     stmt_fits_all t b q (core.branch e s r) h =
-        let two = both _ (stmt_fits c g b q r) h in
-        let one = both (expr_fits c g e) (stmt_fits c g b q s) two.0 in
+        let two = and_parts _ (stmt_fits c g b q r) h in
+        let one = and_parts (expr_fits c g e) (stmt_fits c g b q s) two.0 in
         branch_fits u f t q (lowered v e).known (lowered v e) (stmt_code v t s) (stmt_code v t r) (lowered_fits c g u f has e one.0)
         (stmt_fits_all t b q s one.1) (stmt_fits_all t b q r two.1)
     stmt_fits_all t b q (core.loop body step) h =
-        let two = both (stmt_fits c g true true body) (stmt_fits c g true false step) h in
+        let two = and_parts (stmt_fits c g true true body) (stmt_fits c g true false step) h in
         loop_stmt_fits u f t q (stmt_code v t body) (stmt_code v t step) (stmt_fits_all t true true body two.0) (stmt_fits_all t true false step two.1)
     stmt_fits_all t b q core.break h = by_way_fits u f t q to_break refl
     stmt_fits_all t b q core.continue h = by_way_fits u f t q to_continue h
     stmt_fits_all t b q (core.return None) h = plain_return_fits u f t q
-    stmt_fits_all t b q (core.return (Some e)) h = return_fits u f t q (lowered v e) (lowered_fits c g u f has e (both (expr_fits c g e) _ h).0)
+    stmt_fits_all t b q (core.return (Some e)) h = return_fits u f t q (lowered v e) (lowered_fits c g u f has e (and_parts (expr_fits c g e) _ h).0)
 
     pub stmts_fit_all : (t : ℕ) (b q : Bool) (ss : CoreStmts) → stmts_fit c g b q ss ≡ true → Fits u f t q (stmts_code v t ss)
     stmts_fit_all t b q no_stmts h = by_way_fits u f t q to_next refl
-    stmts_fit_all t b q (stmt_and s no_stmts) h = stmt_fits_all t b q s (both (stmt_fits c g b q s) _ h).0
+    stmts_fit_all t b q (stmt_and s no_stmts) h = stmt_fits_all t b q s (and_parts (stmt_fits c g b q s) _ h).0
     stmts_fit_all t b q (stmt_and s (stmt_and r ss)) h =
-        let two = both (stmt_fits c g b q s) (stmts_fit c g b q (stmt_and r ss)) h in
+        let two = and_parts (stmt_fits c g b q s) (stmts_fit c g b q (stmt_and r ss)) h in
         both_fits u f t q (stmt_code v t s) (stmts_code v t (stmt_and r ss)) (stmt_fits_all t b q s two.0) (stmts_fit_all t b q (stmt_and r ss) two.1)
 
 -- ---- no break stands outside every loop
 
 branch_breaks : (known : Option Bool) (t : ℕ) (e : ExprCode) (a b : StmtCode) → a.breaks ≡ false → b.breaks ≡ false → (of_branch known t e a b).breaks ≡ false
-branch_breaks None t e a b h k = neither h k
+branch_breaks None t e a b h k = or_from _ _ h k
 branch_breaks (Some true) t e a b h k = h
 branch_breaks (Some false) t e a b h k = k
 
@@ -466,8 +462,8 @@ ways_break : (o w : Option Way) (a b : StmtCode) → a.breaks ≡ false → b.br
 ways_break None w a b h k = before_breaks b.way a b h k
   where
     before_breaks : (w : Option Way) (a b : StmtCode) → a.breaks ≡ false → b.breaks ≡ false → (of_before a w b).breaks ≡ false
-    before_breaks None a b h k = neither h k
-    before_breaks (Some w) a b h k = neither h k
+    before_breaks None a b h k = or_from _ _ h k
+    before_breaks (Some w) a b h k = or_from _ _ h k
 ways_break (Some o) w a b h k = k
 
 both_break : (e : Bool) (a b : StmtCode) → a.breaks ≡ false → b.breaks ≡ false → (if e then a else of_ways a.way a b).breaks ≡ false
@@ -484,8 +480,8 @@ mutual
   stmt_breaks c g v t q (core.fill blank a) h = refl
   stmt_breaks c g v t q (core.call x to es) h = refl
   stmt_breaks c g v t q (core.branch e s r) h =
-      let two = both _ (stmt_fits c g false q r) h in
-      let one = both (expr_fits c g e) (stmt_fits c g false q s) two.0 in
+      let two = and_parts _ (stmt_fits c g false q r) h in
+      let one = and_parts (expr_fits c g e) (stmt_fits c g false q s) two.0 in
       branch_breaks (lowered v e).known t (lowered v e) (stmt_code v t s) (stmt_code v t r) (stmt_breaks c g v t q s one.1) (stmt_breaks c g v t q r two.1)
   stmt_breaks c g v t q (core.loop body step) h = refl
   stmt_breaks c g v t q core.break h = cc
@@ -495,7 +491,7 @@ mutual
 
   pub stmts_break : (c : CoreUnitTree) (g : CoreFunctionTree) (v t : ℕ) (q : Bool) (ss : CoreStmts) → stmts_fit c g false q ss ≡ true → (stmts_code v t ss).breaks ≡ false
   stmts_break c g v t q no_stmts h = refl
-  stmts_break c g v t q (stmt_and s no_stmts) h = stmt_breaks c g v t q s (both (stmt_fits c g false q s) _ h).0
+  stmts_break c g v t q (stmt_and s no_stmts) h = stmt_breaks c g v t q s (and_parts (stmt_fits c g false q s) _ h).0
   stmts_break c g v t q (stmt_and s (stmt_and r ss)) h =
-      let two = both (stmt_fits c g false q s) (stmts_fit c g false q (stmt_and r ss)) h in
+      let two = and_parts (stmt_fits c g false q s) (stmts_fit c g false q (stmt_and r ss)) h in
       both_break (stmt_code v t s).ends (stmt_code v t s) (stmts_code v t (stmt_and r ss)) (stmt_breaks c g v t q s two.0) (stmts_break c g v t q (stmt_and r ss) two.1)

@@ -2,6 +2,7 @@
 use Rattle.std.proofs.Common.{◌≡◌, ℕ, zero, suc, ◌+◌, ◌-◌, Bool, true, false, not, ◌||◌, ◌&&◌, if◌then◌else◌, List, length, Option, Some, None, refl, sym, ap, ◌∙◌, subst, arith}
 use Rattle.std.specs.Prelude.{nat_lt}
 use Rattle.std.proofs.lemmas.Bool.Decides.{nat_tests}
+use Rattle.std.proofs.lemmas.Bool.{or_left, or_right, and_left, and_right, not_from_true}
 use Rattle.qs_memory.specs.Values.{Value}
 use Rattle.qs_memory.specs.Pointers.{truth}
 use Rattle.qs_events.specs.Runs.{emit, given}
@@ -77,13 +78,6 @@ module _ (u : Model) (f : CoreFunctionTree) (code : List InstructionTree) (funct
 
   same_less : (e b b2 : Bool) (k j : Continuations) → (b2 ≡ true → b ≡ true) → SameBut e b k j → SameBut e b2 k j
   same_less e b b2 k j h s = record { next = s.next; on_break = λ so. s.on_break (h so); on_continue = s.on_continue; on_return = s.on_return }
-
-  or_left : (a b : Bool) → a ≡ true → (a || b) ≡ true
-  or_left a b h = ap (λ x. x || b) h
-
-  or_right : (a b : Bool) → b ≡ true → (a || b) ≡ true
-  or_right true b h = refl
-  or_right false b h = h
 
   -- ---- what is claimed of a statement's code
 
@@ -248,13 +242,6 @@ module _ (u : Model) (f : CoreFunctionTree) (code : List InstructionTree) (funct
 
   -- ---- branches
 
-  and_left_false : (a b : Bool) → a ≡ false → (a && b) ≡ false
-  and_left_false a b h = ap (λ x. x && b) h
-
-  and_right_false : (a b : Bool) → b ≡ false → (a && b) ≡ false
-  and_right_false true b h = h
-  and_right_false false b h = refl
-
   pub test_good : (s : CoreExprTree) (e : ExprCode) (m n : Meaning) (a b : StmtCode) → Correct s e → Good m a → Good n b → Good (chosen s m n) (of_test first_free e a b)
   test_good s e m n a b h g i = record {
     sized = branch_sized None first_free e a b h.sized g.sized i.sized;
@@ -268,13 +255,13 @@ module _ (u : Model) (f : CoreFunctionTree) (code : List InstructionTree) (funct
         (λ v. given_alike (truth w.memory v) _ _
         (λ said. choice_alike said _ _ _ _
         (g.ignores k j (record {
-          next = λ no. same.next (and_left_false a.ends b.ends no);
+          next = λ no. same.next (and_left a.ends b.ends no);
           on_break = λ so. same.on_break (or_left a.breaks b.breaks so);
           on_continue = same.on_continue;
           on_return = same.on_return;
         }) l w)
         (i.ignores k j (record {
-          next = λ no. same.next (and_right_false a.ends b.ends no);
+          next = λ no. same.next (and_right a.ends b.ends no);
           on_break = λ so. same.on_break (or_right a.breaks b.breaks so);
           on_continue = same.on_continue;
           on_return = same.on_return;
@@ -358,9 +345,6 @@ module _ (u : Model) (f : CoreFunctionTree) (code : List InstructionTree) (funct
       ∙ g.ignores (after_body k (n (after_step k (turns_of m n k i)))) (after_body k (n (after_step k (turns_of q n k i))))
       (record { next = λ no. steps; on_break = λ so x y. refl; on_continue = steps; on_return = λ x y. refl }) l w
 
-  not_false : (b : Bool) → b ≡ true → not b ≡ false
-  not_false b h = ap not h
-
   turns_ignore :
       (m n : Meaning) (body step : StmtCode) → Good m body → Good n step → (k j : Continuations) → SameBut (not (body.breaks || step.breaks)) false k j
       → (i : ℕ) → Alike (turns_of m n k i) (turns_of m n j i)
@@ -371,14 +355,14 @@ module _ (u : Model) (f : CoreFunctionTree) (code : List InstructionTree) (funct
       h.ignores (after_step k (turns_of m n k i)) (after_step j (turns_of m n j i))
       (record {
         next = λ no. again;
-        on_break = λ so. same.next (not_false (body.breaks || step.breaks) (or_right body.breaks step.breaks so));
+        on_break = λ so. same.next (not_from_true (body.breaks || step.breaks) (or_right body.breaks step.breaks so));
         on_continue = again;
         on_return = same.on_return;
       }) in
       g.ignores (after_body k (n (after_step k (turns_of m n k i)))) (after_body j (n (after_step j (turns_of m n j i))))
       (record {
         next = λ no. steps;
-        on_break = λ so. same.next (not_false (body.breaks || step.breaks) (or_left body.breaks step.breaks so));
+        on_break = λ so. same.next (not_from_true (body.breaks || step.breaks) (or_left body.breaks step.breaks so));
         on_continue = steps;
         on_return = same.on_return;
       }) l w

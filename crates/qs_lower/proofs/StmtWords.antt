@@ -1,6 +1,7 @@
 -- Each statement takes at most its words, and one for the jump to what is next.
 use Rattle.std.proofs.Common.{◌≡◌, ℕ, ◌+◌, ◌%◌, ◌≤◌, Bool, true, false, List, [], ◌∷◌, ◌++◌, map, Option, Some, None, refl, arith}
 use Rattle.std.specs.Prelude.{◌&&◌, if◌then◌else◌}
+use Rattle.std.proofs.lemmas.Bool.{and_parts}
 use Rattle.qs_memory.specs.Memory.{BlankTree}
 use Rattle.qs_memory.specs.Sizes.{blank_size}
 use Rattle.qs_memory.specs.declared.scalar.Scalar.{Scalar}
@@ -11,7 +12,6 @@ use Rattle.qs_core.specs.Trees.{CoreExprTree, CoreStmtTree, CoreStmts, no_stmts,
 use Rattle.qs_core.specs.Fits.{expr_fits, exprs_fit, pointer_fits, stmt_fits, stmts_fit}
 use Rattle.qs_core.specs.Sizes as counts
 use Rattle.qs_core.specs.Sizes.{taken_words, stmt_words, stmts_words}
-use Rattle.qs_core.proofs.FitLaws.{both}
 use Rattle.qs_tac.specs.Trees.{InstructionTree, store, copy, fill, call, jump, return, TacFunctionTree}
 use Rattle.qs_tac.specs.Sizes as sizes
 use Rattle.qs_tac.specs.Sizes.{is_near, callee_words}
@@ -347,36 +347,36 @@ module _ (c : CoreUnitTree) (g : CoreFunctionTree) (v : ℕ) (f : TacFunctionTre
     all_stmt_words t b q core.skip le h = next_words
     all_stmt_words t b q (core.seq ss) le h = all_stmts_words t b q ss le h
     all_stmt_words t b q (core.assign x e) le h =
-        straight_words _ _ _ (λ at. (expr_words c g v f free near e (both (expr_fits c g e) _ h).0).into_fits (target_of v x) t at le)
+        straight_words _ _ _ (λ at. (expr_words c g v f free near e (and_parts (expr_fits c g e) _ h).0).into_fits (target_of v x) t at le)
     all_stmt_words t b q (core.store s a e) le h =
-        let two = both (pointer_fits c g a) (expr_fits c g e) (both _ _ h).0 in
-        store_words t s a e (lowered v a) (lowered v e) le (expr_words c g v f free near a (both (expr_fits c g a) _ two.0).0) (expr_words c g v f free near e two.1)
+        let two = and_parts (pointer_fits c g a) (expr_fits c g e) (and_parts _ _ h).0 in
+        store_words t s a e (lowered v a) (lowered v e) le (expr_words c g v f free near a (and_parts (expr_fits c g a) _ two.0).0) (expr_words c g v f free near e two.1)
     all_stmt_words t b q (core.copy size alignment a e) le h =
-        let two = both (pointer_fits c g a) (pointer_fits c g e) (both _ _ (both _ _ h).0).0 in
+        let two = and_parts (pointer_fits c g a) (pointer_fits c g e) (and_parts _ _ (and_parts _ _ h).0).0 in
         copy_words t size alignment a e (lowered v a) (lowered v e) le
-        (expr_words c g v f free near a (both (expr_fits c g a) _ two.0).0) (expr_words c g v f free near e (both (expr_fits c g e) _ two.1).0)
+        (expr_words c g v f free near a (and_parts (expr_fits c g a) _ two.0).0) (expr_words c g v f free near e (and_parts (expr_fits c g e) _ two.1).0)
     all_stmt_words t b q (core.fill blank a) le h =
-        let two = both (pointer_fits c g a) _ h in
-        fill_words t blank a (lowered v a) le (expr_words c g v f free near a (both (expr_fits c g a) _ two.0).0)
-    all_stmt_words t b q (core.call x to es) le h = call_words t x to es le (both (exprs_fit c g es) _ h).0
+        let two = and_parts (pointer_fits c g a) _ h in
+        fill_words t blank a (lowered v a) le (expr_words c g v f free near a (and_parts (expr_fits c g a) _ two.0).0)
+    all_stmt_words t b q (core.call x to es) le h = call_words t x to es le (and_parts (exprs_fit c g es) _ h).0
     all_stmt_words t b q (core.branch e s r) le h =
-        let two = both _ (stmt_fits c g b q r) h in
-        let one = both (expr_fits c g e) (stmt_fits c g b q s) two.0 in
+        let two = and_parts _ (stmt_fits c g b q r) h in
+        let one = and_parts (expr_fits c g e) (stmt_fits c g b q s) two.0 in
         branch_words (tested_words e) (lowered v e).known t (lowered v e) (stmt_code v t s) (stmt_code v t r) le (expr_words c g v f free near e one.0).test_fits
         (all_stmt_words t b q s le one.1) (all_stmt_words t b q r le two.1)
     all_stmt_words t b q (core.loop body step) le h =
-        let two = both (stmt_fits c g true true body) (stmt_fits c g true false step) h in
+        let two = and_parts (stmt_fits c g true true body) (stmt_fits c g true false step) h in
         let first = all_stmt_words t true true body le two.0 in
         let second = all_stmt_words t true false step le two.1 in
         record { part = loop_words (stmt_words body) t (stmt_code v t body).tested (stmt_code v t body).part (stmt_code v t step) le first.tested first.part second; way = tt; tested = tt }
     all_stmt_words t b q core.break le h = away_words to_break
     all_stmt_words t b q core.continue le h = away_words to_continue
     all_stmt_words t b q (core.return None) le h = plain_return_words
-    all_stmt_words t b q (core.return (Some e)) le h = return_words t e (lowered v e) le (expr_words c g v f free near e (both (expr_fits c g e) _ h).0)
+    all_stmt_words t b q (core.return (Some e)) le h = return_words t e (lowered v e) le (expr_words c g v f free near e (and_parts (expr_fits c g e) _ h).0)
 
     pub all_stmts_words : (t : ℕ) (b q : Bool) (ss : CoreStmts) → free ≤ t → stmts_fit c g b q ss ≡ true → StmtWords (stmts_words ss) (stmts_code v t ss)
     all_stmts_words t b q no_stmts le h = next_words
-    all_stmts_words t b q (stmt_and s no_stmts) le h = more (stmt_code v t s) (omega arith) (all_stmt_words t b q s le (both (stmt_fits c g b q s) _ h).0)
+    all_stmts_words t b q (stmt_and s no_stmts) le h = more (stmt_code v t s) (omega arith) (all_stmt_words t b q s le (and_parts (stmt_fits c g b q s) _ h).0)
     all_stmts_words t b q (stmt_and s (stmt_and r ss)) le h =
-        let two = both (stmt_fits c g b q s) (stmts_fit c g b q (stmt_and r ss)) h in
+        let two = and_parts (stmt_fits c g b q s) (stmts_fit c g b q (stmt_and r ss)) h in
         both_words (stmt_code v t s).ends (stmt_code v t s) (stmts_code v t (stmt_and r ss)) (all_stmt_words t b q s le two.0) (all_stmts_words t b q (stmt_and r ss) le two.1)

@@ -6,13 +6,14 @@ use Rattle.std.specs.Option.{option_map}
 use Rattle.std.proofs.lemmas.Bool.Decides.{nat_tests}
 use Rattle.std.proofs.lemmas.List.{length-map}
 use Rattle.std.proofs.lemmas.List.Sums.{sum_by-cons}
+use Rattle.std.proofs.lemmas.Bool.{and_parts}
 use Rattle.qs_calls.specs.declared.parameter.Parameter.{Parameter}
 use Rattle.qs_calls.specs.declared.parameter.Parameter.TheVariants.{Plain, Placed}
 use Rattle.qs_core.specs.Trees.{CoreParameterTree, CoreFunctionTree, CoreUnitTree}
 use Rattle.qs_core.specs.Sizes as counts
 use Rattle.qs_core.specs.Sizes.{held_in_all}
 use Rattle.qs_core.specs.Fits.{function_fits, unit_fits}
-use Rattle.qs_core.proofs.FitLaws.{both, FunctionFits, function_parts, function_at_fits, unit_parts}
+use Rattle.qs_core.proofs.FitLaws.{FunctionFits, function_parts, function_at_fits, unit_parts}
 use Rattle.qs_tac.specs.Trees.{InstructionTree, move, unary, binary, convert, address_of, load, store}
 use Rattle.qs_tac.specs.Trees.{copy, fill, call, jump, branch, return, TacFunctionTree}
 use Rattle.qs_tac.specs.Sizes as sizes
@@ -129,7 +130,7 @@ module _ (c : CoreUnitTree) where
       → sum_by sizes.words (map threaded_function (map straight_function gs)) ≤ sum_by counts.words gs
   functions_words [] h reach = omega arith
   functions_words (g ∷ gs) h reach =
-      let two = both (function_fits c g) (list_all (function_fits c) gs) h in
+      let two = and_parts (function_fits c g) (list_all (function_fits c) gs) h in
       let first = (keeps_sizes c g (function_parts c g two.0)).words (reach 0 g refl) in
       let rest = functions_words gs two.1 (λ k i e. reach (suc k) i e) in
       let a = sum_by-cons sizes.words (lowered_function g) (map threaded_function (map straight_function gs)) in

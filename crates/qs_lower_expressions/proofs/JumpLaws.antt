@@ -1,7 +1,7 @@
 -- Jumps that stand one behind another. From each index they lead to what is no jump, or round in a circle. The
 -- threaded code takes no step for those that lead on, and those that lead round make no more of a run. So a run of it
 -- is told by weights: each step weighs more than the jumps of any row, and each jump that stands there weighs one.
-use Rattle.std.proofs.Common.{◌≡◌, ℕ, zero, suc, ◌+◌, ◌-◌, ◌*◌, ◌<◌, ◌≤◌, ◌⊎◌, inl, inr, List, [], ◌∷◌, length, Option, Some, None, refl, sym, ap, subst, arith}
+use Rattle.std.proofs.Common.{◌≡◌, ℕ, zero, suc, ◌+◌, ◌-◌, ◌*◌, ◌<◌, ◌≤◌, ◌⊎◌, inl, inr, List, [], ◌∷◌, length, Option, Some, None, refl, sym, ap, subst, arith, suc-mul}
 use Rattle.std.specs.List.{slice_get}
 use Rattle.std.proofs.lemmas.Bool.{cases_lt}
 use Rattle.qs_events.specs.Runs.{Within}
@@ -14,6 +14,7 @@ use Rattle.qs_tac.specs.Steps.{Waiting, going_to, steps}
 use Rattle.qs_tac.proofs.RelationLaws.{steps_grow}
 use Rattle.qs_lower_expressions.specs.Threads.{leads_to, follow}
 use Rattle.qs_lower_expressions.proofs.ThreadLaws.{Kind, kind_of, target, stays, goes_on, code_in, code_of, v, there, ahead, at_step}
+pub use Rattle.std.proofs.Common.{suc-mul as one_more}
 
 -- ---- within a list of instructions
 
@@ -206,9 +207,6 @@ settled_functions (g ∷ fs) =
 pub weight_of : (t : TacUnitTree) → (weight : ℕ) × IsWeight t weight
 weight_of t = let all = settled_functions t.functions in (suc all.0, record { positive = omega arith; each = all.1 })
 
-pub one_more : (n weight : ℕ) → suc n * weight ≡ n * weight + weight
-one_more n weight = omega arith
-
 -- ---- what the threaded code makes
 
 module _ {S : Type 0} (h : Holder S) (u : TacUnitTree) where
@@ -280,7 +278,7 @@ module _ {S : Type 0} (h : Holder S) (u : TacUnitTree) where
       → ((n : ℕ) → n * weight + weight ≤ d → Within (f n) o) → Makes weight d a w stack o
   makes_step weight d a w stack o f plain is within jumps zero s le = λ k. tt
   makes_step weight d a w stack o f plain is within jumps (suc n) s le =
-      let more = one_more n weight in
+      let more = suc-mul n weight in
       far_here (suc n) a w stack o plain
       (subst (λ (r : RootRun). Within r o) (sym (is n)) (within n (omega (arith, le, more))))
 

@@ -1,10 +1,12 @@
 -- The operands that expressions are as they stand have the values of the expressions.
 use Rattle.std.proofs.Common.{◌≡◌, ℕ, zero, suc, ◌+◌, ◌<◌, Bool, true, false, List, Option, Some, None, refl, sym, ap, ◌∙◌, subst, arith}
-use Rattle.std.specs.Prelude.{◌==◌, ◌&&◌, ◌%◌, ◌^◌, not, if◌then◌else◌, ℤ, pos, ◌-ℤ◌, int_div, int_rem}
+use Rattle.std.specs.Prelude.{◌==◌, ◌%◌, ◌^◌, not, if◌then◌else◌, ℤ, pos, ◌-ℤ◌, int_div, int_rem}
 use Rattle.std.proofs.lemmas.Bool.Decides.{nat_tests}
 use Rattle.std.proofs.lemmas.Nat.{and_comm, or_comm, xor_comm}
 use Rattle.std.proofs.Math.Nat.{mul_comm}
 use Rattle.std.specs.Ordering.{int_eq}
+use Rattle.std.proofs.lemmas.Option.{same_Some}
+use Rattle.std.specs.Cmp.{first_so, second_so}
 use Rattle.qs_base.specs.Words.{wrap}
 use Rattle.qs_memory.specs.Partial.{◌>>=◌, only_if}
 use Rattle.qs_memory.specs.Values.{Pointer, Value, integer, address, as_integer, as_pointer, convert, pointer_of_integer}
@@ -32,17 +34,6 @@ use Rattle.qs_tac.specs.declared.operands.Operand.{Operand}
 use Rattle.qs_tac.specs.declared.operands.Operand.TheVariants.{Temporary, Integer, Byte, Constant, Null, Local, Data}
 use Rattle.qs_lower_expressions.specs.Operands.{converted, truth_of, truth_operand, unary_of, binary_of, folded, gives_integer, gives_truth, unary_gives_truth, operation_gives_truth, gives_pointer, operation_gives_integer, commutes, is_idle}
 use Rattle.qs_lower_expressions.specs.Operands as operands
-
-pub some_same : {A : Type 0} → (a b : A) → Some a ≡ Some b → a ≡ b
-some_same a b h = cc
-
-pub and_left : (a b : Bool) → (a && b) ≡ true → a ≡ true
-and_left true b h = refl
-and_left false b h = h
-
-pub and_right : (a b : Bool) → (a && b) ≡ true → b ≡ true
-and_right true b h = h
-and_right false b h = absurd (cc)
 
 -- ---- what gives an integer, if anything
 
@@ -132,7 +123,7 @@ gives_integer_is (core.logical_or a b) h l m =
 gives_integer_is (core.conditional c a b) h l m =
     integer_bind (value c l m) _
     (λ v. integer_bind (truth m v) _
-    (λ yes. if_integer yes _ _ (gives_integer_is a (and_left _ _ h) l m) (gives_integer_is b (and_right (gives_integer a) _ h) l m)))
+    (λ yes. if_integer yes _ _ (gives_integer_is a (first_so _ _ h) l m) (gives_integer_is b (second_so (gives_integer a) _ h) l m)))
 
 -- ---- what gives a pointer, if anything
 
@@ -196,7 +187,7 @@ gives_pointer_is (core.logical_or a b) h l m = absurd (cc)
 gives_pointer_is (core.conditional c a b) h l m =
     pointer_bind (value c l m) _
     (λ v. pointer_bind (truth m v) _
-    (λ yes. if_pointer yes _ _ (gives_pointer_is a (and_left _ _ h) l m) (gives_pointer_is b (and_right (gives_pointer a) _ h) l m)))
+    (λ yes. if_pointer yes _ _ (gives_pointer_is a (first_so _ _ h) l m) (gives_pointer_is b (second_so (gives_pointer a) _ h) l m)))
 
 -- ---- conversions and operations on operands
 
@@ -235,7 +226,7 @@ byte_integer (Some (address p)) = refl
 
 module _ {S : Type 0} (h : Holder S) (a : Activation S) where
   same_operand : (o p : Operand) → Some o ≡ Some p → operand h p a ≡ operand h o a
-  same_operand o p e = ap (λ x. operand h x a) (sym (some_same o p e))
+  same_operand o p e = ap (λ x. operand h x a) (sym (same_Some o p e))
 
   integer_right : (o p : Operand) → operands.integer_operand o ≡ Some p → operand h p a ≡ (operand h o a >>= λ v. as_integer v >>= λ n. Some (integer n))
   integer_right (Temporary t) p e = same_operand (Integer t) p e
@@ -408,7 +399,7 @@ gives_truth_is (core.member offset a) h l m = absurd (cc)
 gives_truth_is (core.unary op a) h l m = truth_bind (value a l m) _ (λ v. unary_truth op m v h)
 gives_truth_is (core.binary op a b) h l m = truth_bind (value a l m) _ (λ v. truth_bind (value b l m) _ (λ w. binary_truth op m v w h))
 gives_truth_is (core.conversion s a) h l m =
-    converted_truth s (and_left _ _ h) (value a l m) (gives_truth_is a (and_right (is_integer s) _ h) l m)
+    converted_truth s (first_so _ _ h) (value a l m) (gives_truth_is a (second_so (is_integer s) _ h) l m)
 gives_truth_is (core.logical_and a b) h l m =
     truth_bind (value a l m) _ (λ v. truth_bind (truth m v) _ (λ yes. if_truth yes _ _ (truth_bind (value b l m) _ (value_truth m)) (is_truth false)))
 gives_truth_is (core.logical_or a b) h l m =
@@ -416,7 +407,7 @@ gives_truth_is (core.logical_or a b) h l m =
 gives_truth_is (core.conditional c a b) h l m =
     truth_bind (value c l m) _
     (λ v. truth_bind (truth m v) _
-    (λ yes. if_truth yes _ _ (gives_truth_is a (and_left _ _ h) l m) (gives_truth_is b (and_right (gives_truth a) _ h) l m)))
+    (λ yes. if_truth yes _ _ (gives_truth_is a (first_so _ _ h) l m) (gives_truth_is b (second_so (gives_truth a) _ h) l m)))
 
 -- a number that is 1 or 0 is its own truth
 small_truth : (n : ℕ) → n < 2 → of_truth (not (n == 0)) ≡ integer n

@@ -5,6 +5,8 @@ use Rattle.qs_memory.specs.Values.{Value, integer, address, as_pointer}
 use Rattle.qs_memory.specs.Memory.{Memory}
 use Rattle.std.specs.Prelude.{◌&&◌, ◌^◌, pos, ◌-ℤ◌, ◌*ℤ◌}
 use Rattle.std.proofs.Math.IntN.{pos-*ℤ-pos}
+use Rattle.std.specs.Cmp.{first_so}
+use Rattle.std.proofs.lemmas.Option.{same_Some}
 use Rattle.qs_memory.specs.declared.operation.Signedness.TheVariants.{Signed, Unsigned}
 use Rattle.qs_memory.specs.Pointers as pointers
 use Rattle.qs_memory.specs.Partial.{only_if}
@@ -13,7 +15,6 @@ use Rattle.qs_memory.specs.Integers.{reading, compares}
 use Rattle.qs_memory.specs.declared.operation.Signedness.{Signedness}
 use Rattle.qs_memory.specs.Operations.{apply_unary, apply_binary, of_truth, on_integers, on_pointers}
 use Rattle.qs_memory.specs.declared.operation.Comparison.{Comparison}
-use Rattle.qs_memory.proofs.Options.{some_same}
 use Rattle.qs_events.specs.Runs.{undefined}
 use Rattle.qs_calls.specs.World.{World, RootRun, Environment}
 use Rattle.qs_core.specs.Trees.{CoreExprTree, CoreFunctionTree}
@@ -40,7 +41,7 @@ use Rattle.qs_lower_expressions.specs.Operands.{converted, unary_of, gives_integ
 use Rattle.qs_lower_expressions.specs.Expressions.{converting, converting_instruction, IndexCode, ExprCode, size_of, code_of, operand_of, own, based, behind, indexed_by, by_address, used_by, of_unary_value, with_test, of_plus, of_compound, simple_or, of_unary, of_conversion, unindexed, pair_size, pair_code, pair_used, binary_instruction, of_binary_value, with_condition, of_element, of_operation, stepped_or, of_binary}
 use Rattle.qs_lower_expressions.specs.Expressions as lower
 use Rattle.qs_lower_expressions.proofs.SizeLaws.{behind_sized, both, one_more, branch_length, pair_length, based_sized, unindexed_sized, indexed_sized, code_length, TestSized, with_test_sized}
-use Rattle.qs_lower_expressions.proofs.OperandLaws.{and_left, folded_right, swapped, converted_right, unary_right, gives_truth_is, truth_again, idle_stays, plus_stays}
+use Rattle.qs_lower_expressions.proofs.OperandLaws.{folded_right, swapped, converted_right, unary_right, gives_truth_is, truth_again, idle_stays, plus_stays}
 use Rattle.qs_lower_expressions.proofs.AddressLaws.{bind_some, bind_bind}
 use Rattle.qs_lower_expressions.proofs.RealisationLaws.{Model, Act, Stack, HasAt, has_left, has_right, Kept, kept_all, kept_then, Real, moment, IsCode, Agree, free, SimpleReal, BaseReal, Goes, by_answer, TestReal}
 use Rattle.qs_lower_expressions.proofs.ValueReal.{none_bind, negated}
@@ -278,7 +279,7 @@ module _ (u : Model) (f : CoreFunctionTree) (code : List InstructionTree) (funct
       by_order true is = (
         (refl, λ g. refl),
         λ next. ap (λ o. gives temporaries next x o (at_moment at first e) w stack)
-            (swapped op (and_left _ _ is) w.memory (operand temporaries left (at_moment at first e)) (operand temporaries right (at_moment at first e))),
+            (swapped op (first_so _ _ is) w.memory (operand temporaries left (at_moment at first e)) (operand temporaries right (at_moment at first e))),
       )
 
   pub binary_value_correct :
@@ -388,7 +389,7 @@ module _ (u : Model) (f : CoreFunctionTree) (code : List InstructionTree) (funct
       ∙ bind_some (pointers.moved m p (pos (n * element)))
 
   pub only_if_same : (b : Bool) (x y : ℕ) → only_if b (Some x) ≡ Some y → (b ≡ true) × (x ≡ y)
-  only_if_same true x y h = (refl, some_same x y h)
+  only_if_same true x y h = (refl, same_Some x y h)
   only_if_same false x y h = absurd (cc)
 
   pub step_constant :
@@ -396,7 +397,7 @@ module _ (u : Model) (f : CoreFunctionTree) (code : List InstructionTree) (funct
       → (n : ℕ) × (o ≡ Constant n) × (is_upward s n ≡ true) × (n * element ≡ bytes)
   step_constant s element (Constant n) bytes h =
       let parts = only_if_same (is_upward s n && is_word (n * element)) (n * element) bytes h in
-      (n, refl, and_left _ _ parts.0, parts.1)
+      (n, refl, first_so _ _ parts.0, parts.1)
   step_constant s element (Temporary t) bytes h = absurd (cc)
   step_constant s element (Integer t) bytes h = absurd (cc)
   step_constant s element (Byte t) bytes h = absurd (cc)

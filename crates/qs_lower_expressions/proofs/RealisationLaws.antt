@@ -1,6 +1,6 @@
 -- What the code of a part has to do: from its first instruction it makes the run that the part means, whatever
 -- follows. These are the claims of the induction over trees.
-use Rattle.std.proofs.Common.{◌≡◌, ℕ, zero, suc, ◌+◌, ◌-◌, ◌*◌, ◌<◌, ◌≤◌, ◌⊎◌, inl, inr, Bool, true, false, if◌then◌else◌, List, [], ◌∷◌, ◌++◌, length, Option, Some, None, refl, sym, ap, ◌∙◌, subst, arith}
+use Rattle.std.proofs.Common.{◌≡◌, ℕ, zero, suc, ◌+◌, ◌-◌, ◌*◌, ◌<◌, ◌≤◌, ◌⊎◌, inl, inr, Bool, true, false, if◌then◌else◌, List, [], ◌∷◌, ◌++◌, length, Option, Some, None, refl, sym, ap, ◌∙◌, subst, arith, suc-mul}
 use Rattle.std.specs.List.{slice_get}
 use Rattle.std.proofs.Math.Nat.{mul-le-mul_right}
 use Rattle.std.proofs.lemmas.Bool.{cases_lt}
@@ -23,7 +23,7 @@ use Rattle.qs_tac.specs.declared.operands.Operand.{Operand}
 use Rattle.qs_tac.specs.declared.operands.Condition.{Condition}
 use Rattle.qs_lower_expressions.specs.Threads.{leads_to, threaded_unit}
 use Rattle.qs_lower_expressions.proofs.ThreadLaws.{target, code_of as tac_code_of, IsPlain, here, there, at_step}
-use Rattle.qs_lower_expressions.proofs.JumpLaws.{Settles, settles_same, IsWeight, one_more, Makes, makes_jump, makes_step, makes_far}
+use Rattle.qs_lower_expressions.proofs.JumpLaws.{Settles, settles_same, IsWeight, Makes, makes_jump, makes_step, makes_far}
 use Rattle.qs_lower_expressions.specs.Exits.{Exit, falls, goes, is_fall}
 use Rattle.qs_lower_expressions.specs.Expressions.{ExprCode, size_of, code_of, operand_of, own, address_at}
 
@@ -239,7 +239,7 @@ module _ (t : TacUnitTree) (function at : ℕ) (stack : Stack) (State : Type 0) 
       by_order (inr less) = omega (arith, less, le)
       by_order (inl more) =
           let heavy : suc n * weight ≤ m * weight = mul-le-mul_right weight more in
-          let step = one_more n weight in
+          let step = suc-mul n weight in
           absurd (omega (arith, heavy, step, few, same, positive))
 
   weighed_turns :
@@ -299,7 +299,7 @@ real_call t (weighed weight) turns depth c made d le a w stack rest f vs k j pla
     (made.weighs (suc n) f vs k w rest (nest n few) (λ result v i less. takes result v i (room n i few less))))
   where
     nest : (n : ℕ) → n * weight + weight ≤ d → suc n ≤ depth
-    nest n few = let more = one_more n weight in (le (suc n) (omega (arith, few, more))).1
+    nest n few = let more = suc-mul n weight in (le (suc n) (omega (arith, few, more))).1
 
     room : (n i : ℕ) → n * weight + weight ≤ d → i < suc n → i * weight + weight ≤ d - 1 + 1
     room n i few less = let light : i * weight ≤ n * weight = mul-le-mul_right weight (omega (arith, less)) in omega (arith, few, light)

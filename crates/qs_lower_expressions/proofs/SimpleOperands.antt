@@ -2,6 +2,7 @@
 -- of one, and what is an operand in core is one here.
 use Rattle.std.proofs.Common.{◌≡◌, ℕ, Bool, true, false, Option, Some, None, refl, sym, subst}
 use Rattle.std.specs.Prelude.{if◌then◌else◌}
+use Rattle.std.proofs.lemmas.Bool.{and_parts}
 use Rattle.qs_memory.specs.Partial.{◌>>=◌}
 use Rattle.qs_memory.specs.Operations.{integer_type, unary_type, binary_type}
 use Rattle.qs_memory.specs.Scalars.{same_scalar, is_integer}
@@ -21,7 +22,6 @@ use Rattle.qs_core.specs.Trees.{CoreExprTree, CoreFunctionTree, CoreUnitTree}
 use Rattle.qs_core.specs.Expressions.{type_of}
 use Rattle.qs_core.specs.Sizes.{is_operand}
 use Rattle.qs_core.specs.Fits.{expr_fits}
-use Rattle.qs_core.proofs.FitLaws.{both}
 use Rattle.qs_tac.specs.declared.operands.Operand.{Operand}
 use Rattle.qs_tac.specs.declared.operands.Operand.TheVariants.{Temporary, Integer, Byte, Constant, Null, Local, Data}
 use Rattle.qs_lower_expressions.specs.Operands.{constant, converted, truth_of, truth_operand, unary_of, constant_of, binary_of, folded, gives_integer, gives_truth, is_idle, constant_step, byte_operand, integer_operand}
@@ -198,12 +198,12 @@ module _ (c : CoreUnitTree) (g : CoreFunctionTree) (v : ℕ) where
       by_operation (binaries.Move direction s element) k = cc
       by_operation (binaries.Difference element) k = refl
       by_operation (binaries.ComparePointers op) k = refl
-  truth_integer (core.conversion s a) h k = (both (is_integer s) (gives_truth a) k).0
+  truth_integer (core.conversion s a) h k = (and_parts (is_integer s) (gives_truth a) k).0
   truth_integer (core.logical_and a b) h k = refl
   truth_integer (core.logical_or a b) h k = refl
   truth_integer (core.conditional q a b) h k =
-      let fit = both (expr_fits c g q) (expr_fits c g a) (both _ (expr_fits c g b) (both _ _ h).0).0 in
-      truth_integer a fit.1 (both (gives_truth a) (gives_truth b) k).0
+      let fit = and_parts (expr_fits c g q) (expr_fits c g a) (and_parts _ (expr_fits c g b) (and_parts _ _ h).0).0 in
+      truth_integer a fit.1 (and_parts (gives_truth a) (gives_truth b) k).0
 
   -- ---- integers
 
@@ -272,27 +272,27 @@ module _ (c : CoreUnitTree) (g : CoreFunctionTree) (v : ℕ) where
   integers (core.load s a) h k = tt
   integers (core.member offset a) h k = tt
   integers (core.unary op a) h k =
-      let two = both (expr_fits c g a) (unary_takes op (type_of a)) h in
+      let two = and_parts (expr_fits c g a) (unary_takes op (type_of a)) h in
       simple_integer ((lowered v a).simple >>= unary_of op) _ (of_unary op (lowered v a).simple)
       (compound_integer op (gives_integer a) (gives_truth a) (type_of a) (lowered v a) two.1 (integers a two.0) (truth_integer a two.0))
   integers (core.binary op a b) h k =
       simple_integer (folded op (lowered v a).simple (lowered v b).simple) _ (constant_integer _ (folded_constant op (lowered v a).simple (lowered v b).simple))
       (stepped_integer (constant_step op (lowered v b).simple) (lowered v a) _ (operation_integer op (lowered v a) (lowered v b)))
   integers (core.conversion s a) h k =
-      let two = both (expr_fits c g a) (conversion_takes s (type_of a)) h in
+      let two = and_parts (expr_fits c g a) (conversion_takes s (type_of a)) h in
       let types = converts s (type_of a) two.1 in
       simple_integer ((lowered v a).simple >>= converted s) _ (of_converted s (lowered v a).simple types.to)
       (if_integer (is_idle s a) (lowered v a) _ (integers a two.0 types.from) tt)
   integers (core.logical_and a b) h k =
-      let two = both (expr_fits c g a) (expr_fits c g b) h in
+      let two = and_parts (expr_fits c g a) (expr_fits c g b) h in
       and_integer (lowered v a).known (gives_truth b) (lowered v a) (lowered v b) (λ j. integers b two.1 (truth_integer b two.1 j))
   integers (core.logical_or a b) h k =
-      let two = both (expr_fits c g a) (expr_fits c g b) h in
+      let two = and_parts (expr_fits c g a) (expr_fits c g b) h in
       or_integer (lowered v a).known (gives_truth b) (lowered v a) (lowered v b) (λ j. integers b two.1 (truth_integer b two.1 j))
   integers (core.conditional q a b) h k =
-      let four = both _ (same_scalar (type_of a) (type_of b)) h in
-      let three = both _ (expr_fits c g b) four.0 in
-      let two = both (expr_fits c g q) (expr_fits c g a) three.0 in
+      let four = and_parts _ (same_scalar (type_of a) (type_of b)) h in
+      let three = and_parts _ (expr_fits c g b) four.0 in
+      let two = and_parts (expr_fits c g q) (expr_fits c g a) three.0 in
       choice_integer (lowered v q).known (lowered v q) (lowered v a) (lowered v b) (integers a two.1 k)
       (integers b three.1 (subst (λ (t : Scalar). is_integer t ≡ true) (scalar_same (type_of a) (type_of b) four.1) k))
 
@@ -317,7 +317,7 @@ module _ (c : CoreUnitTree) (g : CoreFunctionTree) (v : ℕ) where
   operands_there (core.unary op a) h k = absurd (cc)
   operands_there (core.binary op a b) h k = absurd (cc)
   operands_there (core.conversion s a) h k =
-      let two = both (expr_fits c g a) (conversion_takes s (type_of a)) h in
+      let two = and_parts (expr_fits c g a) (conversion_takes s (type_of a)) h in
       let types = converts s (type_of a) two.1 in
       simple_there ((lowered v a).simple >>= converted s) _
       (of_there s (lowered v a).simple types.to (integers a two.0 types.from) (operands_there a two.0 k))

@@ -6,6 +6,8 @@ use Rattle.qs_memory.specs.Values.{Pointer, Value, as_integer, as_pointer}
 use Rattle.qs_memory.specs.Memory.{Memory}
 use Rattle.std.specs.Prelude.{◌==◌, nat_lt, nat_le}
 use Rattle.std.proofs.lemmas.Bool.Decides.{nat_tests}
+use Rattle.std.proofs.Math.Bool.{not-not}
+use Rattle.std.proofs.lemmas.Option.{same_Some}
 use Rattle.qs_memory.specs.Partial.{only_if}
 use Rattle.qs_memory.specs.Memory.{target}
 use Rattle.qs_memory.specs.Pointers.{truth, in_one_block, equal, compares_pointers}
@@ -13,7 +15,6 @@ use Rattle.qs_memory.specs.Integers.{is_less, compares}
 use Rattle.qs_memory.specs.declared.operation.Signedness.{Signedness}
 use Rattle.qs_memory.specs.declared.operation.Comparison.{Comparison}
 use Rattle.qs_memory.specs.declared.operation.Comparison.TheVariants as comparisons
-use Rattle.qs_memory.proofs.Options.{some_same}
 use Rattle.qs_events.specs.Runs.{undefined}
 use Rattle.qs_calls.specs.World.{World, RootRun, Environment, with_value}
 use Rattle.qs_core.specs.Trees.{CoreExprTree, CoreFunctionTree}
@@ -43,24 +44,20 @@ none_bind o f h = ap (λ p. p >>= f) h
 
 -- ---- opposite conditions
 
-pub not_not : (b : Bool) → not (not b) ≡ b
-not_not true = refl
-not_not false = refl
-
 abbrev pub negated : Option Bool → Option Bool
 negated o = o >>= λ b. Some (not b)
 
 pub twice_negated : (o : Option Bool) → o ≡ negated (negated o)
 twice_negated None = refl
-twice_negated (Some b) = ap Some (sym (not_not b))
+twice_negated (Some b) = ap Some (sym (not-not b))
 
 pub opposite_compares : (op : Comparison) (s : Signedness) (x y : ℕ) → compares (opposite_comparison op) s x y ≡ not (compares op s x y)
 opposite_compares comparisons.Less s x y = refl
-opposite_compares comparisons.LessOrEqual s x y = sym (not_not (is_less s y x))
+opposite_compares comparisons.LessOrEqual s x y = sym (not-not (is_less s y x))
 opposite_compares comparisons.Greater s x y = refl
-opposite_compares comparisons.GreaterOrEqual s x y = sym (not_not (is_less s x y))
+opposite_compares comparisons.GreaterOrEqual s x y = sym (not-not (is_less s x y))
 opposite_compares comparisons.Equal s x y = refl
-opposite_compares comparisons.NotEqual s x y = sym (not_not (x == y))
+opposite_compares comparisons.NotEqual s x y = sym (not-not (x == y))
 
 pub negated_bind : {A : Type 0} (o : Option A) (f g : A → Option Bool) → ((a : A) → g a ≡ negated (f a)) → (o >>= g) ≡ negated (o >>= f)
 negated_bind None f g h = refl
@@ -194,7 +191,7 @@ module _ (u : Model) (f : CoreFunctionTree) (code : List InstructionTree) (funct
   -- a branch and a jump to two exits
   pub negated_some : (o : Option Bool) (b : Bool) → negated o ≡ Some b → o ≡ Some (not b)
   negated_some None b h = absurd (cc)
-  negated_some (Some c) b h = ap Some (sym (not_not c) ∙ ap not (some_same (not c) b h))
+  negated_some (Some c) b h = ap Some (sym (not-not c) ∙ ap not (same_Some (not c) b h))
 
   pub negated_none : (o : Option Bool) → negated o ≡ None → o ≡ None
   negated_none None h = refl
@@ -391,7 +388,7 @@ module _ (u : Model) (f : CoreFunctionTree) (code : List InstructionTree) (funct
       (is (at + 0) l e w.memory agree)
       (ap (slice_get code) (omega arith) ∙ has.0)
       ((refl, λ g. refl), λ next. refl) (kept_all t e) none next))
-      (λ p same at l e m agree. ap (λ (q : Operand). operand temporaries q (at_moment at l.first_block e)) (sym (some_same o p same)) ∙ is at l e m agree)
+      (λ p same at l e m agree. ap (λ (q : Operand). operand temporaries q (at_moment at l.first_block e)) (sym (same_Some o p same)) ∙ is at l e m agree)
 
   -- ---- values by code
 

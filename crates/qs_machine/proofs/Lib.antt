@@ -5,5 +5,7 @@ pub mod Starts
 pub mod Growth
 pub mod Runs
 pub mod Puts
+pub mod Results
+pub mod StepLaws
 mod StepExamples
 mod RunExamples

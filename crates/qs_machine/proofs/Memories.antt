@@ -1,7 +1,7 @@
 -- The bytes of the regions, as a function of the address.
 use Rattle.std.proofs.Common.{◌≡◌, ℕ, zero, suc, ◌+◌, ◌-◌, ◌/◌, ◌%◌, ◌^◌, ◌<◌, ◌≤◌, Bool, true, false, Some, None, List, length, take, drop, slice_index, slice_set, refl, ap, sym, ◌∙◌, arith}
-use Rattle.std.specs.Prelude.{nat_le, ◌||◌, ◌==◌, if◌then◌else◌}
-use Rattle.std.proofs.lemmas.Bool.{le-leb}
+use Rattle.std.specs.Prelude.{nat_le, ◌==◌, if◌then◌else◌}
+use Rattle.std.proofs.lemmas.Bool.{le-leb, or_left, or_right}
 use Rattle.std.proofs.lemmas.Bool.Decides.{nat_tests}
 use Rattle.std.proofs.lemmas.Grind.{common_steps}
 use Rattle.std.proofs.Math.Path.{fun_ext}
@@ -54,13 +54,6 @@ test-low start end address width e = grind (arith, nat_tests)
 test-high : (start end address width : ℕ) → is_inside start end address width ≡ true → address + width ≤ end
 test-high start end address width e = grind (arith, nat_tests)
 
-or-first : (a b : Bool) → a ≡ true → (a || b) ≡ true
-or-first a b e = rw e refl
-
-or-second : (a b : Bool) → b ≡ true → (a || b) ≡ true
-or-second true b e = refl
-or-second false b e = e
-
 answer : (test : Bool) (x y : List ℕ) → test ≡ true → x ≡ y → Some x ≡ (if test then Some y else None)
 answer test x y holds is = rw (holds, is) refl
 
@@ -71,7 +64,7 @@ read-code m count address width at bytes count_is bytes_are e =
     let low = test-low code_start (code_start + length m.code.items) address width holds in
     let high = test-high code_start (code_start + length m.code.items) address width holds in
     let size : at + width - at ≡ width = omega arith in
-    answer (can_read_in m address width) _ _ (or-first _ _ holds)
+    answer (can_read_in m address width) _ _ (or_left _ _ holds)
     (rw (size, bytes_are, f.is) (sym (bytes_from-inside code_start m.code.items _ width address low high)))
 
 pub read-data : (m : Memory) (count address width at : ℕ) (bytes : List ℕ) → count ≡ length m.data.items → bytes ≡ m.data.items → Some at ≡ (if is_inside data_start (data_start + count) address width then Some (address - data_start) else None) → Some (take (at + width - at) (drop at bytes)) ≡ (if can_read_in m address width then Some (bytes_from (memory_of m) address width) else None)
@@ -83,7 +76,7 @@ read-data m count address width at bytes count_is bytes_are e =
     let size : at + width - at ≡ width = omega arith in
     let code = m.code_fits in
     let past : code_start + length m.code.items ≤ address = omega arith in
-    answer (can_read_in m address width) _ _ (or-second _ _ (or-first _ _ holds))
+    answer (can_read_in m address width) _ _ (or_right _ _ (or_left _ _ holds))
     (rw (size, bytes_are, f.is) (sym (bytes_from-behind code_start m.code.items _ width address past ∙ bytes_from-inside data_start m.data.items _ width address low high)))
 
 pub read-stack : (m : Memory) (base count address width at : ℕ) (bytes : List ℕ) → base ≡ stack_base (length m.stack.items) → count ≡ length m.stack.items → bytes ≡ m.stack.items → Some at ≡ (if is_inside base (base + count) address width then Some (address - base) else None) → Some (take (at + width - at) (drop at bytes)) ≡ (if can_read_in m address width then Some (bytes_from (memory_of m) address width) else None)
@@ -100,7 +93,7 @@ read-stack m base count address width at bytes base_is count_is bytes_are e =
     let past_code : code_start + length m.code.items ≤ address = omega arith in
     let past_data : data_start + length m.data.items ≤ address = omega arith in
     let within : address + width ≤ stack_base (length m.stack.items) + length m.stack.items = omega arith in
-    answer (can_read_in m address width) _ _ (or-second _ _ (or-second _ _ holds))
+    answer (can_read_in m address width) _ _ (or_right _ _ (or_right _ _ holds))
     (rw (size, bytes_are, f.is, base_is) (sym (bytes_from-behind code_start m.code.items _ width address past_code ∙ bytes_from-behind data_start m.data.items _ width address past_data ∙ bytes_from-inside (stack_base (length m.stack.items)) m.stack.items nothing width address low within)))
 
 -- ---- a byte is put

@@ -7,3 +7,4 @@ pub mod Actions
 pub mod Standing
 pub mod Running
 pub mod Arguments
+pub mod Laws

@@ -4,6 +4,7 @@
 
 mod answers;
 mod fetching;
+mod laws;
 mod loading;
 mod machine;
 mod memory;
@@ -14,6 +15,7 @@ mod running;
 mod stepping;
 
 pub use answers::{Cause, RunEnd, StepResult};
+pub use laws::steps_keep_states;
 pub use loading::{LoadFault, load};
 pub use machine::Machine;
 pub use regions::STACK_LIMIT;

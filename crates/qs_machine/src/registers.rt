@@ -1,7 +1,7 @@
 // The registers' words.
 ghost use Rattle.std.specs.Prelude.{◌≡◌, ◌≤◌, ◌==◌, length, if◌then◌else◌};
 ghost use Rattle.qs_isa.specs.Registers.{x0};
-ghost use Rattle.qs_image.specs.Limits.{most_parameters};
+ghost use Rattle.qs_base.specs.Parameters.{most_main_parameters};
 ghost use Rattle.qs_machine.specs.Run.{start_registers};
 
 use crate::regions::STACK_TOP;
@@ -18,7 +18,7 @@ impl Registers {
 
     /// At the start a0 to a7 hold the arguments and x2 the top of the stack.
     pub fn at_start(args: &[u32]) -> Registers
-        requires { length args.now ≤ most_parameters }
+        requires { length args.now ≤ most_main_parameters }
         ensures { registers_of result ≡ start_registers args.now }
     {
         let mut words = [0; 32];

@@ -2,6 +2,8 @@
 use Rattle.std.proofs.Common.{◌≡◌, ℕ, Bool, true, false, not, ◌&&◌, ◌||◌, List, [], ◌∷◌, ◌++◌, Option, Some, None, refl, ap, ◌∙◌, subst, if◌then◌else◌}
 use Rattle.std.specs.List.{list_all}
 use Rattle.std.proofs.lemmas.List.Folds.{list_all-append}
+use Rattle.std.specs.Cmp.{first_so, second_so}
+use Rattle.std.proofs.lemmas.Option.{same_Some}
 use Rattle.qs_base.specs.Bytes.{same_bytes}
 use Rattle.qs_syntax_vocabulary.specs.declared.operators.UnaryOperator.{UnaryOperator}
 use Rattle.qs_syntax_vocabulary.specs.declared.operators.UnaryOperator.TheVariants as unaries
@@ -17,7 +19,7 @@ use Rattle.qs_types.specs.Placed.{is_one_of, local_node, named_local, operand_of
 use Rattle.qs_meaning.specs.Names.{Scope}
 use Rattle.qs_meaning.specs.Expressions.{typed}
 use Rattle.qs_meaning.specs.TypedLaws.{IsReady, are_placed}
-use Rattle.qs_meaning.proofs.Options.{never, left, right, nothing, same, Known}
+use Rattle.qs_meaning.proofs.Options.{never, nothing, Known}
 use Rattle.qs_meaning.proofs.CompleteTypes.{LaidOut, MembersComplete}
 use Rattle.qs_meaning.proofs.FaultlessExpressions.{HasTypes, type_of_known}
 use Rattle.qs_meaning.proofs.TypedExpressions.{TypedBy, expression_typed}
@@ -60,7 +62,7 @@ looked_up structs declared placed (b ∷ bs) x entity fine e = go (λ f. looked_
   where
     go : (lookup x bs ≡ Some entity → EntityFine structs declared placed entity) → (c : Bool) → (if c then Some b.entity else lookup x bs) ≡ Some entity
         → EntityFine structs declared placed entity
-    go later true e = subst (EntityFine structs declared placed) (same _ _ e) fine.0
+    go later true e = subst (EntityFine structs declared placed) (same_Some _ _ e) fine.0
     go later false e = later e
 
 module _ (s : Scope) (declared : List ℕ) (sound : Sound s declared) where
@@ -173,8 +175,8 @@ module _ (s : Scope) (declared : List ℕ) (sound : Sound s declared) where
   taken_placed : (nodes : List ℕ) → are_declared nodes ≡ true → are_taken declared s.locals.placed nodes ≡ true → are_placed s nodes ≡ true
   taken_placed [] e f = refl
   taken_placed (n ∷ ns) e f =
-      both (is_one_of n declared) (is_one_of n s.locals.placed) (left _ _ e) (left _ _ f)
-      (taken_placed ns (right (is_one_of n declared) _ e) (right (not (is_one_of n declared) || is_one_of n s.locals.placed) _ f))
+      both (is_one_of n declared) (is_one_of n s.locals.placed) (first_so _ _ e) (first_so _ _ f)
+      (taken_placed ns (second_so (is_one_of n declared) _ e) (second_so (not (is_one_of n declared) || is_one_of n s.locals.placed) _ f))
     where
       both : (d p : Bool) {rest : Bool} → d ≡ true → (not d || p) ≡ true → rest ≡ true → (p && rest) ≡ true
       both true true e f g = g

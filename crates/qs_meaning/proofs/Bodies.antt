@@ -2,6 +2,9 @@
 use Rattle.std.proofs.Common.{◌≡◌, ℕ, Bool, true, false, not, ◌&&◌, ◌||◌, List, [], ◌∷◌, ◌++◌, Option, Some, None, is_some, refl, sym, ap, ◌∙◌, subst, if◌then◌else◌}
 use Rattle.std.specs.List.{list_all}
 use Rattle.std.proofs.lemmas.List.Folds.{list_all-append}
+use Rattle.std.proofs.lemmas.Bool.{and_from}
+use Rattle.std.proofs.Math.Bool.{and-false}
+use Rattle.std.specs.Cmp.{first_so, second_so}
 use Rattle.qs_syntax.specs.declared.types.Base.{Base}
 use Rattle.qs_syntax.specs.Trees.{ExprTree, DeclaratorTree, InitialiserTree, VariableTree, StartTree, no_start, start_expression, start_declaration, StmtTree, empty, expression, declaration, block, branch, while_loop, do_loop, for_loop, break, continue, return, Stmts, no_stmts, stmt_and, Else, no_else, else_by}
 use Rattle.qs_syntax.specs.Trees as trees
@@ -23,7 +26,7 @@ use Rattle.qs_meaning.specs.Names.{Scope, within, local_lvalue, place_among}
 use Rattle.qs_meaning.specs.Expressions.{typed}
 use Rattle.qs_meaning.specs.Statements.{initialised, variable_typed, variables_typed, effect_typed, option_effect, condition_typed, option_condition, start_typed, return_typed, statement_typed, statements_typed, else_typed}
 use Rattle.qs_meaning.specs.Forms.{address_in}
-use Rattle.qs_meaning.proofs.Options.{never, left, right, all_left, all_right, Known, onward, goes}
+use Rattle.qs_meaning.proofs.Options.{never, all_left, all_right, Known, onward, goes}
 use Rattle.qs_meaning.proofs.FaultlessExpressions.{HasTypes, none_left, none_right, unbroken, first_unbroken, second_unbroken, type_known, type_of_known}
 use Rattle.qs_meaning.proofs.Bindings.{IsFine, EntityFine, Sound, has_types, are_taken, typed_known}
 use Rattle.qs_meaning.proofs.LocalInitialisers.{sites_taken, sites_left, sites_right, local_set_known}
@@ -116,24 +119,13 @@ all_sized structs ls = list_all (is_sized_local structs) ls
 pub has_size : (structs : Structs) (o : Option TypeTree) (t : TypeTree) → o ≡ Some t → is_complete structs t ≡ true → is_some (and_then o (size_of structs)) ≡ true
 has_size structs o t e c = ap (λ o. is_some (and_then o (size_of structs))) e ∙ whole_some (extent_of structs t) (λ (x : Extent). x.size) c
 
-pub both_sized : {x y : Bool} → x ≡ true → y ≡ true → (x && y) ≡ true
-both_sized {x = x} {y = y} e f = go x e
-  where
-    go : (x : Bool) → x ≡ true → (x && y) ≡ true
-    go true e = f
-    go false e = never e
-
 pub sized_together : (structs : Structs) (xs ys : List Local) → all_sized structs xs ≡ true → all_sized structs ys ≡ true → all_sized structs (xs ++ ys) ≡ true
-sized_together structs xs ys e f = list_all-append (is_sized_local structs) xs ys ∙ both_sized e f
-
-and_false : (b : Bool) → (b && false) ≡ false
-and_false true = refl
-and_false false = refl
+sized_together structs xs ys e f = list_all-append (is_sized_local structs) xs ys ∙ and_from _ _ e f
 
 pub not_held_back : (at_file_scope : Bool) (c : Context) (t : Option TypeTree) (i : Option InitialiserTree) → option_initialiser_faults at_file_scope c t i ≡ []
     → holds_back c i ≡ false
 not_held_back b c t None h = refl
-not_held_back b c t (Some (trees.value e)) h = ap (λ fs. not (is_some (type_of c e)) && is_any fs) h ∙ and_false (not (is_some (type_of c e)))
+not_held_back b c t (Some (trees.value e)) h = ap (λ fs. not (is_some (type_of c e)) && is_any fs) h ∙ and-false (not (is_some (type_of c e)))
 not_held_back b c t (Some (trees.list node is)) h = refl
 
 module _ (s₀ : Scope) (declared_nodes : List ℕ) where
@@ -173,8 +165,8 @@ module _ (s₀ : Scope) (declared_nodes : List ℕ) where
       local_fine : IsFine c.structs declared_nodes placed v.declarator.node.id d.type
       local_fine = record {
         complete = d.complete;
-        is_declared = left _ _ fine_here;
-        large = large_placed (is_scalar d.type) (is_one_of v.declarator.node.id placed) (right (is_one_of v.declarator.node.id declared_nodes) _ fine_here);
+        is_declared = first_so _ _ fine_here;
+        large = large_placed (is_scalar d.type) (is_one_of v.declarator.node.id placed) (second_so (is_one_of v.declarator.node.id declared_nodes) _ fine_here);
       }
 
   local_address : (node : ℕ) → is_one_of node placed ≡ true → Known (address_in (local_lvalue s₀.locals node))
@@ -223,7 +215,7 @@ module _ (s₀ : Scope) (declared_nodes : List ℕ) where
       (sym unheld) ∙ unbroken v.declarator.node.id (variable_tests false c after base v) tests_faults in
       let later_tests = second_unbroken (again_tests c v) _ whole_tests in
       let d = declared_known c base v.declarator (length_by v.initialiser) typed_lengths (first_unbroken (variable_declared c base v).tests _ later_tests) in
-      let fine_here = left (is_fine_local declared_nodes placed (record { node = v.declarator.node.id; type = (variable_declared c base v).type })) _ fine in
+      let fine_here = first_so (is_fine_local declared_nodes placed (record { node = v.declarator.node.id; type = (variable_declared c base v).type })) _ fine in
       let stands = variable_stands c h base v d fine_here in
       let initialiser_unbroken = subst (λ o. breaks_one (initialiser_tests false after o v.initialiser) ≡ false) d.is
       (second_unbroken (variable_declared c base v).tests _ later_tests) in
@@ -235,10 +227,10 @@ module _ (s₀ : Scope) (declared_nodes : List ℕ) where
       (subst (λ o. sites_taken declared_nodes placed (option_initialiser_sites false after o v.initialiser) ≡ true) d.is initialiser_taken) in
       let rest = variables_known vs after base stands (none_right (variable_faults false c after base v) (variables_faults false after base vs) faults)
       (sites_right declared_nodes placed (variable_sites false c after base v) (variables_sites false after base vs) taken)
-      (right (is_fine_local declared_nodes placed (record { node = v.declarator.node.id; type = (variable_declared c base v).type })) _ fine) in
+      (second_so (is_fine_local declared_nodes placed (record { node = v.declarator.node.id; type = (variable_declared c base v).type })) _ fine) in
       let first : Known (variable_typed (within s₀ c) base v) = record { value = now.value; is = goes (variable_declared c base v).type d.type _ _ d.is now.is } in
       record {
-        sized = both_sized (has_size c.structs (variable_declared c base v).type d.type d.is d.complete) rest.sized;
+        sized = and_from _ _ (has_size c.structs (variable_declared c base v).type d.type d.is d.complete) rest.sized;
         tree = onward (variable_typed (within s₀ c) base v) _ first (onward (variables_typed (within s₀ after) base vs) _ rest.tree (record { value = _; is = refl }));
         stands = rest.stands;
       }
@@ -250,7 +242,7 @@ module _ (s₀ : Scope) (declared_nodes : List ℕ) where
   -- ---- expressions in statements
 
   taken_alone : (c : Context) (e : ExprTree) → sites_taken declared_nodes placed (site c e) ≡ true → are_taken declared_nodes placed (addressed c e) ≡ true
-  taken_alone c e h = left _ _ h
+  taken_alone c e h = first_so _ _ h
 
   effect_known : (c : Context) → Stands c → (e : ExprTree) → expr_faults c discarded e ≡ [] → sites_taken declared_nodes placed (site c e) ≡ true → Known
       (effect_typed (within s₀ c) e)

@@ -2,7 +2,9 @@
 use Rattle.std.proofs.Common.{◌≡◌, ◌<◌, ◌≤◌, ◌⊎◌, inl, inr, ℕ, zero, suc, ◌+◌, Bool, true, false, ◌&&◌, ◌||◌, nat_lt, nat_le, List, [], ◌∷◌, Option, Some, None, is_some, length, refl, sym, ap, ◌∙◌, subst, arith, if◌then◌else◌}
 use Rattle.std.specs.List.{slice_get, list_all}
 use Rattle.std.proofs.lemmas.Bool.Decides.{nat_tests}
-use Rattle.std.proofs.lemmas.Option.{slice_get-get_or, slice_get_within}
+use Rattle.std.proofs.lemmas.Option.{slice_get-get_or, slice_get_within, same_Some}
+use Rattle.std.specs.Cmp.{first_so, second_so}
+use Rattle.std.proofs.lemmas.Bool.{or_cases}
 use Rattle.qs_syntax.specs.Trees.{Initialisers}
 use Rattle.qs_base.specs.Bytes.{same_bytes}
 use Rattle.qs_memory.specs.Partial.{◌>>=◌}
@@ -16,7 +18,7 @@ use Rattle.qs_meaning.specs.Blanks.{Blanks, blank_by, members_blank, struct_blan
 use Rattle.qs_meaning.specs.Initialisers.{part_offset}
 use Rattle.qs_meaning.specs.Operations.{element_size, summed, subtracted}
 use Rattle.qs_meaning.specs.Expressions.{member_number, member_offset}
-use Rattle.qs_meaning.proofs.Options.{never, left, right, either, nothing, same, went, goes, Known, known, onward}
+use Rattle.qs_meaning.proofs.Options.{never, nothing, went, goes, Known, known, onward}
 
 -- ---- types
 
@@ -69,15 +71,15 @@ data Summands (structs : Structs) (t u : TypeTree) : Type 0 where
   second : is_pointer t ≡ false → is_pointer u ≡ true → is_complete structs (referenced u) ≡ true → Summands structs t u
 
 summands : (structs : Structs) (t u : TypeTree) → may_add structs t u ≡ true → Summands structs t u
-summands structs t u e = go (either (both_integers t u) _ e)
+summands structs t u e = go (or_cases (both_integers t u) _ e)
   where
     pointers : ((is_object_pointer structs t && is_integer u) ≡ true) ⊎ ((is_integer t && is_object_pointer structs u) ≡ true) → Summands structs t u
-    pointers (inl h) = first (left _ _ (left _ _ h)) (right (is_pointer t) _ (left _ _ h))
-    pointers (inr h) = second (integer_no_pointer t (left _ _ h)) (left _ _ (right (is_integer t) _ h)) (right (is_pointer u) _ (right (is_integer t) _ h))
+    pointers (inl h) = first (first_so _ _ (first_so _ _ h)) (second_so (is_pointer t) _ (first_so _ _ h))
+    pointers (inr h) = second (integer_no_pointer t (first_so _ _ h)) (first_so _ _ (second_so (is_integer t) _ h)) (second_so (is_pointer u) _ (second_so (is_integer t) _ h))
 
     go : (both_integers t u ≡ true) ⊎ (((is_object_pointer structs t && is_integer u) || (is_integer t && is_object_pointer structs u)) ≡ true) → Summands structs t u
-    go (inl h) = neither (integer_no_pointer t (left _ _ h)) (integer_no_pointer u (right (is_integer t) _ h))
-    go (inr h) = pointers (either _ _ h)
+    go (inl h) = neither (integer_no_pointer t (first_so _ _ h)) (integer_no_pointer u (second_so (is_integer t) _ h))
+    go (inr h) = pointers (or_cases _ _ h)
 
 chosen : {A : Type 0} (b : Bool) (x y : Option A) → b ≡ true → Known x → Known (if b then x else y)
 chosen true x y e k = k
@@ -102,28 +104,28 @@ decided true x y k h = k
 decided false x y k h = h
 
 pub subtracted_known : (structs : Structs) (t u : TypeTree) → may_subtract structs t u ≡ true → Known (subtracted structs t u)
-subtracted_known structs t u e = go (either (both_integers t u) _ e)
+subtracted_known structs t u e = go (or_cases (both_integers t u) _ e)
   where
     by_pointer : (is_object_pointer structs t && (is_integer u || same_type t u)) ≡ true → Known (subtracted structs t u)
     by_pointer h =
-        let size = size_known structs (referenced t) (right (is_pointer t) _ (left _ _ h)) in
+        let size = size_known structs (referenced t) (second_so (is_pointer t) _ (first_so _ _ h)) in
         decided (is_pointer u) _ _
         (onward (element_size structs t) _ size (record { value = _; is = refl }))
-        (chosen (is_pointer t) _ _ (left _ _ (left _ _ h)) (onward (element_size structs t) _ size (record { value = _; is = refl })))
+        (chosen (is_pointer t) _ _ (first_so _ _ (first_so _ _ h)) (onward (element_size structs t) _ size (record { value = _; is = refl })))
 
     go : (both_integers t u ≡ true) ⊎ ((is_object_pointer structs t && (is_integer u || same_type t u)) ≡ true) → Known (subtracted structs t u)
-    go (inl h) = not_chosen (is_pointer u) _ _ (integer_no_pointer u (right (is_integer t) _ h))
-        (not_chosen (is_pointer t) _ _ (integer_no_pointer t (left _ _ h)) (record { value = _; is = refl }))
+    go (inl h) = not_chosen (is_pointer u) _ _ (integer_no_pointer u (second_so (is_integer t) _ h))
+        (not_chosen (is_pointer t) _ _ (integer_no_pointer t (first_so _ _ h)) (record { value = _; is = refl }))
     go (inr h) = by_pointer h
 
 -- ---- members (6.5.2.3)
 
 extents_count : (layouts : Layouts) (ts : List TypeTree) (es : List Extent) → extents_by layouts ts ≡ Some es → length es ≡ length ts
-extents_count layouts [] es e = ap length (sym (same _ _ e))
+extents_count layouts [] es e = ap length (sym (same_Some _ _ e))
 extents_count layouts (t ∷ ts) es e =
     let w = went (extent_by layouts t) (λ e. and_then (extents_by layouts ts) (λ es. Some (e ∷ es))) es e in
     let v = went (extents_by layouts ts) (λ es. Some (w.value ∷ es)) es w.gave in
-    ap length (sym (same _ _ v.gave)) ∙ ap suc (extents_count layouts ts v.value v.had)
+    ap length (sym (same_Some _ _ v.gave)) ∙ ap suc (extents_count layouts ts v.value v.had)
 
 offsets_count : (start : ℕ) (es : List Extent) → length (offsets_from start es) ≡ length es
 offsets_count start [] = refl
@@ -139,9 +141,9 @@ layout_count structs zero k ms l s e = nothing l e
 layout_count structs (suc depth) k ms l s e =
     let w = went (struct_of structs k) (members_layout (layouts_within depth structs)) l e in
     let v = went (extents_by (layouts_within depth structs) (member_types w.value)) (λ es. Some (struct_layout es)) l w.gave in
-    ap (λ (x : StructLayout). length x.offsets) (sym (same _ _ v.gave))
+    ap (λ (x : StructLayout). length x.offsets) (sym (same_Some _ _ v.gave))
     ∙ offsets_count 0 v.value ∙ extents_count (layouts_within depth structs) (member_types w.value) v.value v.had ∙ types_count w.value
-    ∙ ap length (same _ _ (sym w.had ∙ s))
+    ∙ ap length (same_Some _ _ (sym w.had ∙ s))
 
 -- a member has a number below the count of the members
 record Numbered (k : ℕ) (x : List ℕ) (ms : List MemberTree) : Type 0 where
@@ -206,10 +208,10 @@ has_members_is_large structs (array t n) x e = never e
 member_in_complete : (structs : Structs) (x : List ℕ) (ms : List MemberTree) (u : TypeTree) → list_all (λ m. is_complete structs m.type) ms ≡ true → member_in x ms ≡ Some u
     → is_complete structs u ≡ true
 member_in_complete structs x [] u all e = nothing u e
-member_in_complete structs x (m ∷ ms) u all e = go (λ f. member_in_complete structs x ms u (right (is_complete structs m.type) _ all) f) (same_bytes m.name x) e
+member_in_complete structs x (m ∷ ms) u all e = go (λ f. member_in_complete structs x ms u (second_so (is_complete structs m.type) _ all) f) (same_bytes m.name x) e
   where
     go : (member_in x ms ≡ Some u → is_complete structs u ≡ true) → (b : Bool) → (if b then Some m.type else member_in x ms) ≡ Some u → is_complete structs u ≡ true
-    go later true e = subst (λ z. is_complete structs z ≡ true) (same _ _ e) (left _ _ all)
+    go later true e = subst (λ z. is_complete structs z ≡ true) (same_Some _ _ e) (first_so _ _ all)
     go later false e = later e
 
 -- whether the members of structs have complete types
@@ -230,8 +232,8 @@ member_complete structs members (array t n) u x e = nothing u e
 member_at_complete : (structs : Structs) (ms : List MemberTree) (i : ℕ) (m : MemberTree) → list_all (λ m. is_complete structs m.type) ms ≡ true → slice_get ms i ≡ Some m
     → is_complete structs m.type ≡ true
 member_at_complete structs [] i m all e = nothing m e
-member_at_complete structs (x ∷ ms) zero m all e = subst (λ (z : MemberTree). is_complete structs z.type ≡ true) (same _ _ e) (left _ _ all)
-member_at_complete structs (x ∷ ms) (suc i) m all e = member_at_complete structs ms i m (right (is_complete structs x.type) _ all) e
+member_at_complete structs (x ∷ ms) zero m all e = subst (λ (z : MemberTree). is_complete structs z.type ≡ true) (same_Some _ _ e) (first_so _ _ all)
+member_at_complete structs (x ∷ ms) (suc i) m all e = member_at_complete structs ms i m (second_so (is_complete structs x.type) _ all) e
 
 -- ---- parts of an object (6.7.9p17)
 
@@ -308,10 +310,10 @@ part_there structs (pointer t) i h = absurd (omega arith)
 
 -- a list that fits is for an object with parts, and has no more elements than those
 pub fits_takes : (structs : Structs) (t : TypeTree) (is : Initialisers) → list_fits structs t is ≡ true → takes_list t ≡ true
-fits_takes structs t is h = left (takes_list t) _ h
+fits_takes structs t is h = first_so (takes_list t) _ h
 
 pub fits_count : (structs : Structs) (t : TypeTree) (is : Initialisers) → list_fits structs t is ≡ true → 0 + initialisers_count is ≤ count_of_parts structs t
-fits_count structs t is h = at_most (initialisers_count is) (count_of_parts structs t) (right (takes_list t) _ h)
+fits_count structs t is h = at_most (initialisers_count is) (count_of_parts structs t) (second_so (takes_list t) _ h)
   where
     at_most : (m n : ℕ) → nat_le m n ≡ true → 0 + m ≤ n
     at_most m n h = grind (arith, nat_tests)
@@ -348,10 +350,10 @@ module _ (structs : Structs) (laid_out : LaidOut structs) (members : MembersComp
       let v = went (extents_by layouts (member_types ms)) (λ es. Some (w.value ∷ es)) es w.gave in
       let shorter : length offsets ≡ length ms = omega arith in
       let first = blank_by_known layouts blanks h m.type (ap is_some w.had) in
-      let size_of_first = size_known structs m.type (left _ _ all) in
+      let size_of_first = size_known structs m.type (first_so _ _ all) in
       onward (blank_by blanks m.type) _ first (onward (size_of structs m.type) _ size_of_first
       (onward (members_blank structs blanks (offset + size_of_first.value) size ms offsets) _
-      (members_blank_known layouts blanks h (offset + size_of_first.value) size ms offsets v.value shorter v.had (right (is_complete structs m.type) _ all))
+      (members_blank_known layouts blanks h (offset + size_of_first.value) size ms offsets v.value shorter v.had (second_so (is_complete structs m.type) _ all))
       (record { value = _; is = refl })))
 
   blanks_known : (depth k : ℕ) → is_some (layouts_within depth structs k) ≡ true → Known (blanks_within depth structs k)

@@ -1,5 +1,7 @@
 -- Where a variable of file scope breaks no rule, it has a block.
 use Rattle.std.proofs.Common.{◌≡◌, ◌≤◌, ◌⊎◌, inl, inr, ℕ, suc, ◌+◌, Bool, true, false, ◌&&◌, ◌||◌, List, [], ◌∷◌, ◌++◌, Option, Some, None, is_some, refl, sym, ap, ◌∙◌, subst, arith, if◌then◌else◌}
+use Rattle.std.proofs.lemmas.Bool.{and_from, or_cases}
+use Rattle.std.specs.Cmp.{first_so, second_so}
 use Rattle.qs_syntax_vocabulary.specs.declared.operators.UnaryOperator.TheVariants as unaries
 use Rattle.qs_syntax.specs.declared.types.Base.{Base}
 use Rattle.qs_syntax.specs.Trees.{ExprTree, expr, InitialiserTree, Initialisers, no_initialisers, initialiser_and, VariableTree}
@@ -24,7 +26,7 @@ use Rattle.qs_meaning.specs.Initialisers.{part_offset, Piece, pieces, pieces_fro
 use Rattle.qs_meaning.specs.InitialValues.{entity_pointer, named_pointer, address_constant, pointer_constant, piece_cells, pieces_over, written_over, initial_cells, variable_block}
 use Rattle.qs_meaning.specs.Units.{file_variable_typed, file_variables_typed}
 use Rattle.qs_meaning.specs.TypedLaws.{EntityTyped, IsFileScope}
-use Rattle.qs_meaning.proofs.Options.{never, left, right, either, Known, known, onward, goes, went}
+use Rattle.qs_meaning.proofs.Options.{never, Known, known, onward, goes, went}
 use Rattle.qs_meaning.proofs.CompleteTypes.{part_known, part_there, fits_takes, fits_count, blank_known}
 use Rattle.qs_meaning.proofs.FaultlessExpressions.{HasTypes, none_left, none_right, unbroken, first_unbroken, second_unbroken, type_of_known}
 use Rattle.qs_meaning.proofs.Bindings.{has_types}
@@ -157,7 +159,7 @@ text_type bytes u e = go (same_types e)
 
 addressing : (s : Scope) (e : ExprTree) (u : TypeTree) → type_of s.context e ≡ Some u → (is_some (text_of e) || is_address s.context e u) ≡ true → Addressing s e u
 addressing s (expr node (trees.text bytes)) u t h = record { is_pointer = text_type bytes u t; pointer = record { value = _; is = refl } }
-addressing s (expr node (trees.name x)) u t h = record { is_pointer = array_pointer u (left _ _ h); pointer = file_pointer s (entity_of s.context x) (right (is_array u) _ h) }
+addressing s (expr node (trees.name x)) u t h = record { is_pointer = array_pointer u (first_so _ _ h); pointer = file_pointer s (entity_of s.context x) (second_so (is_array u) _ h) }
 addressing s (expr node (trees.unary unaries.Address a)) u t h = record { is_pointer = address_type s.context node a u t; pointer = named_file_pointer s a h }
 addressing s (expr node (trees.unary unaries.Indirect a)) u t h = never h
 addressing s (expr node (trees.unary unaries.Plus a)) u t h = never h
@@ -180,7 +182,7 @@ addressing s (expr node (trees.call f es)) u t h = never h
 -- an integer constant, or an address
 constant_kind : (s : Scope) (e : ExprTree) (u : TypeTree) → type_of s.context e ≡ Some u → is_constant s.context e u ≡ true →
     (is_some (constant_of s.context e) ≡ true) ⊎ Addressing s e u
-constant_kind s e u t h = go (either (is_some (constant_of s.context e)) _ h)
+constant_kind s e u t h = go (or_cases (is_some (constant_of s.context e)) _ h)
   where
     rest : (is_null_constant e ≡ true) ⊎ ((is_some (text_of e) || is_address s.context e u) ≡ true) → (is_some (constant_of s.context e) ≡ true) ⊎ Addressing s e u
     rest (inl n) = inl (null_is_constant s.context e n)
@@ -189,7 +191,7 @@ constant_kind s e u t h = go (either (is_some (constant_of s.context e)) _ h)
     go : (is_some (constant_of s.context e) ≡ true) ⊎ ((is_null_constant e || (is_some (text_of e) || is_address s.context e u)) ≡ true) →
         (is_some (constant_of s.context e) ≡ true) ⊎ Addressing s e u
     go (inl k) = inl k
-    go (inr r) = rest (either (is_null_constant e) _ r)
+    go (inr r) = rest (or_cases (is_null_constant e) _ r)
 
 integer_cells : (s : Scope) (t : TypeTree) (e : ExprTree) (u : TypeTree) → is_integer (decayed u) ≡ true → (is_some (constant_of s.context e) ≡ true) ⊎ Addressing s e u
     → Known (constant_of s.context e)
@@ -232,7 +234,7 @@ file_piece_known s char offset e u t h =
 file_piece_known s void offset e u t h = never h
 file_piece_known s (pointer w) offset e u t h =
     let p = without_second (is_assignable (pointer w) e (decayed u)) (is_constant s.context e u) h in
-    onward (pointer_constant s e) _ (pointer_cells s e u t (kind (either (same_type (pointer w) (decayed u)) (is_null_constant e) p.0)) (constant_kind s e u t p.1))
+    onward (pointer_constant s e) _ (pointer_cells s e u t (kind (or_cases (same_type (pointer w) (decayed u)) (is_null_constant e) p.0)) (constant_kind s e u t p.1))
     (record { value = _; is = refl })
   where
     kind : (same_type (pointer w) (decayed u) ≡ true) ⊎ (is_null_constant e ≡ true) → (is_pointer (decayed u) ≡ true) ⊎ (is_null_constant e ≡ true)
@@ -253,10 +255,6 @@ file_piece_known s (array w n) offset e u t h = onward (text_of e) _ (known _ (t
 file_piece_known s (struct k) offset e u t h = never h
 
 -- ---- lists
-
-both : (x y : Bool) → x ≡ true → y ≡ true → (x && y) ≡ true
-both true y e f = f
-both false y e f = never e
 
 module _ (s : Scope) (h : IsFileScope s.context) where
   abbrev structs : Structs
@@ -285,7 +283,7 @@ module _ (s : Scope) (h : IsFileScope s.context) where
   all_elements_typed : (is : Initialisers) (u : TypeTree) (i : ℕ) → elements_faults true s.context (Some u) i is ≡ [] → elements_typed s.context is ≡ true
   all_elements_typed no_initialisers u i f = refl
   all_elements_typed (initialiser_and (trees.value e) is) u i f =
-      both _ _ (ap is_some (type_of_known s.context names_have_types e whole (none_left _ _ f)).is)
+      and_from _ _ (ap is_some (type_of_known s.context names_have_types e whole (none_left _ _ f)).is)
       (all_elements_typed is u (i + 1) (none_right (expr_faults s.context whole e) _ f))
   all_elements_typed (initialiser_and (trees.list node inner) is) u i f =
       all_elements_typed is u (i + 1) (none_right (initialiser_faults true s.context (part_type structs u i) (trees.list node inner)) _ f)
@@ -323,13 +321,13 @@ module _ (s : Scope) (h : IsFileScope s.context) where
         → elements_faults true s.context (Some u) i is ≡ [] → Celled (pieces_from structs u offset i is)
     elements_celled no_initialisers u offset i complete room fits f = record { list = []; is = refl; cells = tt }
     elements_celled (initialiser_and first is) u offset i complete room fits f =
-        let fits_first : element_fits true s.context (part_type structs u i) first ≡ true = left _ _ fits in
+        let fits_first : element_fits true s.context (part_type structs u i) first ≡ true = first_so _ _ fits in
         let r : i + suc (initialisers_count is) ≤ count_of_parts structs u = room in
         let p = part_known structs h.laid_out h.members u i complete (part_there structs u i (omega arith)) in
         let now = initialiser_celled first p.type (offset + p.offset.value) p.complete
         (subst (λ o. element_fits true s.context o first ≡ true) p.is fits_first)
         (subst (λ o. initialiser_faults true s.context o first ≡ []) p.is (none_left _ _ f)) in
-        let later = elements_celled is u offset (i + 1) complete (omega arith) (right (element_fits true s.context (part_type structs u i) first) _ fits)
+        let later = elements_celled is u offset (i + 1) complete (omega arith) (second_so (element_fits true s.context (part_type structs u i) first) _ fits)
         (none_right (initialiser_faults true s.context (part_type structs u i) first) _ f) in
         record {
           list = now.list ++ later.list;

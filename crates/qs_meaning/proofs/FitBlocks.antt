@@ -1,9 +1,12 @@
 -- The blocks that are there when a run begins hold bytes and whole pointers, have the sizes that are counted of them, and none is larger
 -- than a type may be.
-use Rattle.std.proofs.Common.{◌≡◌, ℕ, ◌+◌, nat_le, Bool, true, false, List, [], ◌∷◌, ◌++◌, length, map, All, Option, Some, None, is_some, refl, sym, ap, ◌∙◌, subst, arith, if◌then◌else◌}
+use Rattle.std.proofs.Common.{◌≡◌, ℕ, ◌+◌, nat_le, Bool, true, false, List, [], ◌∷◌, ◌++◌, length, map, All, Option, Some, None, is_some, refl, sym, ap, ◌∙◌, subst, arith, if◌then◌else◌, le-leb}
 use Rattle.std.specs.List.{list_all}
 use Rattle.std.proofs.lemmas.List.{length-append, length-map, map-append}
 use Rattle.std.proofs.lemmas.List.Elements.{All-nil, All-cons}
+use Rattle.std.proofs.lemmas.Bool.{and_from}
+use Rattle.std.specs.Cmp.{first_so, second_so}
+use Rattle.std.proofs.lemmas.Option.{same_Some}
 use Rattle.qs_syntax.specs.declared.types.Base.{Base}
 use Rattle.qs_syntax.specs.Trees.{InitialiserTree, VariableTree, DeclTree, structure, forward, function, variables, UnitTree}
 use Rattle.qs_syntax.specs.Trees as trees
@@ -35,14 +38,13 @@ use Rattle.qs_meaning.specs.Fits.{are_small}
 use Rattle.qs_meaning.specs.FitLaws.{is_filled, variables_filled, declaration_filled, IsAsRead}
 use Rattle.qs_meaning.specs.TypedLaws.{IsFileScope}
 use Rattle.qs_meaning.specs.Whole.{AreWhole, TypedDataIsWhole}
-use Rattle.qs_meaning.proofs.Options.{never, left, right, nothing, same}
+use Rattle.qs_meaning.proofs.Options.{never, nothing}
 use Rattle.qs_meaning.proofs.FaultlessExpressions.{HasTypes, none_left, none_right, unbroken, second_unbroken, type_of_known}
 use Rattle.qs_meaning.proofs.Bindings.{has_types}
 use Rattle.qs_meaning.proofs.Bodies.{not_held_back}
 use Rattle.qs_meaning.proofs.FunctionsTyped.{file_sound}
 use Rattle.qs_meaning.proofs.UnitsTyped.{start_known}
-use Rattle.qs_meaning.proofs.FitConversions.{both}
-use Rattle.qs_meaning.proofs.FitTypes.{SmallTable, size_room, is_least}
+use Rattle.qs_meaning.proofs.FitTypes.{SmallTable, size_room}
 use Rattle.qs_meaning.proofs.FitLeaves.{is_short}
 use Rattle.qs_meaning.proofs.FitDeclarations.{SizedType, variable_small}
 use Rattle.qs_meaning.proofs.DeclaredSizes.{declared_size}
@@ -82,7 +84,7 @@ all_small : (ns : List ℕ) (bs : List StaticBlock) → AreGood ns bs → are_sm
 all_small [] [] h = refl
 all_small [] (b ∷ bs) h = absurd h
 all_small (n ∷ ns) [] h = absurd h
-all_small (n ∷ ns) (b ∷ bs) h = both _ _ h.0.small (all_small ns bs h.1)
+all_small (n ∷ ns) (b ∷ bs) h = and_from _ _ h.0.small (all_small ns bs h.1)
 
 pub all_exact : (ns : List ℕ) (bs : List StaticBlock) → AreGood ns bs → map (λ (b : StaticBlock). length b.cells) bs ≡ ns
 all_exact [] [] h = refl
@@ -100,10 +102,10 @@ texts_good [] e = tt
 texts_good (t ∷ ts) e = (
   record {
     whole = are_whole (bytes (length t.bytes + 1)) (text_cells t.bytes) (text_conforms t.bytes);
-    small = subst (λ n. nat_le n largest_size ≡ true) (sym (text_length t.bytes)) (left _ _ e);
+    small = subst (λ n. nat_le n largest_size ≡ true) (sym (text_length t.bytes)) (first_so _ _ e);
     exact = text_length t.bytes;
   },
-  texts_good ts (right (is_short t) _ e),
+  texts_good ts (second_so (is_short t) _ e),
 )
   where
     text_length : (bs : List ℕ) → length (text_cells bs) ≡ length bs + 1
@@ -122,13 +124,13 @@ module _ (s₀ : Scope) where
       → breaks_one (initialiser_tests true c (Some t) init) ≡ false → option_initialiser_faults true c (Some t) init ≡ [] → variable_block (within s₀ c) t init ≡ Some b → IsGood d.size b
   block_good c has table t d init b tests faults q =
       let cells = followed (initial_cells (within s₀ c) t init) _ b q in
-      subst (λ z. IsGood d.size z) (same _ b cells.then) (good cells.value (go init tests faults cells.value cells.first))
+      subst (λ z. IsGood d.size z) (same_Some _ b cells.then) (good cells.value (go init tests faults cells.value cells.first))
     where
       good : (cells : List Cell) → Shaped c.structs t cells → IsGood d.size (record { cells = cells; writable = true })
       good cells h =
           let size = conforms_length (shape_of h.blank) cells h.conforms ∙ shape_width c.structs (defined_structs c.structs) t h.blank d.size h.is d.is in
           let most = (size_room c.structs table t d.small d.size d.is).most in
-          record { whole = are_whole (shape_of h.blank) cells h.conforms; small = is_least (length cells) largest_size (omega arith); exact = size }
+          record { whole = are_whole (shape_of h.blank) cells h.conforms; small = le-leb (length cells) largest_size (omega arith); exact = size }
 
       has_type : (i : InitialiserTree) → initialiser_faults true c (Some t) i ≡ [] → is_typed c i ≡ true
       has_type (trees.value e) f = ap is_some (type_of_known c has e whole f).is
@@ -147,7 +149,7 @@ module _ (s₀ : Scope) where
           → initial_cells (within s₀ c) t init ≡ Some cells → Shaped c.structs t cells
       go None tests faults cells q =
           let b = followed (blank_of c.structs t) _ cells q in
-          record { blank = b.value; is = b.first; conforms = subst (λ z. Conforms (shape_of b.value) z) (same _ cells b.then) (blank_conforms b.value) }
+          record { blank = b.value; is = b.first; conforms = subst (λ z. Conforms (shape_of b.value) z) (same_Some _ cells b.then) (blank_conforms b.value) }
       go (Some i) tests faults cells q =
           let b = followed (blank_of c.structs t) _ cells q in
           let ps = followed (pieces c.structs t 0 i) _ cells b.then in
@@ -163,7 +165,7 @@ module _ (s₀ : Scope) where
 
   variables_good : (vs : List VariableTree) (c : Context) (base : Base) (bs : List StaticBlock) → IsFileScope c → SmallTable c.structs → variables_faults true c base vs ≡ []
       → variables_filled vs ≡ true → file_variables_typed (within s₀ c) base vs ≡ Some bs → AreGood (sizes_of (variables_blocks c base vs)) bs
-  variables_good [] c base bs h table f filled q = subst (λ z. AreGood [] z) (same [] bs q) tt
+  variables_good [] c base bs h table f filled q = subst (λ z. AreGood [] z) (same_Some [] bs q) tt
   variables_good (v ∷ vs) c base bs h table f filled q =
       let after = after_variable true c base v in
       let now = followed (file_variable_typed (within s₀ c) base v) _ bs q in
@@ -181,15 +183,15 @@ module _ (s₀ : Scope) where
       let own_tests = second_unbroken (variable_declared c base v).tests (initialiser_tests true after (variable_declared c base v).type v.initialiser)
       (second_unbroken (again_tests c v) ((variable_declared c base v).tests ++ initialiser_tests true after (variable_declared c base v).type v.initialiser) whole_tests) in
       let scope = variable_after s₀ c base v h own in
-      let sized = variable_small c base v t.value (left _ _ filled) t.first in
+      let sized = variable_small c base v t.value (first_so _ _ filled) t.first in
       let here = block_good after (has_types (within s₀ after) [] (file_sound s₀ after [] scope)) table t.value sized v.initialiser now.value
       (subst (λ o. breaks_one (initialiser_tests true after o v.initialiser) ≡ false) t.first own_tests)
       (subst (λ o. option_initialiser_faults true after o v.initialiser ≡ []) t.first initialiser) t.then in
       let counted_size = ap (type_size c.structs) t.first ∙ declared_size c.structs table t.value sized.small sized.size sized.is in
-      subst (λ z. AreGood (sizes_of (variables_blocks c base (v ∷ vs))) z) (same _ bs later.then) (
+      subst (λ z. AreGood (sizes_of (variables_blocks c base (v ∷ vs))) z) (same_Some _ bs later.then) (
         subst (λ n. IsGood n now.value) (sym counted_size) here,
         variables_good vs after base later.value scope table
-            (none_right (variable_faults true c after base v) (variables_faults true after base vs) f) (right (is_filled v.initialiser) _ filled) later.first,
+            (none_right (variable_faults true c after base v) (variables_faults true after base vs) f) (second_so (is_filled v.initialiser) _ filled) later.first,
       )
 
   -- ---- declarations
@@ -220,28 +222,28 @@ module _ (s₀ : Scope) where
 
   declaration_good : (d : DeclTree) (c : Context) (now : TypedProgram) → IsFileScope c → SmallTable c.structs → declaration_faults c d ≡ [] → declaration_filled d ≡ true
       → declaration_typed (within s₀ c) d ≡ Some now → AreGood (declared_sizes c d) now.blocks
-  declaration_good (structure t) c now h table f filled q = subst (λ (z : TypedProgram). AreGood [] z.blocks) (same _ now q) tt
-  declaration_good (forward t) c now h table f filled q = subst (λ (z : TypedProgram). AreGood [] z.blocks) (same _ now q) tt
+  declaration_good (structure t) c now h table f filled q = subst (λ (z : TypedProgram). AreGood [] z.blocks) (same_Some _ now q) tt
+  declaration_good (forward t) c now h table f filled q = subst (λ (z : TypedProgram). AreGood [] z.blocks) (same_Some _ now q) tt
   declaration_good (function g) c now h table f filled q =
-      let fs = followed (function_typed (within s₀ c) g g.body) _ now q in subst (λ (z : TypedProgram). AreGood [] z.blocks) (same _ now fs.then) tt
+      let fs = followed (function_typed (within s₀ c) g g.body) _ now q in subst (λ (z : TypedProgram). AreGood [] z.blocks) (same_Some _ now fs.then) tt
   declaration_good (variables d) c now h table f filled q =
       let bs = followed (file_variables_typed (within s₀ c) d.base d.variables) _ now q in
-      subst (λ (z : TypedProgram). AreGood (sizes_of (variables_blocks c d.base d.variables)) z.blocks) (same _ now bs.then)
+      subst (λ (z : TypedProgram). AreGood (sizes_of (variables_blocks c d.base d.variables)) z.blocks) (same_Some _ now bs.then)
       (variables_good d.variables c d.base bs.value h table f filled bs.first)
 
   declarations_good : (ds : UnitTree) (c : Context) (rest : TypedProgram) → IsFileScope c → SmallTable c.structs → declarations_faults c ds ≡ [] → list_all declaration_filled ds ≡ true
       → declarations_typed (within s₀ c) ds ≡ Some rest → AreGood (sizes_of (variable_blocks_from c ds)) rest.blocks
-  declarations_good [] c rest h table f filled q = subst (λ (z : TypedProgram). AreGood [] z.blocks) (same _ rest q) tt
+  declarations_good [] c rest h table f filled q = subst (λ (z : TypedProgram). AreGood [] z.blocks) (same_Some _ rest q) tt
   declarations_good (d ∷ ds) c rest h table f filled q =
       let after = after_declaration c d in
       let now = followed (declaration_typed (within s₀ c) d) _ rest q in
       let later = followed (declarations_typed (within s₀ after) ds) _ rest now.then in
       let own = none_left (declaration_faults c d) (declarations_faults after ds) f in
       let all = good_both (declared_sizes c d) (sizes_of (variable_blocks_from after ds)) now.value.blocks later.value.blocks
-      (declaration_good d c now.value h table own (left _ _ filled) now.first)
-      (declarations_good ds after later.value (file_after s₀ c d h own) (table_after d c h table own (left _ _ filled))
-      (none_right (declaration_faults c d) (declarations_faults after ds) f) (right (declaration_filled d) _ filled) later.first) in
-      subst (λ (z : TypedProgram). AreGood (sizes_of (variable_blocks_from c (d ∷ ds))) z.blocks) (same _ rest later.then)
+      (declaration_good d c now.value h table own (first_so _ _ filled) now.first)
+      (declarations_good ds after later.value (file_after s₀ c d h own) (table_after d c h table own (first_so _ _ filled))
+      (none_right (declaration_faults c d) (declarations_faults after ds) f) (second_so (declaration_filled d) _ filled) later.first) in
+      subst (λ (z : TypedProgram). AreGood (sizes_of (variable_blocks_from c (d ∷ ds))) z.blocks) (same_Some _ rest later.then)
       (subst (λ ns. AreGood ns (now.value.blocks ++ later.value.blocks)) (sizes_joined d ds c) all)
 
 -- the table of a unit's structs is empty at its begin
@@ -258,7 +260,7 @@ typed_data_is_good unit u read well limits e =
     let all = good_both (sizes_of blocks) (sizes_of texts) d.value.blocks (map text_block (literal_blocks unit))
     (declarations_good (start_scope unit) unit start_context d.value start_known start_small well.keeps_rules read.lists d.first)
     (texts_good (literal_blocks unit) (literals_short unit limits.globals)) in
-    subst (λ (z : TypedProgram). AreGood (sizes_of (data_blocks unit)) z.blocks) (same _ u d.then)
+    subst (λ (z : TypedProgram). AreGood (sizes_of (data_blocks unit)) z.blocks) (same_Some _ u d.then)
     (subst (λ ns. AreGood ns (d.value.blocks ++ map text_block (literal_blocks unit))) (sym (map-append (λ (b : Block). b.size) blocks texts)) all)
 
 pub typed_data_is_whole : TypedDataIsWhole

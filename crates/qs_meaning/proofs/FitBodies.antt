@@ -2,6 +2,9 @@
 use Rattle.std.proofs.Common.{◌≡◌, ◌⊎◌, inl, inr, ℕ, ◌+◌, nat_lt, Bool, true, false, not, ◌||◌, List, [], ◌∷◌, ◌++◌, length, Option, Some, None, is_some, refl, sym, ap, ◌∙◌, subst, arith, if◌then◌else◌}
 use Rattle.std.specs.List.{list_all, slice_get}
 use Rattle.std.proofs.lemmas.List.{length-append}
+use Rattle.std.proofs.lemmas.Bool.{and_from}
+use Rattle.std.specs.Cmp.{first_so, second_so}
+use Rattle.std.proofs.lemmas.Option.{same_Some}
 use Rattle.qs_base.specs.Bytes.{same_bytes}
 use Rattle.qs_syntax.specs.Trees.{ParameterTree, FunctionTree, Stmts}
 use Rattle.qs_syntax.specs.Nodes.{all_nodes, parameter_nodes, stmts_nodes}
@@ -30,12 +33,11 @@ use Rattle.qs_meaning.specs.Units.{nodes_of, placed_among, plain_among, variable
 use Rattle.qs_meaning.specs.Fits.{lvalue_fits, parameters_placed, end_fits, stmts_fit, are_small, function_fits}
 use Rattle.qs_meaning.specs.FitLaws.{are_different, statements_filled}
 use Rattle.qs_meaning.specs.TypedLaws.{IsFileScope}
-use Rattle.qs_meaning.proofs.Options.{never, left, right, nothing, same, Known}
+use Rattle.qs_meaning.proofs.Options.{never, nothing, Known}
 use Rattle.qs_meaning.proofs.FaultlessExpressions.{none_right, second_unbroken}
 use Rattle.qs_meaning.proofs.TypedExpressions.{kept}
 use Rattle.qs_meaning.proofs.Functions.{all_scalar, same_result, same_structs_with}
 use Rattle.qs_meaning.proofs.UnitsTyped.{header_parts, header_unbroken, header_result, header_scalar}
-use Rattle.qs_meaning.proofs.FitConversions.{both}
 use Rattle.qs_meaning.proofs.FitTypes.{SmallTable}
 use Rattle.qs_meaning.proofs.FitLeaves.{is_short, places, AllFit}
 use Rattle.qs_meaning.proofs.FitInitialisers.{LocalPlace, in_variable, in_block, site_sure}
@@ -122,7 +124,7 @@ module _ (i : Interface) (called : List ℕ → Bool) (there : TextBlock → Boo
           × LocalPlace structs g t (if b then object (pointer_to (local (place_among l.node locals.placed))) else variable (place_among l.node locals.variables))
       as_block false p at = never p
       as_block true p at = (
-        both _ _ (subst (λ z. nat_lt (place_among l.node locals.placed) (length z) ≡ true) (sym blocks_are)
+        and_from _ _ (subst (λ z. nat_lt (place_among l.node locals.placed) (length z) ≡ true) (sym blocks_are)
             (below_length made.sizes (place_among l.node locals.placed) at.size at.stands)) refl,
         in_block (place_among l.node locals.placed) (ap (λ z. slice_get z (place_among l.node locals.placed)) blocks_are ∙ (at.stands ∙ sym at.is)),
       )
@@ -198,7 +200,7 @@ module _ (i : Interface) (called : List ℕ → Bool) (there : TextBlock → Boo
   with_names [] ts d k l m n = k
   with_names (p ∷ ps) [] d k l m n = k
   with_names (p ∷ ps) (None ∷ ts) d k l m n = never n
-  with_names (p ∷ ps) (Some t ∷ ts) d k l m n = with_names ps ts (with_parameter d p (Some t) p.name) (named p.name) l.1 m.1 (right (is_scalar t) _ n)
+  with_names (p ∷ ps) (Some t ∷ ts) d k l m n = with_names ps ts (with_parameter d p (Some t) p.name) (named p.name) l.1 m.1 (second_so (is_scalar t) _ n)
     where
       named : (x : Option (List ℕ)) → Fit ((with_parameter d p (Some t) x).inner ++ (with_parameter d p (Some t) x).outer)
       named None = k
@@ -245,7 +247,7 @@ module _ (i : Interface) (called : List ℕ → Bool) (there : TextBlock → Boo
   parameters_there : (ps : List ParameterTree) (ts : List (Option TypeTree)) (rest : List Local) (params : List Parameter) (scs : List Scalar) (k : ℕ) (front : List ℕ)
       → k ≡ length front → locals.variables ≡ front ++ nodes_of (parameters_locals ps ts ++ rest) → all_scalar ts ≡ true → Are (parameters_locals ps ts)
       → scalars_of (parameters_locals ps ts ++ rest) ≡ Some scs → parameters_typed locals ps ts ≡ Some params → parameters_placed g.blocks k params scs ≡ true
-  parameters_there [] [] rest params scs k front e v s l a b = subst (λ z. parameters_placed g.blocks k z scs ≡ true) (same _ params b) refl
+  parameters_there [] [] rest params scs k front e v s l a b = subst (λ z. parameters_placed g.blocks k z scs ≡ true) (same_Some _ params b) refl
   parameters_there [] (t ∷ ts) rest params scs k front e v s l a b = nothing params b
   parameters_there (p ∷ ps) [] rest params scs k front e v s l a b = nothing params b
   parameters_there (p ∷ ps) (None ∷ ts) rest params scs k front e v s l a b = never s
@@ -256,11 +258,11 @@ module _ (i : Interface) (called : List ℕ → Bool) (there : TextBlock → Boo
       let here = parameter_place structs g t k (local_lvalue locals p.node.id) x.value (l.0 t refl).place
       (λ y q. variable_place locals p.node.id y q ∙ (ap (place_among p.node.id) v
       ∙ (place_behind front p.node.id (nodes_of (parameters_locals ps ts ++ rest)) (subst (λ z. are_different z ≡ true) v variables_different) ∙ sym e)))
-      (left _ _ s) x.first in
-      subst (λ z. parameters_placed g.blocks k z scs ≡ true) (same _ params xs.then)
-      (subst (λ z. parameters_placed g.blocks k (x.value ∷ xs.value) z ≡ true) (same _ scs later.then)
-      (both _ _ here (parameters_there ps ts rest xs.value later.value (k + 1) (front ++ p.node.id ∷ []) (plus_one k front p.node.id e)
-      (v ∙ again front p.node.id (nodes_of (parameters_locals ps ts ++ rest))) (right (is_scalar t) _ s) l.1 later.first xs.first)))
+      (first_so _ _ s) x.first in
+      subst (λ z. parameters_placed g.blocks k z scs ≡ true) (same_Some _ params xs.then)
+      (subst (λ z. parameters_placed g.blocks k (x.value ∷ xs.value) z ≡ true) (same_Some _ scs later.then)
+      (and_from _ _ here (parameters_there ps ts rest xs.value later.value (k + 1) (front ++ p.node.id ∷ []) (plus_one k front p.node.id e)
+      (v ∙ again front p.node.id (nodes_of (parameters_locals ps ts ++ rest))) (second_so (is_scalar t) _ s) l.1 later.first xs.first)))
 
   -- 5.1.2.2.1
   main_there : (not (same_bytes f.name main_name) || is_type (result_scalar (result_type c f)) scalars.Int) ≡ true
@@ -280,12 +282,12 @@ module _ (i : Interface) (called : List ℕ → Bool) (there : TextBlock → Boo
       go : (b : Bool) → breaks_one (if b then keeps rules.MainType (is_main_type (header_of c f)) else []) ≡ false
           → (not b || is_type (result_scalar (result_type c f)) scalars.Int) ≡ true
       go false e = refl
-      go true e = int_result (result_type c f) (header_result s c f h faultless) (left _ _ (kept _ e))
+      go true e = int_result (result_type c f) (header_result s c f h faultless) (first_so _ _ (kept _ e))
 
   pub function_there : function_fits i g ≡ true
   function_there =
-      both _ _ (subst (λ (z : typed_trees.Function). parameters_placed g.blocks 0 z.parameters z.variables ≡ true) (sym made.is)
+      and_from _ _ (subst (λ (z : typed_trees.Function). parameters_placed g.blocks 0 z.parameters z.variables ≡ true) (sym made.is)
       (parameters_there f.parameters types (plain_among operands in_statements) made.parameters made.scalars 0 [] refl refl scalar parameters_are made.of_variables made.typed_parameters))
-      (both _ _ (subst (λ (z : typed_trees.Function). end_fits z ≡ true) (sym made.is) main_there)
-      (both _ _ (subst (λ (z : typed_trees.Function). stmts_fit i g false z.body ≡ true) (sym made.is) body_fits)
+      (and_from _ _ (subst (λ (z : typed_trees.Function). end_fits z ≡ true) (sym made.is) main_there)
+      (and_from _ _ (subst (λ (z : typed_trees.Function). stmts_fit i g false z.body ≡ true) (sym made.is) body_fits)
       (subst (λ z. are_small z ≡ true) (sym blocks_are) sizes_are_small)))

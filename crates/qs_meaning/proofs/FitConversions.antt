@@ -1,5 +1,8 @@
 -- Conversions and operations of the typed tree take values of the types that they are for.
 use Rattle.std.proofs.Common.{◌≡◌, ◌⊎◌, inl, inr, ℕ, Bool, true, false, ◌&&◌, ◌||◌, Some, refl, sym, ap, ◌∙◌, subst, if◌then◌else◌}
+use Rattle.std.proofs.lemmas.Bool.{and_from, or_cases}
+use Rattle.std.specs.Cmp.{first_so, second_so}
+use Rattle.std.proofs.lemmas.Option.{same_Some}
 use Rattle.qs_memory.specs.declared.scalar.Scalar.{Scalar}
 use Rattle.qs_memory.specs.declared.scalar.Scalar.TheVariants as scalars
 use Rattle.qs_memory.specs.declared.operation.Signedness.{Signedness}
@@ -14,7 +17,7 @@ use Rattle.qs_memory.specs.Sizes.{is_element}
 use Rattle.qs_memory.specs.Scalars.{same_scalar, is_promoted}
 use Rattle.qs_memory.specs.Operands.{right_takes, binary_takes}
 use Rattle.qs_memory.proofs.ScalarLaws.{scalar_same, same_self}
-use Rattle.qs_memory.proofs.Options.{some_same, followed}
+use Rattle.qs_memory.proofs.Options.{followed}
 use Rattle.qs_types.specs.Types.{TypeTree, int, unsigned, char, void, pointer, array, struct, is_integer, is_pointer, is_scalar, referenced, same_type, Structs}
 use Rattle.qs_types.specs.Layout.{size_of}
 use Rattle.qs_types.specs.Conversions.{decayed, arithmetic, common}
@@ -23,13 +26,9 @@ use Rattle.qs_meaning.specs.Typed.{unchanged, converted, as_written}
 use Rattle.qs_meaning.specs.Conversions.{scalar_of, conversion}
 use Rattle.qs_meaning.specs.Operations.{Operated, combined, shifted, compared, moved, moved_from_left, apart, summed, subtracted}
 use Rattle.qs_meaning.specs.Fits.{type_after, converts, conversion_fits, takes_in_order, amount_type}
-use Rattle.qs_meaning.proofs.Options.{never, left, right, either}
+use Rattle.qs_meaning.proofs.Options.{never}
 
 -- ---- tests
-
-pub both : (x y : Bool) → x ≡ true → y ≡ true → (x && y) ≡ true
-both true y e f = f
-both false y e f = never e
 
 pub scalar_decayed : (t : TypeTree) → scalar_of (decayed t) ≡ scalar_of t
 scalar_decayed int = refl
@@ -69,7 +68,7 @@ pointing (array t n) e = never e
 pointing (struct k) e = never e
 
 pub scalar_kind : (t : TypeTree) → is_scalar t ≡ true → Integer t ⊎ Pointing t
-scalar_kind t e = go (either (is_integer t) _ e)
+scalar_kind t e = go (or_cases (is_integer t) _ e)
   where
     go : (is_integer t ≡ true) ⊎ (is_pointer t ≡ true) → Integer t ⊎ Pointing t
     go (inl h) = inl (integer t h)
@@ -102,7 +101,7 @@ conversion_taken t u null h = go (same_scalar (scalar_of t) (scalar_of u)) h
     go : (b : Bool) → (b || converts (scalar_of t) (scalar_of u) null) ≡ true
         → conversion_fits (if b then unchanged else converted (scalar_of t) (scalar_of u)) (scalar_of t) null ≡ true
     go true h = refl
-    go false h = both _ _ (same_self (scalar_of t)) h
+    go false h = and_from _ _ (same_self (scalar_of t)) h
 
 pub conversion_type : (t u : TypeTree) → type_after (conversion t u) (scalar_of t) ≡ scalar_of u
 conversion_type t u = go (same_scalar (scalar_of t) (scalar_of u)) refl
@@ -267,15 +266,15 @@ pub data Added (t u : TypeTree) : Type 0 where
   back : Integer t → Pointing u → Added t u
 
 pub added : (structs : Structs) (t u : TypeTree) → may_add structs t u ≡ true → Added t u
-added structs t u e = go (either (both_integers t u) _ e)
+added structs t u e = go (or_cases (both_integers t u) _ e)
   where
     pointers : ((is_object_pointer structs t && is_integer u) ≡ true) ⊎ ((is_integer t && is_object_pointer structs u) ≡ true) → Added t u
-    pointers (inl h) = front (pointing t (left _ _ (left _ _ h))) (integer u (right (is_object_pointer structs t) _ h))
-    pointers (inr h) = back (integer t (left _ _ h)) (pointing u (left _ _ (right (is_integer t) _ h)))
+    pointers (inl h) = front (pointing t (first_so _ _ (first_so _ _ h))) (integer u (second_so (is_object_pointer structs t) _ h))
+    pointers (inr h) = back (integer t (first_so _ _ h)) (pointing u (first_so _ _ (second_so (is_integer t) _ h)))
 
     go : (both_integers t u ≡ true) ⊎ (((is_object_pointer structs t && is_integer u) || (is_integer t && is_object_pointer structs u)) ≡ true) → Added t u
-    go (inl h) = numbers (integer t (left _ _ h)) (integer u (right (is_integer t) _ h))
-    go (inr h) = pointers (either _ _ h)
+    go (inl h) = numbers (integer t (first_so _ _ h)) (integer u (second_so (is_integer t) _ h))
+    go (inr h) = pointers (or_cases _ _ h)
 
 numbers_summed : {t u : TypeTree} (structs : Structs) → Integer t → Integer u → summed structs t u ≡ Some (combined arithmetics.Add t u)
 numbers_summed structs an_int an_int = refl
@@ -334,24 +333,24 @@ summed_front : {u : TypeTree} (structs : Structs) (a : TypeTree) (o : Operated) 
     → PlainFits o (pointer a) u × (o.type ≡ pointer a)
 summed_front {u = u} structs a o n m j sizes e =
     let w = followed (size_of structs a) _ o e in
-    subst (λ (z : Operated). PlainFits z (pointer a) u × (z.type ≡ pointer a)) (some_same _ o w.then) (moved_fits Up w.value a j (sizes w.value w.first), refl)
+    subst (λ (z : Operated). PlainFits z (pointer a) u × (z.type ≡ pointer a)) (same_Some _ o w.then) (moved_fits Up w.value a j (sizes w.value w.first), refl)
 
 summed_back : {t : TypeTree} (structs : Structs) (a : TypeTree) (o : Operated) (n m : Bool) → Integer t → Elements structs (pointer a) → summed structs t (pointer a) ≡ Some o
     → ResultFits o t (pointer a) n m (pointer a)
 summed_back structs a o n m an_int sizes e =
     let w = followed (size_of structs a) _ o e in
-    subst (λ (z : Operated). ResultFits z int (pointer a) n m (pointer a)) (some_same _ o w.then) (record { fits = moved_left_fits w.value a an_int (sizes w.value w.first); result = refl })
+    subst (λ (z : Operated). ResultFits z int (pointer a) n m (pointer a)) (same_Some _ o w.then) (record { fits = moved_left_fits w.value a an_int (sizes w.value w.first); result = refl })
 summed_back structs a o n m an_unsigned sizes e =
     let w = followed (size_of structs a) _ o e in
-    subst (λ (z : Operated). ResultFits z unsigned (pointer a) n m (pointer a)) (some_same _ o w.then) (record { fits = moved_left_fits w.value a an_unsigned (sizes w.value w.first); result = refl })
+    subst (λ (z : Operated). ResultFits z unsigned (pointer a) n m (pointer a)) (same_Some _ o w.then) (record { fits = moved_left_fits w.value a an_unsigned (sizes w.value w.first); result = refl })
 summed_back structs a o n m a_char sizes e =
     let w = followed (size_of structs a) _ o e in
-    subst (λ (z : Operated). ResultFits z char (pointer a) n m (pointer a)) (some_same _ o w.then) (record { fits = moved_left_fits w.value a a_char (sizes w.value w.first); result = refl })
+    subst (λ (z : Operated). ResultFits z char (pointer a) n m (pointer a)) (same_Some _ o w.then) (record { fits = moved_left_fits w.value a a_char (sizes w.value w.first); result = refl })
 
 pub summed_fits : {t u : TypeTree} (structs : Structs) (o : Operated) (n m : Bool) → Added t u → Elements structs t → Elements structs u → summed structs t u ≡ Some o
     → ResultFits o t u n m (common t u)
 summed_fits {t = t} {u = u} structs o n m (numbers i j) h k e =
-    subst (λ (z : Operated). ResultFits z t u n m (common t u)) (some_same _ o (sym (numbers_summed structs i j) ∙ e))
+    subst (λ (z : Operated). ResultFits z t u n m (common t u)) (same_Some _ o (sym (numbers_summed structs i j) ∙ e))
     (record { fits = plain _ t u n m (combined_fits arithmetics.Add i j); result = ap scalar_of (sym (common_numbers i j)) })
 summed_fits {u = u} structs o n m (front (a_pointer a) j) h k e =
     let p = summed_front structs a o n m j h e in
@@ -366,27 +365,27 @@ pub data Subtracted (t u : TypeTree) : Type 0 where
   two_pointers : Pointing t → Pointing u → Subtracted t u
 
 pub subtracts : (structs : Structs) (t u : TypeTree) → may_subtract structs t u ≡ true → Subtracted t u
-subtracts structs t u e = go (either (both_integers t u) _ e)
+subtracts structs t u e = go (or_cases (both_integers t u) _ e)
   where
     second : is_pointer t ≡ true → (is_integer u ≡ true) ⊎ (same_type t u ≡ true) → Subtracted t u
     second p (inl h) = from_pointer (pointing t p) (integer u h)
     second p (inr h) = two_pointers (pointing t p) (same_pointing t u p h)
 
     go : (both_integers t u ≡ true) ⊎ ((is_object_pointer structs t && (is_integer u || same_type t u)) ≡ true) → Subtracted t u
-    go (inl h) = two_numbers (integer t (left _ _ h)) (integer u (right (is_integer t) _ h))
-    go (inr h) = second (left _ _ (left _ _ h)) (either (is_integer u) _ (right (is_object_pointer structs t) _ h))
+    go (inl h) = two_numbers (integer t (first_so _ _ h)) (integer u (second_so (is_integer t) _ h))
+    go (inr h) = second (first_so _ _ (first_so _ _ h)) (or_cases (is_integer u) _ (second_so (is_object_pointer structs t) _ h))
 
 subtracted_front : {u : TypeTree} (structs : Structs) (a : TypeTree) (o : Operated) → Integer u → Elements structs (pointer a) → subtracted structs (pointer a) u ≡ Some o
     → PlainFits o (pointer a) u × (o.type ≡ pointer a)
 subtracted_front structs a o an_int sizes e =
     let w = followed (size_of structs a) _ o e in
-    subst (λ (z : Operated). PlainFits z (pointer a) int × (z.type ≡ pointer a)) (some_same _ o w.then) (moved_fits Down w.value a an_int (sizes w.value w.first), refl)
+    subst (λ (z : Operated). PlainFits z (pointer a) int × (z.type ≡ pointer a)) (same_Some _ o w.then) (moved_fits Down w.value a an_int (sizes w.value w.first), refl)
 subtracted_front structs a o an_unsigned sizes e =
     let w = followed (size_of structs a) _ o e in
-    subst (λ (z : Operated). PlainFits z (pointer a) unsigned × (z.type ≡ pointer a)) (some_same _ o w.then) (moved_fits Down w.value a an_unsigned (sizes w.value w.first), refl)
+    subst (λ (z : Operated). PlainFits z (pointer a) unsigned × (z.type ≡ pointer a)) (same_Some _ o w.then) (moved_fits Down w.value a an_unsigned (sizes w.value w.first), refl)
 subtracted_front structs a o a_char sizes e =
     let w = followed (size_of structs a) _ o e in
-    subst (λ (z : Operated). PlainFits z (pointer a) char × (z.type ≡ pointer a)) (some_same _ o w.then) (moved_fits Down w.value a a_char (sizes w.value w.first), refl)
+    subst (λ (z : Operated). PlainFits z (pointer a) char × (z.type ≡ pointer a)) (same_Some _ o w.then) (moved_fits Down w.value a a_char (sizes w.value w.first), refl)
 
 difference_front : {u : TypeTree} (a : TypeTree) → Integer u → difference_type (pointer a) u ≡ pointer a
 difference_front a an_int = refl
@@ -396,14 +395,14 @@ difference_front a a_char = refl
 pub subtracted_fits : {t u : TypeTree} (structs : Structs) (o : Operated) (n m : Bool) → Subtracted t u → Elements structs t → subtracted structs t u ≡ Some o
     → ResultFits o t u n m (difference_type t u)
 subtracted_fits {t = t} {u = u} structs o n m (two_numbers i j) h e =
-    subst (λ (z : Operated). ResultFits z t u n m (difference_type t u)) (some_same _ o (sym (numbers_subtracted structs i j) ∙ e))
+    subst (λ (z : Operated). ResultFits z t u n m (difference_type t u)) (same_Some _ o (sym (numbers_subtracted structs i j) ∙ e))
     (record { fits = plain _ t u n m (combined_fits arithmetics.Subtract i j); result = ap scalar_of (sym (difference_numbers i j)) })
 subtracted_fits {u = u} structs o n m (from_pointer (a_pointer a) j) h e =
     let p = subtracted_front structs a o j h e in
     record { fits = plain o (pointer a) u n m p.0; result = ap scalar_of (p.1 ∙ sym (difference_front a j)) }
 subtracted_fits structs o n m (two_pointers (a_pointer a) (a_pointer b)) h e =
     let w = followed (size_of structs a) _ o e in
-    subst (λ (z : Operated). ResultFits z (pointer a) (pointer b) n m int) (some_same _ o w.then)
+    subst (λ (z : Operated). ResultFits z (pointer a) (pointer b) n m int) (same_Some _ o w.then)
     (record { fits = plain _ (pointer a) (pointer b) n m (apart_fits w.value a b (h w.value w.first)); result = refl })
 
 -- ---- what is added to an object and subtracted from it (6.5.16.2, 6.5.2.4): the object is an integer or a pointer
@@ -446,31 +445,31 @@ pointer_back o a e = subst (λ z. may_convert z (pointer a) false ≡ true) (sym
 
 pub summed_update : {t u : TypeTree} (structs : Structs) (o : Operated) → Integer t ⊎ Pointing t → Integer u → Elements structs t → summed structs t u ≡ Some o → UpdateFits o t u
 summed_update {t = t} {u = u} structs o (inl i) j h e =
-    subst (λ (z : Operated). UpdateFits z t u) (some_same _ o (sym (numbers_summed structs i j) ∙ e)) (combined_update arithmetics.Add i j)
+    subst (λ (z : Operated). UpdateFits z t u) (same_Some _ o (sym (numbers_summed structs i j) ∙ e)) (combined_update arithmetics.Add i j)
 summed_update structs o (inr (a_pointer a)) j h e =
     let p = summed_front structs a o false false j h e in record { plain = p.0; back = pointer_back o a p.1 }
 
 pub subtracted_update : {t u : TypeTree} (structs : Structs) (o : Operated) → Integer t ⊎ Pointing t → Integer u → Elements structs t → subtracted structs t u ≡ Some o
     → UpdateFits o t u
 subtracted_update {t = t} {u = u} structs o (inl i) j h e =
-    subst (λ (z : Operated). UpdateFits z t u) (some_same _ o (sym (numbers_subtracted structs i j) ∙ e)) (combined_update arithmetics.Subtract i j)
+    subst (λ (z : Operated). UpdateFits z t u) (same_Some _ o (sym (numbers_subtracted structs i j) ∙ e)) (combined_update arithmetics.Subtract i j)
 subtracted_update structs o (inr (a_pointer a)) j h e =
     let p = subtracted_front structs a o j h e in record { plain = p.0; back = pointer_back o a p.1 }
 
 -- the amount of a step is of the type that its operation takes
 pub summed_amount : {t : TypeTree} (structs : Structs) (o : Operated) → Integer t ⊎ Pointing t → summed structs t int ≡ Some o → type_after o.right scalars.Int ≡ amount_type o.operation
-summed_amount structs o (inl an_int) e = subst (λ (z : Operated). type_after z.right scalars.Int ≡ amount_type z.operation) (some_same _ o e) refl
-summed_amount structs o (inl an_unsigned) e = subst (λ (z : Operated). type_after z.right scalars.Int ≡ amount_type z.operation) (some_same _ o e) refl
-summed_amount structs o (inl a_char) e = subst (λ (z : Operated). type_after z.right scalars.Int ≡ amount_type z.operation) (some_same _ o e) refl
+summed_amount structs o (inl an_int) e = subst (λ (z : Operated). type_after z.right scalars.Int ≡ amount_type z.operation) (same_Some _ o e) refl
+summed_amount structs o (inl an_unsigned) e = subst (λ (z : Operated). type_after z.right scalars.Int ≡ amount_type z.operation) (same_Some _ o e) refl
+summed_amount structs o (inl a_char) e = subst (λ (z : Operated). type_after z.right scalars.Int ≡ amount_type z.operation) (same_Some _ o e) refl
 summed_amount structs o (inr (a_pointer a)) e =
     let w = followed (size_of structs a) _ o e in
-    subst (λ (z : Operated). type_after z.right scalars.Int ≡ amount_type z.operation) (some_same _ o w.then) refl
+    subst (λ (z : Operated). type_after z.right scalars.Int ≡ amount_type z.operation) (same_Some _ o w.then) refl
 
 pub subtracted_amount : {t : TypeTree} (structs : Structs) (o : Operated) → Integer t ⊎ Pointing t → subtracted structs t int ≡ Some o
     → type_after o.right scalars.Int ≡ amount_type o.operation
-subtracted_amount structs o (inl an_int) e = subst (λ (z : Operated). type_after z.right scalars.Int ≡ amount_type z.operation) (some_same _ o e) refl
-subtracted_amount structs o (inl an_unsigned) e = subst (λ (z : Operated). type_after z.right scalars.Int ≡ amount_type z.operation) (some_same _ o e) refl
-subtracted_amount structs o (inl a_char) e = subst (λ (z : Operated). type_after z.right scalars.Int ≡ amount_type z.operation) (some_same _ o e) refl
+subtracted_amount structs o (inl an_int) e = subst (λ (z : Operated). type_after z.right scalars.Int ≡ amount_type z.operation) (same_Some _ o e) refl
+subtracted_amount structs o (inl an_unsigned) e = subst (λ (z : Operated). type_after z.right scalars.Int ≡ amount_type z.operation) (same_Some _ o e) refl
+subtracted_amount structs o (inl a_char) e = subst (λ (z : Operated). type_after z.right scalars.Int ≡ amount_type z.operation) (same_Some _ o e) refl
 subtracted_amount structs o (inr (a_pointer a)) e =
     let w = followed (size_of structs a) _ o e in
-    subst (λ (z : Operated). type_after z.right scalars.Int ≡ amount_type z.operation) (some_same _ o w.then) refl
+    subst (λ (z : Operated). type_after z.right scalars.Int ≡ amount_type z.operation) (same_Some _ o w.then) refl

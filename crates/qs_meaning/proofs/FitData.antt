@@ -2,6 +2,9 @@
 use Rattle.std.proofs.Common.{◌≡◌, ◌≤◌, ◌<◌, ℕ, zero, suc, ◌+◌, ◌-◌, ◌*◌, nat_lt, Bool, true, false, ◌&&◌, ◌||◌, List, [], ◌∷◌, ◌++◌, length, Option, Some, None, is_some, refl, sym, ap, ◌∙◌, subst, arith, if◌then◌else◌}
 use Rattle.std.specs.List.{slice_get}
 use Rattle.std.proofs.lemmas.Bool.Decides.{nat_tests}
+use Rattle.std.proofs.lemmas.Bool.{and_from}
+use Rattle.std.specs.Cmp.{first_so, second_so}
+use Rattle.std.proofs.lemmas.Option.{same_Some}
 use Rattle.qs_syntax.specs.Trees.{ExprTree, InitialiserTree, Initialisers, no_initialisers, initialiser_and}
 use Rattle.qs_syntax.specs.Trees as trees
 use Rattle.qs_memory.specs.Memory.{Cell, BlankTree, zeros, joined, blank_cells}
@@ -21,11 +24,10 @@ use Rattle.qs_meaning.specs.Names.{Scope}
 use Rattle.qs_meaning.specs.Blanks.{Blanks, blank_by, members_blank, blanks_within}
 use Rattle.qs_meaning.specs.Initialisers.{part_offset, Piece, pieces, pieces_from}
 use Rattle.qs_meaning.specs.InitialValues.{pointer_constant, text_cells, piece_cells, written_over, pieces_over}
-use Rattle.qs_meaning.proofs.Options.{never, left, right, same, went}
+use Rattle.qs_meaning.proofs.Options.{never, went}
 use Rattle.qs_meaning.proofs.Options as options
 use Rattle.qs_meaning.proofs.CompleteTypes.{fits_takes}
 use Rattle.qs_meaning.proofs.FaultlessExpressions.{HasTypes, none_left, none_right, unbroken, type_of_known}
-use Rattle.qs_meaning.proofs.FitConversions.{both}
 use Rattle.qs_meaning.proofs.FitTypes.{AllPositive, rounded_above}
 use Rattle.qs_meaning.proofs.FitLayouts.{laid, blank_length, blanks_length}
 use Rattle.qs_meaning.proofs.Shapes.{Slot, a_pointer, width, copies, bytes, shape_of, Conforms, none, with_pointer, conforms_length, blank_conforms, number_conforms, text_conforms, taken_bytes, Part, part_next, part_at, part_front, part_behind, part_copy, part_bytes, over_conforms}
@@ -45,7 +47,7 @@ module _ (structs : Structs) where
   shape_width depth t b n p q =
       let w = went (extent_of structs t) (λ (e : Extent). Some e.size) n q in
       sym (conforms_length (shape_of b) (blank_cells b) (blank_conforms b))
-      ∙ (blank_length structs (blanks_within depth structs) (blanks_length structs depth) t b w.value p w.had ∙ same _ n w.gave)
+      ∙ (blank_length structs (blanks_within depth structs) (blanks_length structs depth) t b w.value p w.had ∙ same_Some _ n w.gave)
 
   -- the member with this offset
   record MemberPart (blanks : Blanks) (whole : List Slot) (start offset : ℕ) (t : TypeTree) : Type 0 where
@@ -66,9 +68,9 @@ module _ (structs : Structs) where
       let y = followed (blank_by (blanks_within depth structs) x.type) _ b q in
       let n = followed (size_of structs x.type) _ b y.then in
       let rest = followed (members_blank structs (blanks_within depth structs) (rounded_up start e.alignment + n.value) size ms (offsets_from (rounded_up start e.alignment + e.size) es)) _ b n.then in
-      let head = heads w.value e v.value es (same _ _ v.gave) in
-      let size_is : e.size ≡ n.value = same _ _ (sym (ap (λ o. and_then o (λ (e : Extent). Some e.size)) (w.had ∙ ap Some head.0)) ∙ n.first) in
-      go i a c y.value y.first rest.value (same _ b rest.then)
+      let head = heads w.value e v.value es (same_Some _ _ v.gave) in
+      let size_is : e.size ≡ n.value = same_Some _ _ (sym (ap (λ o. and_then o (λ (e : Extent). Some e.size)) (w.had ∙ ap Some head.0)) ∙ n.first) in
+      go i a c y.value y.first rest.value (same_Some _ b rest.then)
       (shape_width depth x.type y.value n.value y.first n.first ∙ sym size_is)
       (λ j m o a c. members_part depth ms es (rounded_up start e.alignment + e.size) size rest.value pos.1 (v.had ∙ ap Some head.1)
       (subst (λ z. members_blank structs (blanks_within depth structs) (rounded_up start e.alignment + z) size ms (offsets_from (rounded_up start e.alignment + e.size) es) ≡ Some rest.value)
@@ -90,10 +92,10 @@ module _ (structs : Structs) where
           → MemberPart (blanks_within depth structs) (shape_of b) start o m.type
       go zero a c first f rest s wide later = record {
         blank = first;
-        is = subst (λ (z : MemberTree). blank_by (blanks_within depth structs) z.type ≡ Some first) (same _ m a) f;
+        is = subst (λ (z : MemberTree). blank_by (blanks_within depth structs) z.type ≡ Some first) (same_Some _ m a) f;
         at = width (bytes (rounded_up start e.alignment - start)) + 0;
         stands = first_place start (rounded_up start e.alignment) (width (bytes (rounded_up start e.alignment - start))) (rounded_above start e.alignment pos.0)
-            (width_bytes (rounded_up start e.alignment - start)) ∙ same _ o c;
+            (width_bytes (rounded_up start e.alignment - start)) ∙ same_Some _ o c;
         part = subst (λ z. Part (shape_of z) (width (bytes (rounded_up start e.alignment - start)) + 0) (shape_of first)) s
             (part_behind (bytes (rounded_up start e.alignment - start)) (shape_of first ++ shape_of rest) (shape_of first) 0 (part_front (shape_of first) (shape_of rest)));
       }
@@ -127,9 +129,9 @@ module _ (structs : Structs) where
       let x = followed (layout_of structs k) _ b ms.then in
       let y = went (layout_of structs k) (λ (l : StructLayout). slice_get l.offsets i) at r in
       let l = laid structs k x.value x.first in
-      let members = same _ _ (sym l.of ∙ ms.first) in
+      let members = same_Some _ _ (sym l.of ∙ ms.first) in
       let m = went (slice_get l.members i) (λ (m : MemberTree). Some m.type) u (sym (ap (λ o. member_at o i) l.of) ∙ q) in
-      let offsets : slice_get x.value.offsets i ≡ Some at = ap (λ (z : StructLayout). slice_get z.offsets i) (same _ _ (sym x.first ∙ y.had)) ∙ y.gave in
+      let offsets : slice_get x.value.offsets i ≡ Some at = ap (λ (z : StructLayout). slice_get z.offsets i) (same_Some _ _ (sym x.first ∙ y.had)) ∙ y.gave in
       let part = members_part depth l.members l.extents 0 x.value.size b l.positive l.are
       (subst (λ (z : StructLayout). members_blank structs (blanks_within depth structs) 0 x.value.size l.members z.offsets ≡ Some b) (sym l.is)
       (subst (λ z. members_blank structs (blanks_within depth structs) 0 x.value.size z x.value.offsets ≡ Some b) (sym members) x.then))
@@ -137,7 +139,7 @@ module _ (structs : Structs) where
       record {
         depth = depth;
         blank = part.blank;
-        is = subst (λ z. BlankOf depth z part.blank) (same _ u m.gave) part.is;
+        is = subst (λ z. BlankOf depth z part.blank) (same_Some _ u m.gave) part.is;
         part = part_at (shape_of b) (shape_of part.blank) part.at at (zero_plus part.stands) part.part;
       }
 
@@ -151,16 +153,16 @@ module _ (structs : Structs) where
         depth = depth;
         blank = c.value;
         is = subst (λ z. BlankOf depth z c.value) there.1 c.first;
-        part = subst (λ z. Part (shape_of z) at (shape_of c.value)) (same _ b c.then)
+        part = subst (λ z. Part (shape_of z) at (shape_of c.value)) (same_Some _ b c.then)
             (part_at (copies m (shape_of c.value)) (shape_of c.value) (width (shape_of c.value) * i) at
-            (ap (λ z. z * i) (shape_width depth t c.value size.value c.first size.first) ∙ same _ at size.then) (part_copy m i (shape_of c.value) (below i m there.0)));
+            (ap (λ z. z * i) (shape_width depth t c.value size.value c.first size.first) ∙ same_Some _ at size.then) (part_copy m i (shape_of c.value) (below i m there.0)));
       }
     where
       below : (i m : ℕ) → nat_lt i m ≡ true → i < m
       below i m h = grind (arith, nat_tests)
 
       chosen : (b : Bool) → nat_lt i m ≡ b → (if b then Some t else None) ≡ Some u → (nat_lt i m ≡ true) × (t ≡ u)
-      chosen true h e = (h, same _ u e)
+      chosen true h e = (h, same_Some _ u e)
       chosen false h e = options.nothing u e
   part_shape depth (struct k) u i at b p q r = struct_part depth k u i at b p q r
   part_shape depth int u i at b p q r = options.nothing u q
@@ -199,10 +201,10 @@ module _ (s : Scope) (has : HasTypes s.context) (shape : List Slot) where
     pub conforms : Conforms slots new
 
   written : (at : ℕ) (slots : List Slot) (new made : List Cell) → Some made ≡ Some new → Part shape at slots → Conforms slots made → Written at new
-  written at slots new made e p h = record { slots = slots; part = p; conforms = subst (λ z. Conforms slots z) (same made new e) h }
+  written at slots new made e p h = record { slots = slots; part = p; conforms = subst (λ z. Conforms slots z) (same_Some made new e) h }
 
   blank_part : (at : ℕ) (b d : BlankTree) → Some d ≡ Some b → Part shape at (shape_of b) → Part shape at (shape_of d)
-  blank_part at b d e p = subst (λ z. Part shape at (shape_of z)) (sym (same d b e)) p
+  blank_part at b d e p = subst (λ z. Part shape at (shape_of z)) (sym (same_Some d b e)) p
 
   value_written : (depth : ℕ) (t : TypeTree) (at : ℕ) (b : BlankTree) (e : ExprTree) (u : TypeTree) (new : List Cell) → BlankOf structs depth t b → Part shape at (shape_of b)
       → fits_variable true c t e u ≡ true → piece_cells s (record { offset = at; type = t; expression = e }) ≡ Some new → Written at new
@@ -238,7 +240,7 @@ module _ (s : Scope) (has : HasTypes s.context) (shape : List Slot) where
   joined_pieces (p ∷ ps) qs h k = (h.0, joined_pieces ps qs h.1 k)
 
   pub over_there : (ps : List Piece) (cells out : List Cell) → AllWritten ps → Conforms shape cells → pieces_over s ps cells ≡ Some out → Conforms shape out
-  over_there [] cells out h k q = subst (λ z. Conforms shape z) (same cells out q) k
+  over_there [] cells out h k q = subst (λ z. Conforms shape z) (same_Some cells out q) k
   over_there (p ∷ ps) cells out h k q =
       let new = followed (piece_cells s p) _ out q in
       let w = h.0 new.value new.first in
@@ -254,7 +256,7 @@ module _ (s : Scope) (has : HasTypes s.context) (shape : List Slot) where
   all_elements_typed : (is : Initialisers) (u : TypeTree) (k : ℕ) → elements_faults true c (Some u) k is ≡ [] → elements_typed c is ≡ true
   all_elements_typed no_initialisers u k h = refl
   all_elements_typed (initialiser_and (trees.value e) is) u k h =
-      both _ _ (ap is_some (type_of_known c has e whole (none_left _ _ h)).is) (all_elements_typed is u (k + 1) (none_right (expr_faults c whole e) _ h))
+      and_from _ _ (ap is_some (type_of_known c has e whole (none_left _ _ h)).is) (all_elements_typed is u (k + 1) (none_right (expr_faults c whole e) _ h))
   all_elements_typed (initialiser_and (trees.list node inner) is) u k h =
       all_elements_typed is u (k + 1) (none_right (initialiser_faults true c (part_type structs u k) (trees.list node inner)) _ h)
 
@@ -269,7 +271,7 @@ module _ (s : Scope) (has : HasTypes s.context) (shape : List Slot) where
         → element_fits true c (Some t) init ≡ true → initialiser_faults true c (Some t) init ≡ [] → pieces structs t at init ≡ Some ps → AllWritten ps
     pieces_written (trees.value e) depth t at b ps p part fit f q =
         let x = fitting t e fit in
-        subst AllWritten (same _ ps q) ((λ new r. value_written depth t at b e x.0 new p part x.1 r), tt)
+        subst AllWritten (same_Some _ ps q) ((λ new r. value_written depth t at b e x.0 new p part x.1 r), tt)
     pieces_written (trees.list node is) depth t at b ps p part fit f q =
         let inner = none_right (faults_of node.id (list_tests true c t is)) (elements_faults true c (Some t) 0 is) f in
         let tests = unbroken node.id (list_tests true c t is) (none_left (faults_of node.id (list_tests true c t is)) (elements_faults true c (Some t) 0 is) f) in
@@ -278,18 +280,18 @@ module _ (s : Scope) (has : HasTypes s.context) (shape : List Slot) where
 
     elements_written : (is : Initialisers) (depth : ℕ) (t : TypeTree) (at : ℕ) (b : BlankTree) (k : ℕ) (ps : List Piece) → BlankOf structs depth t b → Part shape at (shape_of b)
         → elements_fit true c (Some t) k is ≡ true → elements_faults true c (Some t) k is ≡ [] → pieces_from structs t at k is ≡ Some ps → AllWritten ps
-    elements_written no_initialisers depth t at b k ps p part fit f q = subst AllWritten (same _ ps q) tt
+    elements_written no_initialisers depth t at b k ps p part fit f q = subst AllWritten (same_Some _ ps q) tt
     elements_written (initialiser_and first is) depth t at b k ps p part fit f q =
         let u = followed (part_type structs t k) _ ps q in
         let offset = followed (part_offset structs t k) _ ps u.then in
         let now = followed (pieces structs u.value (at + offset.value) first) _ ps offset.then in
         let later = followed (pieces_from structs t at (k + 1) is) _ ps now.then in
         let sub = part_shape structs depth t u.value k offset.value b p u.first offset.first in
-        let fit_first : element_fits true c (part_type structs t k) first ≡ true = left _ _ fit in
-        subst AllWritten (same _ ps later.then) (joined_pieces now.value later.value
+        let fit_first : element_fits true c (part_type structs t k) first ≡ true = first_so _ _ fit in
+        subst AllWritten (same_Some _ ps later.then) (joined_pieces now.value later.value
         (pieces_written first sub.depth u.value (at + offset.value) sub.blank now.value sub.is
         (part_next shape (shape_of b) (shape_of sub.blank) at offset.value part sub.part)
         (subst (λ o. element_fits true c o first ≡ true) u.first fit_first)
         (subst (λ o. initialiser_faults true c o first ≡ []) u.first (none_left _ _ f)) now.first)
-        (elements_written is depth t at b (k + 1) later.value p part (right (element_fits true c (part_type structs t k) first) _ fit)
+        (elements_written is depth t at b (k + 1) later.value p part (second_so (element_fits true c (part_type structs t k) first) _ fit)
         (none_right (initialiser_faults true c (part_type structs t k) first) _ f) later.first))

@@ -1,5 +1,7 @@
 -- Declared types are small, and have sizes.
-use Rattle.std.proofs.Common.{◌≡◌, ◌≤◌, ℕ, zero, suc, ◌+◌, ◌==◌, ◌^◌, nat_lt, Bool, true, false, not, ◌&&◌, ◌||◌, List, [], ◌∷◌, ◌++◌, length, Option, Some, None, is_some, refl, sym, ap, subst, arith, if◌then◌else◌}
+use Rattle.std.proofs.Common.{◌≡◌, ◌≤◌, ℕ, zero, suc, ◌+◌, ◌==◌, ◌^◌, nat_lt, Bool, true, false, not, ◌&&◌, ◌||◌, List, [], ◌∷◌, ◌++◌, length, Option, Some, None, is_some, refl, sym, ap, subst, arith, if◌then◌else◌, le-leb}
+use Rattle.std.proofs.lemmas.Bool.{and_from}
+use Rattle.std.proofs.lemmas.Option.{same_Some}
 use Rattle.qs_syntax.specs.declared.types.Base.{Base}
 use Rattle.qs_syntax.specs.Trees.{ExprTree, LengthsTree, DeclaratorTree, InitialiserTree, no_initialisers, initialiser_and, VariableTree}
 use Rattle.qs_syntax.specs.Trees as trees
@@ -13,11 +15,10 @@ use Rattle.qs_types.specs.Expressions.{type_or_void, type_of}
 use Rattle.qs_types.specs.Constants.{constant_of, length_within, length_of}
 use Rattle.qs_types.specs.Declarations.{all_typed, lengths_of, arrays, whole_lengths, element_tests, object_type, size_tests, object_declared, undeclared, declared, initialisers_count, text_of, length_by, variable_declared}
 use Rattle.qs_meaning.specs.FitLaws.{is_filled}
-use Rattle.qs_meaning.proofs.Options.{never, nothing, same, went, Known, known}
+use Rattle.qs_meaning.proofs.Options.{never, nothing, went, Known, known}
 use Rattle.qs_meaning.proofs.FaultlessExpressions.{first_unbroken, second_unbroken}
 use Rattle.qs_meaning.proofs.TypedExpressions.{unless}
-use Rattle.qs_meaning.proofs.FitConversions.{both}
-use Rattle.qs_meaning.proofs.FitTypes.{is_small, is_least, sized_is}
+use Rattle.qs_meaning.proofs.FitTypes.{is_small, sized_is}
 use Rattle.qs_meaning.proofs.FitSmall.{starred_small}
 
 -- ---- lengths (6.7.6.2p1)
@@ -42,14 +43,14 @@ length_positive c e n h =
         go : (b large : Bool) → (m == 0) ≡ b → (if b || large then None else Some m) ≡ Some n → 1 ≤ n
         go true large f h = nothing n h
         go false true f h = nothing n h
-        go false false f h = subst (λ z. 1 ≤ z) (same m n h) (not_zero m f)
+        go false false f h = subst (λ z. 1 ≤ z) (same_Some m n h) (not_zero m f)
 
 pub lengths_positive : (c : Context) (es : List ExprTree) (ns : List ℕ) → lengths_of c es ≡ Some ns → AllPositive ns
-lengths_positive c [] ns h = subst AllPositive (same [] ns h) tt
+lengths_positive c [] ns h = subst AllPositive (same_Some [] ns h) tt
 lengths_positive c (e ∷ es) ns h =
     let n = went (length_of c e) (λ n. and_then (lengths_of c es) (λ ns. Some (n ∷ ns))) ns h in
     let rest = went (lengths_of c es) (λ ns. Some (n.value ∷ ns)) ns n.gave in
-    subst AllPositive (same _ ns rest.gave) (length_positive c e n.value n.had, lengths_positive c es rest.value rest.had)
+    subst AllPositive (same_Some _ ns rest.gave) (length_positive c e n.value n.had, lengths_positive c es rest.value rest.had)
 
 abbrev pub IfPositive : Option ℕ → Type 0
 IfPositive first = (n : ℕ) → first ≡ Some n → 1 ≤ n
@@ -60,8 +61,8 @@ whole_positive l first None ns h k e = nothing ns e
 whole_positive l first (Some ms) ns h k e = go l.is_open e
   where
     go : (b : Bool) → (if b then and_then first (λ n. Some (n ∷ ms)) else Some ms) ≡ Some ns → AllPositive ns
-    go true e = let w = went first (λ n. Some (n ∷ ms)) ns e in subst AllPositive (same _ ns w.gave) (h w.value w.had, k ms refl)
-    go false e = subst AllPositive (same ms ns e) (k ms refl)
+    go true e = let w = went first (λ n. Some (n ∷ ms)) ns e in subst AllPositive (same_Some _ ns w.gave) (h w.value w.had, k ms refl)
+    go false e = subst AllPositive (same_Some ms ns e) (k ms refl)
 
 -- ---- arrays
 
@@ -76,7 +77,7 @@ arrays_small : (structs : Structs) (t : TypeTree) (ns : List ℕ) → is_small s
     → is_small structs (arrays t ns) ≡ true
 arrays_small structs t [] h k e = h
 arrays_small structs t (n ∷ ns) h k e =
-    both _ _ (both _ _ (is_least 1 n k.0) e) (arrays_small structs t ns h k.1 (element_sized structs (arrays t ns) n e))
+    and_from _ _ (and_from _ _ (le-leb 1 n k.0) e) (arrays_small structs t ns h k.1 (element_sized structs (arrays t ns) n e))
 
 -- ---- declared types
 
@@ -130,9 +131,9 @@ first_positive : (i : Option InitialiserTree) → is_filled i ≡ true → IfPos
 first_positive None h n e = nothing n e
 first_positive (Some (trees.value x)) h n e =
     let w = went (text_of x) (λ bytes. Some (length bytes + 1)) n e in
-    subst (λ z. 1 ≤ z) (same _ n w.gave) (text_positive (length w.value))
+    subst (λ z. 1 ≤ z) (same_Some _ n w.gave) (text_positive (length w.value))
 first_positive (Some (trees.list node no_initialisers)) h n e = never h
-first_positive (Some (trees.list node (initialiser_and i is))) h n e = subst (λ z. 1 ≤ z) (same _ n e) (positive (initialisers_count is))
+first_positive (Some (trees.list node (initialiser_and i is))) h n e = subst (λ z. 1 ≤ z) (same_Some _ n e) (positive (initialisers_count is))
   where
     positive : (n : ℕ) → 1 ≤ suc n
     positive n = omega arith

@@ -1,6 +1,9 @@
 -- The typed tree of an expression fits.
-use Rattle.std.proofs.Common.{◌≡◌, ◌≤◌, ◌⊎◌, inl, inr, ℕ, ◌+◌, ◌^◌, nat_lt, nat_le, ◌==◌, Bool, true, false, not, ◌&&◌, ◌||◌, List, [], ◌∷◌, ◌++◌, map, length, Option, Some, None, is_some, refl, sym, ap, ◌∙◌, subst, arith}
+use Rattle.std.proofs.Common.{◌≡◌, ◌≤◌, ◌⊎◌, inl, inr, ℕ, ◌+◌, ◌^◌, nat_lt, nat_le, ◌==◌, Bool, true, false, not, ◌&&◌, ◌||◌, List, [], ◌∷◌, ◌++◌, map, length, Option, Some, None, is_some, refl, sym, ap, ◌∙◌, subst, arith, le-leb}
 use Rattle.std.proofs.lemmas.Bool.Decides.{nat_tests}
+use Rattle.std.proofs.lemmas.Bool.{and_from, or_cases, not-false}
+use Rattle.std.specs.Cmp.{first_so, second_so}
+use Rattle.std.proofs.lemmas.Option.{same_Some}
 use Rattle.qs_syntax.specs.declared.nodes.Node.{Node}
 use Rattle.qs_syntax.specs.declared.types.TypeName.{TypeName}
 use Rattle.qs_syntax_vocabulary.specs.declared.operators.UnaryOperator.{UnaryOperator}
@@ -29,7 +32,7 @@ use Rattle.qs_memory.specs.declared.operation.Arithmetic.{Arithmetic}
 use Rattle.qs_memory.specs.declared.operation.Arithmetic.TheVariants as arithmetics
 use Rattle.qs_memory.specs.declared.operation.Comparison.{Comparison}
 use Rattle.qs_memory.specs.declared.operation.Comparison.TheVariants as comparisons
-use Rattle.qs_memory.proofs.Options.{some_same, followed}
+use Rattle.qs_memory.proofs.Options.{followed}
 use Rattle.qs_calls.specs.Starts.{Interface}
 use Rattle.qs_types.specs.Types.{TypeTree, int, unsigned, char, void, pointer, array, struct, is_integer, is_pointer, is_array, is_struct, is_scalar, is_void, same_type, referenced, Structs}
 use Rattle.qs_types.specs.Layout.{and_then, extent_of, size_of}
@@ -48,11 +51,11 @@ use Rattle.qs_meaning.specs.Names.{Scope, entity_lvalue, Designator, entity_desi
 use Rattle.qs_meaning.specs.Expressions.{operated, operator_value, arguments_of, member_offset, member_form, set_form, struct_form, plain_form, compound_form, assign_form, one, step_after_form, step_form, unary_form, size_form, cast_form, beside_zero, operator_form, binary_form, subscript_form, conditional_form, typed, form_of, all_typed}
 use Rattle.qs_meaning.specs.Fits as fitting
 use Rattle.qs_meaning.specs.Fits.{type_after, conversion_fits, is_null, takes_in_order, amount_type, expr_fits, lvalue_fits, arguments_fit, object_there}
-use Rattle.qs_meaning.proofs.Options.{never, left, right, either, nothing, same, went}
-use Rattle.qs_meaning.proofs.TypedExpressions.{kept, unbroken_left, unbroken_right, not_true, unless}
-use Rattle.qs_meaning.proofs.FitConversions.{both, Integer, an_int, an_unsigned, a_char, Pointing, a_pointer, integer, pointing, scalar_kind, may_convert, conversion_type, plain, combined_fits, Shifts, shifted_fits, Alike, compared_fits, shared, Elements, added, ResultFits, summed_fits, subtracts, subtracted_fits, UpdateFits, combined_update, shifted_update, summed_update, subtracted_update, summed_amount, subtracted_amount, conversion_taken}
+use Rattle.qs_meaning.proofs.Options.{never, nothing, went}
+use Rattle.qs_meaning.proofs.TypedExpressions.{kept, unbroken_left, unbroken_right, unless}
+use Rattle.qs_meaning.proofs.FitConversions.{Integer, an_int, an_unsigned, a_char, Pointing, a_pointer, integer, pointing, scalar_kind, may_convert, conversion_type, plain, combined_fits, Shifts, shifted_fits, Alike, compared_fits, shared, Elements, added, ResultFits, summed_fits, subtracts, subtracted_fits, UpdateFits, combined_update, shifted_update, summed_update, subtracted_update, summed_amount, subtracted_amount, conversion_taken}
 use Rattle.qs_meaning.proofs.FitForms.{Has, AssignmentFits, FormFits, integer_solid, pointing_solid, scalar_solid, pointer_object, lvalue_there, address_there, in_use, effect_there, conversion_there, becomes_there, null_value, MaybeNull, Assignable, integers_assignable, pointers_assignable, null_assignable, assignable, alike, alike_first, alike_second, added_solid, subtracted_solid}
-use Rattle.qs_meaning.proofs.FitTypes.{is_small, SmallTable, size_room, room, elements, alignment_positive, is_least, member_offset_small, small_decayed}
+use Rattle.qs_meaning.proofs.FitTypes.{is_small, SmallTable, size_room, room, elements, alignment_positive, member_offset_small, small_decayed}
 use Rattle.qs_meaning.proofs.FitLeaves.{is_sure, shape_sure, all_sure, is_short, places, EntityFits, scalar_signature}
 use Rattle.qs_meaning.proofs.FitSmall.{Place, starred_small, type_small}
 
@@ -61,18 +64,18 @@ use Rattle.qs_meaning.proofs.FitSmall.{Place, starred_small, type_small}
 module _ (structs : Structs) (x y : ExprTree) (t u : TypeTree) (n m : Bool) (first : MaybeNull x n t) (second : MaybeNull y m u) (h : Elements structs t) (k : Elements structs u) where
   combined_result : (op : Arithmetic) (o : Operated) → (not (both_integers t u) || false) ≡ false → Some (combined op t u) ≡ Some o → ResultFits o t u n m (arithmetic t u)
   combined_result op o r e =
-      let i = integer t (left _ _ (kept _ r)) in
-      let j = integer u (right (is_integer t) _ (kept _ r)) in
-      subst (λ (z : Operated). ResultFits z t u n m (arithmetic t u)) (some_same _ o e) (record { fits = plain _ t u n m (combined_fits op i j); result = refl })
+      let i = integer t (first_so _ _ (kept _ r)) in
+      let j = integer u (second_so (is_integer t) _ (kept _ r)) in
+      subst (λ (z : Operated). ResultFits z t u n m (arithmetic t u)) (same_Some _ o e) (record { fits = plain _ t u n m (combined_fits op i j); result = refl })
 
   shifted_result : (op : Arithmetic) (o : Operated) → Shifts op → (not (both_integers t u) || false) ≡ false → Some (shifted op t u) ≡ Some o → ResultFits o t u n m (promoted t)
   shifted_result op o shifts r e =
-      let i = integer t (left _ _ (kept _ r)) in
-      let j = integer u (right (is_integer t) _ (kept _ r)) in
-      subst (λ (z : Operated). ResultFits z t u n m (promoted t)) (some_same _ o e) (record { fits = plain _ t u n m (shifted_fits op shifts i j); result = refl })
+      let i = integer t (first_so _ _ (kept _ r)) in
+      let j = integer u (second_so (is_integer t) _ (kept _ r)) in
+      subst (λ (z : Operated). ResultFits z t u n m (promoted t)) (same_Some _ o e) (record { fits = plain _ t u n m (shifted_fits op shifts i j); result = refl })
 
   compared_result : (c : Comparison) (o : Operated) → Alike t u n m → Some (compared c t u) ≡ Some o → ResultFits o t u n m int
-  compared_result c o a e = subst (λ (z : Operated). ResultFits z t u n m int) (some_same _ o e) (record { fits = compared_fits c a; result = refl })
+  compared_result c o a e = subst (λ (z : Operated). ResultFits z t u n m int) (same_Some _ o e) (record { fits = compared_fits c a; result = refl })
 
   -- 6.5.8p2 and 6.5.9p2 of pointers of one type
   ordered : (not (expressions.may_order t u) || false) ≡ false → Alike t u n m
@@ -113,13 +116,13 @@ operands_solid : (structs : Structs) (operator : BinaryOperator) (x y : ExprTree
 operands_solid structs operator x y t u n m first second = go operator
   where
     numbers : (not (both_integers t u) || false) ≡ false → (is_void t ≡ false) × (is_void u ≡ false)
-    numbers r = (integer_solid (integer t (left _ _ (kept _ r))), integer_solid (integer u (right (is_integer t) _ (kept _ r))))
+    numbers r = (integer_solid (integer t (first_so _ _ (kept _ r))), integer_solid (integer u (second_so (is_integer t) _ (kept _ r))))
 
     likes : Alike t u n m → (is_void t ≡ false) × (is_void u ≡ false)
     likes a = (alike_first a, alike_second a)
 
     tested : (not (is_scalar t && is_scalar u) || false) ≡ false → (is_void t ≡ false) × (is_void u ≡ false)
-    tested r = (scalar_solid t (left _ _ (kept _ r)), scalar_solid u (right (is_scalar t) _ (kept _ r)))
+    tested r = (scalar_solid t (first_so _ _ (kept _ r)), scalar_solid u (second_so (is_scalar t) _ (kept _ r)))
 
     sums : (not (may_add structs t u) || false) ≡ false → (is_void t ≡ false) × (is_void u ≡ false)
     sums r = added_solid (added structs t u (kept _ r))
@@ -165,12 +168,12 @@ module _ (i : Interface) (g : Function) where
       let x = value_in_use a in
       let y = value_in_use b in
       record {
-        fits = both _ _ (both _ _ p.fits q.fits)
+        fits = and_from _ _ (and_from _ _ p.fits q.fits)
             (subst (λ z. ((conversion_fits o.left z (is_null x) && conversion_fits o.right (fitting.type_of y) (is_null y))
             && takes_in_order o.order o.operation (type_after o.left z) (type_after o.right (fitting.type_of y))) ≡ true) (sym p.type)
             (subst (λ z. ((conversion_fits o.left (scalar_of (type_in_use a)) (is_null x) && conversion_fits o.right z (is_null y))
             && takes_in_order o.order o.operation (type_after o.left (scalar_of (type_in_use a))) (type_after o.right z)) ≡ true) (sym q.type)
-            (both _ _ (both _ _ r.fits.left r.fits.right) r.fits.takes)));
+            (and_from _ _ (and_from _ _ r.fits.left r.fits.right) r.fits.takes)));
         type = r.fits.type ∙ r.result;
       }
 
@@ -180,17 +183,17 @@ module _ (i : Interface) (g : Function) where
       → (conversion_fits (conversion o.type t) (binary_type o.operation) false && same_scalar (type_after (conversion o.type t) (binary_type o.operation)) (scalar_of t)) ≡ true
   back_there o t e h =
       subst (λ z. (conversion_fits (conversion o.type t) z false && same_scalar (type_after (conversion o.type t) z) (scalar_of t)) ≡ true) (sym e)
-      (both _ _ (conversion_taken o.type t false h) (same_as _ _ (conversion_type o.type t)))
+      (and_from _ _ (conversion_taken o.type t false h) (same_as _ _ (conversion_type o.type t)))
 
   update_has : (o : Operated) (t u : TypeTree) (l : Lvalue) (x : Expr) → lvalue_fits i g (scalar_of t) l ≡ true → Has i g x (scalar_of u) → UpdateFits o t u
       → AssignmentFits i g (update (scalar_of t) l o.operation o.left o.right (conversion o.type t) x) (scalar_of t)
   update_has o t u l x h p f = record {
-    fits = both _ _ (both _ _ h p.fits)
+    fits = and_from _ _ (and_from _ _ h p.fits)
         (subst (λ z. ((conversion_fits o.left (scalar_of t) false && conversion_fits o.right z (is_null x))
         && (binary_takes o.operation (type_after o.left (scalar_of t)) (type_after o.right z)
         && (conversion_fits (conversion o.type t) (binary_type o.operation) false && same_scalar (type_after (conversion o.type t) (binary_type o.operation)) (scalar_of t)))) ≡ true)
         (sym p.type)
-        (both _ _ (both _ _ (f.plain.left false) (f.plain.right (is_null x))) (both _ _ f.plain.takes (back_there o t f.plain.type f.back))));
+        (and_from _ _ (and_from _ _ (f.plain.left false) (f.plain.right (is_null x))) (and_from _ _ f.plain.takes (back_there o t f.plain.type f.back))));
     type = refl;
   }
 
@@ -198,8 +201,8 @@ module _ (i : Interface) (g : Function) where
   before_has : (o : Operated) (t : TypeTree) (l : Lvalue) → lvalue_fits i g (scalar_of t) l ≡ true → UpdateFits o t int → type_after o.right scalars.Int ≡ amount_type o.operation
       → Has i g (stepped_after (scalar_of t) l o.operation o.left (conversion o.type t)) (scalar_of t)
   before_has o t l h f e = record {
-    fits = both _ _ h (both _ _ (f.plain.left false)
-        (both _ _ (subst (λ z. binary_takes o.operation (type_after o.left (scalar_of t)) z ≡ true) e f.plain.takes) (back_there o t f.plain.type f.back)));
+    fits = and_from _ _ h (and_from _ _ (f.plain.left false)
+        (and_from _ _ (subst (λ z. binary_takes o.operation (type_after o.left (scalar_of t)) z ≡ true) e f.plain.takes) (back_there o t f.plain.type f.back)));
     type = refl;
   }
 
@@ -215,7 +218,7 @@ pub record Value (i : Interface) (g : Function) (e : ExprTree) (a : TypedExpr) :
 
 judge : (i : Interface) (g : Function) (form : Form) (k j : Judged) → Some k ≡ Some j → breaks_one j.tests ≡ false → (breaks_one k.tests ≡ false → FormFits i g k.type form)
     → FormFits i g j.type form
-judge i g form k j e h f = subst (λ (z : Judged). breaks_one z.tests ≡ false → FormFits i g z.type form) (same k j e) f h
+judge i g form k j e h f = subst (λ (z : Judged). breaks_one z.tests ≡ false → FormFits i g z.type form) (same_Some k j e) f h
 
 object_kept : (may b : Bool) → may ≡ true → ((may && not b) || false) ≡ false → b ≡ true
 object_kept true b e h = kept b h
@@ -254,7 +257,7 @@ gave_at o x go y e f = sym (ap (λ o. and_then o go) e) ∙ f
 
 module _ (i : Interface) (g : Function) where
   form_is : (t : TypeTree) (f form : Form) → Some f ≡ Some form → FormFits i g t f → FormFits i g t form
-  form_is t f form e h = subst (λ z. FormFits i g t z) (some_same f form e) h
+  form_is t f form e h = subst (λ z. FormFits i g t z) (same_Some f form e) h
 
   module _ (structs : Structs) (table : SmallTable structs) where
     operator_there : (operator : BinaryOperator) (x y : ExprTree) (a b : TypedExpr) (form : Form) → Value i g x a → Value i g y b
@@ -267,14 +270,14 @@ module _ (i : Interface) (g : Function) where
         let solid = operands_solid structs operator x y (type_in_use a) (type_in_use b) (is_null (value_in_use a)) (is_null (value_in_use b)) p.null q.null r in
         let fits = operation_result structs x y (type_in_use a) (type_in_use b) (is_null (value_in_use a)) (is_null (value_in_use b)) p.null q.null
         (elements structs table (type_in_use a) (small_decayed structs a.type h)) (elements structs table (type_in_use b) (small_decayed structs b.type k)) operator o.value r o.first in
-        form_is _ _ form w.then (subst (λ z. Has i g z (scalar_of (binary_judged structs operator x (type_in_use a) y (type_in_use b)).type)) (some_same _ w.value o.then)
+        form_is _ _ form w.then (subst (λ z. Has i g z (scalar_of (binary_judged structs operator x (type_in_use a) y (type_in_use b)).type)) (same_Some _ w.value o.then)
         (operated_has i g o.value a b _ (in_use i g a p.form solid.0) (in_use i g b q.form solid.1) fits))
 
     logical_there : (operator : BinaryOperator) (x y : ExprTree) (a b : TypedExpr) → Value i g x a → Value i g y b
         → (not (is_scalar (type_in_use a) && is_scalar (type_in_use b)) || false) ≡ false → (expr_fits i g (value_in_use a) && expr_fits i g (value_in_use b)) ≡ true
     logical_there operator x y a b p q r =
-        both _ _ (in_use i g a p.form (scalar_solid (type_in_use a) (left _ _ (kept _ r)))).fits
-        (in_use i g b q.form (scalar_solid (type_in_use b) (right (is_scalar (type_in_use a)) _ (kept _ r)))).fits
+        and_from _ _ (in_use i g a p.form (scalar_solid (type_in_use a) (first_so _ _ (kept _ r)))).fits
+        (in_use i g b q.form (scalar_solid (type_in_use b) (second_so (is_scalar (type_in_use a)) _ (kept _ r)))).fits
 
     binary_there : (operator : BinaryOperator) (x y : ExprTree) (a b : TypedExpr) (form : Form) → Value i g x a → Value i g y b
         → is_small structs a.type ≡ true → is_small structs b.type ≡ true
@@ -321,11 +324,11 @@ module _ (i : Interface) (g : Function) where
         (update_has i g o.value a.type int l.value (value_in_use one) at (one_has i g) u.0, before_has i g o.value a.type l.value at u.0 u.1)
 
     step_kind : (x : ExprTree) (t : TypeTree) → breaks_one (step_judged structs x t).tests ≡ false → Integer t ⊎ Pointing t
-    step_kind x t r = go (either (is_integer t) _ (right (is_lvalue x) _ (kept _ r)))
+    step_kind x t r = go (or_cases (is_integer t) _ (second_so (is_lvalue x) _ (kept _ r)))
       where
         go : (is_integer t ≡ true) ⊎ (is_object_pointer structs t ≡ true) → Integer t ⊎ Pointing t
         go (inl h) = inl (integer t h)
-        go (inr h) = inr (pointing t (left _ _ h))
+        go (inr h) = inr (pointing t (first_so _ _ h))
 
     step_there : (operator : StepOperator) (x : ExprTree) (a : TypedExpr) (form : Form) → FormFits i g a.type a.form → is_small structs a.type ≡ true
         → breaks_one (step_judged structs x a.type).tests ≡ false → step_form structs operator a ≡ Some form → FormFits i g a.type form
@@ -349,7 +352,7 @@ module _ (i : Interface) (g : Function) where
         let l = followed (lvalue_of a.form) _ form e in
         let x = in_use i g b k c.solid in
         form_is _ _ form l.then (record {
-          fits = both _ _ (lvalue_there i g a.type a.form l.value l.first h) (both _ _ x.fits (becomes_there i g (value_in_use b) (type_in_use b) a.type x c.converts));
+          fits = and_from _ _ (lvalue_there i g a.type a.form l.value l.first h) (and_from _ _ x.fits (becomes_there i g (value_in_use b) (type_in_use b) a.type x c.converts));
           type = refl;
         })
 
@@ -363,8 +366,8 @@ module _ (i : Interface) (g : Function) where
         let q = address_there i g b.type b.form from.value from.first m in
         let size = (room structs table (struct k) refl x.value x.first).most in
         form_is _ _ form from.then (
-          both _ _ (both _ _ p.fits (same_as _ _ p.type)) (both _ _ (both _ _ q.fits (same_as _ _ q.type))
-              (both _ _ (is_least 1 x.value.alignment (alignment_positive structs (struct k) x.value x.first)) (is_least x.value.size largest_size size))),
+          and_from _ _ (and_from _ _ p.fits (same_as _ _ p.type)) (and_from _ _ (and_from _ _ q.fits (same_as _ _ q.type))
+              (and_from _ _ (le-leb 1 x.value.alignment (alignment_positive structs (struct k) x.value x.first)) (le-leb x.value.size largest_size size))),
           p,
           refl,
         )
@@ -390,35 +393,35 @@ module _ (i : Interface) (g : Function) where
         combines : (op : Arithmetic) (operator : BinaryOperator) → (not (may_combine x a.type (type_in_use b)) || false) ≡ false
             → ((t u : TypeTree) → operation_of structs operator t u ≡ Some (combined op t u)) → compound_form structs operator a b ≡ Some form → FormFits i g a.type form
         combines op operator r is e =
-            let n = integer a.type (left _ _ (right (is_lvalue x) _ (kept _ r))) in
-            let m = integer (type_in_use b) (right (is_integer a.type) _ (right (is_lvalue x) _ (kept _ r))) in
+            let n = integer a.type (first_so _ _ (second_so (is_lvalue x) _ (kept _ r))) in
+            let m = integer (type_in_use b) (second_so (is_integer a.type) _ (second_so (is_lvalue x) _ (kept _ r))) in
             compound_there operator a b form p.form (in_use i g b q.form (integer_solid m))
-            (λ o h. subst (λ (z : Operated). UpdateFits z a.type (type_in_use b)) (some_same _ o (sym (is a.type (type_in_use b)) ∙ h)) (combined_update op n m)) e
+            (λ o h. subst (λ (z : Operated). UpdateFits z a.type (type_in_use b)) (same_Some _ o (sym (is a.type (type_in_use b)) ∙ h)) (combined_update op n m)) e
 
         shift : (op : Arithmetic) (operator : BinaryOperator) → Shifts op → (not (may_combine x a.type (type_in_use b)) || false) ≡ false
             → ((t u : TypeTree) → operation_of structs operator t u ≡ Some (shifted op t u)) → compound_form structs operator a b ≡ Some form → FormFits i g a.type form
         shift op operator shifts r is e =
-            let n = integer a.type (left _ _ (right (is_lvalue x) _ (kept _ r))) in
-            let m = integer (type_in_use b) (right (is_integer a.type) _ (right (is_lvalue x) _ (kept _ r))) in
+            let n = integer a.type (first_so _ _ (second_so (is_lvalue x) _ (kept _ r))) in
+            let m = integer (type_in_use b) (second_so (is_integer a.type) _ (second_so (is_lvalue x) _ (kept _ r))) in
             compound_there operator a b form p.form (in_use i g b q.form (integer_solid m))
-            (λ o h. subst (λ (z : Operated). UpdateFits z a.type (type_in_use b)) (some_same _ o (sym (is a.type (type_in_use b)) ∙ h)) (shifted_update op shifts n m)) e
+            (λ o h. subst (λ (z : Operated). UpdateFits z a.type (type_in_use b)) (same_Some _ o (sym (is a.type (type_in_use b)) ∙ h)) (shifted_update op shifts n m)) e
 
         kind : (not (may_move structs x a.type (type_in_use b)) || false) ≡ false → Integer a.type ⊎ Pointing a.type
-        kind r = one (either (is_integer a.type) _ (left _ _ (right (is_lvalue x) _ (kept _ r))))
+        kind r = one (or_cases (is_integer a.type) _ (first_so _ _ (second_so (is_lvalue x) _ (kept _ r))))
           where
             one : (is_integer a.type ≡ true) ⊎ (is_object_pointer structs a.type ≡ true) → Integer a.type ⊎ Pointing a.type
             one (inl h) = inl (integer a.type h)
-            one (inr h) = inr (pointing a.type (left _ _ h))
+            one (inr h) = inr (pointing a.type (first_so _ _ h))
 
         second : (not (may_move structs x a.type (type_in_use b)) || false) ≡ false → Integer (type_in_use b)
-        second r = integer (type_in_use b) (right (is_integer a.type || is_object_pointer structs a.type) _ (right (is_lvalue x) _ (kept _ r)))
+        second r = integer (type_in_use b) (second_so (is_integer a.type || is_object_pointer structs a.type) _ (second_so (is_lvalue x) _ (kept _ r)))
 
         sizes : Elements structs a.type
         sizes = elements structs table a.type s
 
         go : (operator : AssignmentOperator) → breaks_one (assign_judged structs operator x a.type y b.type).tests ≡ false → assign_form structs operator a b ≡ Some form
             → FormFits i g a.type form
-        go assigns.Plain r e = plain_there y a.type a.form b form p.form q (right (is_lvalue x && not (is_array a.type)) _ (kept _ r)) e
+        go assigns.Plain r e = plain_there y a.type a.form b form p.form q (second_so (is_lvalue x && not (is_array a.type)) _ (kept _ r)) e
         go assigns.Multiply r e = combines arithmetics.Multiply binaries.Multiply r (λ t u. refl) e
         go assigns.Divide r e = combines arithmetics.Divide binaries.Divide r (λ t u. refl) e
         go assigns.Remainder r e = combines arithmetics.Remainder binaries.Remainder r (λ t u. refl) e
@@ -452,7 +455,7 @@ module _ (i : Interface) (g : Function) where
         let x = in_use i g a h (integer_solid n) in
         let s = signedness (promoted u) in
         record {
-          fits = both _ _ x.fits (both _ _ (conversion_there i g (value_in_use a) u (promoted u) x (promoted_converts (is_null (value_in_use a)) n))
+          fits = and_from _ _ x.fits (and_from _ _ (conversion_there i g (value_in_use a) u (promoted u) x (promoted_converts (is_null (value_in_use a)) n))
               (subst (λ z. unary_takes (operation s) (type_after (conversion u (promoted u)) z) ≡ true) (sym x.type)
               (subst (λ z. unary_takes (operation s) z ≡ true) (sym (conversion_type u (promoted u) ∙ promoted_scalar n)) (takes s))));
           type = type s ∙ sym (promoted_scalar n);
@@ -471,7 +474,7 @@ module _ (i : Interface) (g : Function) where
         let p = followed (address_of a.form) _ form e in
         form_is _ _ form p.then (address_there i g a.type a.form p.value p.first h)
     unary_there unaries.Indirect x a form h r e =
-        let p = pointing (type_in_use a) (left _ _ (kept _ r)) in
+        let p = pointing (type_in_use a) (first_so _ _ (kept _ r)) in
         let v = in_use i g a h (pointing_solid p) in
         form_is _ _ form e (pointer_object i g (value_in_use a) (scalar_of (referenced (type_in_use a))) (record { fits = v.fits; type = v.type ∙ pointing_scalar p }))
     unary_there unaries.Plus x a form h r e =
@@ -484,7 +487,7 @@ module _ (i : Interface) (g : Function) where
         let u = type_in_use a in
         let v = in_use i g a h (scalar_solid u (kept _ r)) in
         form_is _ _ form e (record {
-          fits = both _ _ v.fits (both _ _ (conversion_there i g (value_in_use a) u (beside_zero u) v (beside_converts u (is_null (value_in_use a)) (scalar_kind u (kept _ r)))) refl);
+          fits = and_from _ _ v.fits (and_from _ _ (conversion_there i g (value_in_use a) u (beside_zero u) v (beside_converts u (is_null (value_in_use a)) (scalar_kind u (kept _ r)))) refl);
           type = refl;
         })
 
@@ -494,7 +497,7 @@ module _ (i : Interface) (g : Function) where
     subscript_there x y a b form p q h k r e =
         let t = type_in_use a in
         let u = type_in_use b in
-        let may = not_true _ (unbroken_left _ _ r) in
+        let may = not-false _ (unbroken_left _ _ r) in
         let w = followed (operator_value structs binaries.Add a b) _ form e in
         let o = followed (operation_of structs binaries.Add t u) _ w.value w.first in
         let kind = added structs t u may in
@@ -502,12 +505,12 @@ module _ (i : Interface) (g : Function) where
         let fits = summed_fits structs o.value (is_null (value_in_use a)) (is_null (value_in_use b)) kind
         (elements structs table t (small_decayed structs a.type h)) (elements structs table u (small_decayed structs b.type k)) o.first in
         let v = operated_has i g o.value a b (common t u) (in_use i g a p.form solid.0) (in_use i g b q.form solid.1) fits in
-        let points = pointing (common t u) (left _ _ (object_kept (may_add structs t u) _ may (unbroken_right (not (may_add structs t u)) _ r))) in
-        form_is _ _ form w.then (subst (λ z. lvalue_fits i g (scalar_of (referenced (common t u))) (object z) ≡ true) (some_same _ w.value o.then)
+        let points = pointing (common t u) (first_so _ _ (object_kept (may_add structs t u) _ may (unbroken_right (not (may_add structs t u)) _ r))) in
+        form_is _ _ form w.then (subst (λ z. lvalue_fits i g (scalar_of (referenced (common t u))) (object z) ≡ true) (same_Some _ w.value o.then)
         (pointer_object i g (operated o.value a b) (scalar_of (referenced (common t u))) (record { fits = v.fits; type = v.type ∙ pointing_scalar points })))
 
     member_has : (offset : ℕ) (p : Expr) → Has i g p scalars.Pointer → nat_le offset largest_size ≡ true → Has i g (member offset p) scalars.Pointer
-    member_has offset p h o = record { fits = both _ _ h.fits (both _ _ (same_as _ _ h.type) o); type = refl }
+    member_has offset p h o = record { fits = and_from _ _ h.fits (and_from _ _ (same_as _ _ h.type) o); type = refl }
 
     member_there : (access : Access) (x : ExprTree) (a : TypedExpr) (m : List ℕ) (form : Form) → FormFits i g a.type a.form
         → breaks_one (member_judged structs access x a.type m).tests ≡ false → member_form structs access a m ≡ Some form
@@ -519,7 +522,7 @@ module _ (i : Interface) (g : Function) where
         (member_has o.value p.value (address_there i g a.type a.form p.value p.first h) (member_offset_small structs table a.type m o.value o.first)))
     member_there accesses.Arrow x a m form h r e =
         let o = followed (member_offset structs (referenced (type_in_use a)) m) _ form e in
-        let p = pointing (type_in_use a) (left _ _ (kept _ r)) in
+        let p = pointing (type_in_use a) (first_so _ _ (kept _ r)) in
         let v = in_use i g a h (pointing_solid p) in
         form_is _ _ form o.then (pointer_object i g (member o.value (value_in_use a)) (scalar_of (type_or_void (member_type structs (referenced (type_in_use a)) m)))
         (member_has o.value (value_in_use a) (record { fits = v.fits; type = v.type ∙ pointing_scalar p }) (member_offset_small structs table (referenced (type_in_use a)) m o.value o.first)))
@@ -535,21 +538,21 @@ module _ (i : Interface) (g : Function) where
   -- ---- casts, conditionals
 
   cast_converts : (t : TypeTree) (y : ExprTree) (u : TypeTree) (n : Bool) → MaybeNull y n u → may_cast t y u ≡ true → Assignable t u n
-  cast_converts t y u n null h = go (either (both_integers t u) _ h)
+  cast_converts t y u n null h = go (or_cases (both_integers t u) _ h)
     where
       pointers : is_pointer t ≡ true → (is_pointer u ≡ true) ⊎ (is_null_constant y ≡ true) → Assignable t u n
       pointers p (inl q) = pointers_assignable n (pointing t p) (pointing u q)
       pointers p (inr z) = null_assignable n (pointing t p) (null z)
 
       go : (both_integers t u ≡ true) ⊎ ((is_pointer t && (is_pointer u || is_null_constant y)) ≡ true) → Assignable t u n
-      go (inl k) = integers_assignable n (integer t (left _ _ k)) (integer u (right (is_integer t) _ k))
-      go (inr k) = pointers (left _ _ k) (either (is_pointer u) _ (right (is_pointer t) _ k))
+      go (inl k) = integers_assignable n (integer t (first_so _ _ k)) (integer u (second_so (is_integer t) _ k))
+      go (inr k) = pointers (first_so _ _ k) (or_cases (is_pointer u) _ (second_so (is_pointer t) _ k))
 
   cast_there : (t : TypeTree) (b : TypedExpr) → FormFits i g b.type b.form → Assignable t (type_in_use b) (is_null (value_in_use b)) → FormFits i g t (cast_form t b)
   cast_there t b h c =
       let x = in_use i g b h c.solid in
       record {
-        fits = both _ _ x.fits (conversion_there i g (value_in_use b) (type_in_use b) t x c.converts);
+        fits = and_from _ _ x.fits (conversion_there i g (value_in_use b) (type_in_use b) t x c.converts);
         type = ap (type_after (conversion (type_in_use b) t)) x.type ∙ conversion_type (type_in_use b) t;
       }
 
@@ -558,14 +561,14 @@ module _ (i : Interface) (g : Function) where
   conditional_there y z c a b h p q r =
       let t = type_in_use a in
       let u = type_in_use b in
-      let likes = alike y t z u (is_null (value_in_use a)) (is_null (value_in_use b)) p.null q.null (right (is_scalar (type_in_use c)) _ r) in
+      let likes = alike y t z u (is_null (value_in_use a)) (is_null (value_in_use b)) p.null q.null (second_so (is_scalar (type_in_use c)) _ r) in
       let k = shared likes in
-      let d = in_use i g c h (scalar_solid (type_in_use c) (left _ _ r)) in
+      let d = in_use i g c h (scalar_solid (type_in_use c) (first_so _ _ r)) in
       let v = in_use i g a p.form (alike_first likes) in
       let w = in_use i g b q.form (alike_second likes) in
       record {
-        fits = both _ _ d.fits (both _ _ (both _ _ v.fits (becomes_there i g (value_in_use a) t (common t u) v k.first))
-            (both _ _ w.fits (becomes_there i g (value_in_use b) u (common t u) w k.second)));
+        fits = and_from _ _ d.fits (and_from _ _ (and_from _ _ v.fits (becomes_there i g (value_in_use a) t (common t u) v k.first))
+            (and_from _ _ w.fits (becomes_there i g (value_in_use b) u (common t u) w k.second)));
         type = refl;
       }
 
@@ -575,7 +578,7 @@ pub typed_type : (s : Scope) (e : ExprTree) (a : TypedExpr) → typed s e ≡ So
 typed_type s (expr node shape) a h =
     let t = followed (type_of s.context (expr node shape)) _ a h in
     let f = followed (form_of s node shape) _ a t.then in
-    t.first ∙ ap (λ (z : TypedExpr). Some z.type) (some_same _ a f.then)
+    t.first ∙ ap (λ (z : TypedExpr). Some z.type) (same_Some _ a f.then)
 
 module _ (i : Interface) (g : Function) (called : List ℕ → Bool) (there : TextBlock → Bool) (s : Scope) (place : Place i g called s s.context)
     (short : (t : TextBlock) → there t ≡ true → is_short t ≡ true)
@@ -595,7 +598,7 @@ module _ (i : Interface) (g : Function) (called : List ℕ → Bool) (there : Te
   name_there x (Some (local_variable node None)) j form fit e r h = nothing j e
   name_there x (Some (local_variable node (Some t))) j form fit e r h = judge i g form _ j e r (λ r. form_is i g t _ form h (fit (local_variable node (Some t)) refl).0)
   name_there x (Some (file_variable node None)) j form fit e r h = nothing j e
-  name_there x (Some (file_variable node (Some t))) j form fit e r h = judge i g form _ j e r (λ r. form_is i g t _ form h (both _ _ (fit (file_variable node (Some t)) refl).0 refl))
+  name_there x (Some (file_variable node (Some t))) j form fit e r h = judge i g form _ j e r (λ r. form_is i g t _ form h (and_from _ _ (fit (file_variable node (Some t)) refl).0 refl))
   name_there x (Some (function node signature body)) j form fit e r h = nothing form h
   name_there x (Some (given signature)) j form fit e r h = nothing form h
 
@@ -609,27 +612,27 @@ module _ (i : Interface) (g : Function) (called : List ℕ → Bool) (there : Te
   Good (expr_and e es) (a ∷ list) = (typed s e ≡ Some a) × Value i g e a × Good es list
 
   types_good : (es : Exprs) (list : List TypedExpr) (us : List TypeTree) → Good es list → types_of c es ≡ Some us → us ≡ map (λ (a : TypedExpr). a.type) list
-  types_good no_exprs [] us h e = sym (same _ us e)
+  types_good no_exprs [] us h e = sym (same_Some _ us e)
   types_good no_exprs (a ∷ list) us h e = absurd h
   types_good (expr_and x es) [] us h e = absurd h
   types_good (expr_and x es) (a ∷ list) us h e =
       let f = gave_at (type_of c x) a.type (λ t. and_then (types_of c es) (λ ts. Some (t ∷ ts))) us (typed_type s x a h.0) e in
       let w = went (types_of c es) (λ ts. Some (a.type ∷ ts)) us f in
-      sym (same _ us w.gave) ∙ ap (λ ts. a.type ∷ ts) (types_good es list w.value h.2 w.had)
+      sym (same_Some _ us w.gave) ∙ ap (λ ts. a.type ∷ ts) (types_good es list w.value h.2 w.had)
 
   arguments_there : (ts : List TypeTree) (es : Exprs) (list : List TypedExpr) (all : Arguments) → Good es list
       → expressions.arguments_fit ts es (map (λ (a : TypedExpr). a.type) list) ≡ true → arguments_of ts list ≡ Some all → arguments_fit i g (map scalar_of ts) all ≡ true
-  arguments_there [] es [] all h r e = subst (λ z. arguments_fit i g [] z ≡ true) (same _ all e) refl
+  arguments_there [] es [] all h r e = subst (λ z. arguments_fit i g [] z ≡ true) (same_Some _ all e) refl
   arguments_there [] es (a ∷ list) all h r e = nothing all e
   arguments_there (t ∷ ts) es [] all h r e = nothing all e
   arguments_there (t ∷ ts) no_exprs (a ∷ list) all h r e = absurd h
   arguments_there (t ∷ ts) (expr_and x es) (a ∷ list) all h r e =
       let later = followed (arguments_of ts list) _ all e in
-      let c = assignable t x (type_in_use a) (is_null (value_in_use a)) h.1.null (left _ _ r) in
+      let c = assignable t x (type_in_use a) (is_null (value_in_use a)) h.1.null (first_so _ _ r) in
       let v = in_use i g a h.1.form c.solid in
-      subst (λ z. arguments_fit i g (scalar_of t ∷ map scalar_of ts) z ≡ true) (same _ all later.then)
-      (both _ _ (both _ _ v.fits (becomes_there i g (value_in_use a) (type_in_use a) t v c.converts))
-      (arguments_there ts es list later.value h.2 (right (is_assignable t x (type_in_use a)) _ r) later.first))
+      subst (λ z. arguments_fit i g (scalar_of t ∷ map scalar_of ts) z ≡ true) (same_Some _ all later.then)
+      (and_from _ _ (and_from _ _ v.fits (becomes_there i g (value_in_use a) (type_in_use a) t v c.converts))
+      (arguments_there ts es list later.value h.2 (second_so (is_assignable t x (type_in_use a)) _ r) later.first))
 
   call_there : (f : List ℕ) (o : Option Entity) (es : Exprs) (us : List TypeTree) (list : List TypedExpr) (j : Judged) (form : Form)
       → ((e : Entity) → o ≡ Some e → EntityFits i g called (places s) types f e) → called f ≡ true → Good es list → us ≡ map (λ (a : TypedExpr). a.type) list
@@ -646,7 +649,7 @@ module _ (i : Interface) (g : Function) (called : List ℕ → Bool) (there : Te
         signature = scalar_signature signature;
         is = (fit (function node (Some signature) body) refl).0 is;
         arguments = arguments_there signature.parameters es list w.value good
-            (subst (λ z. expressions.arguments_fit signature.parameters es z ≡ true) same_types (not_true _ (unbroken_left _ _ (unbroken_right (not (length signature.parameters == length us)) _ r)))) w.first;
+            (subst (λ z. expressions.arguments_fit signature.parameters es z ≡ true) same_types (not-false _ (unbroken_left _ _ (unbroken_right (not (length signature.parameters == length us)) _ r)))) w.first;
         result = refl;
       }))
   call_there f (Some (given signature)) es us list j form fit is good same_types e r h = judge i g form _ j e r (λ r.
@@ -655,7 +658,7 @@ module _ (i : Interface) (g : Function) (called : List ℕ → Bool) (there : Te
         signature = scalar_signature signature;
         is = (fit (given signature) refl).0;
         arguments = arguments_there signature.parameters es list w.value good
-            (subst (λ z. expressions.arguments_fit signature.parameters es z ≡ true) same_types (not_true _ (unbroken_left _ _ (unbroken_right (not (length signature.parameters == length us)) _ r)))) w.first;
+            (subst (λ z. expressions.arguments_fit signature.parameters es z ≡ true) same_types (not-false _ (unbroken_left _ _ (unbroken_right (not (length signature.parameters == length us)) _ r)))) w.first;
         result = refl;
       }))
 
@@ -669,7 +672,7 @@ module _ (i : Interface) (g : Function) (called : List ℕ → Bool) (there : Te
         let f = followed (form_of s node shape) _ a t.then in
         let w = went (shape_judged c shape) (λ (j : Judged). type_unless j.tests j.type) t.value t.first in
         let u = unless w.value.tests w.value.type t.value w.gave in
-        subst (λ (z : TypedExpr). FormFits i g z.type z.form) (some_same _ a f.then)
+        subst (λ (z : TypedExpr). FormFits i g z.type z.form) (same_Some _ a f.then)
         (subst (λ z. FormFits i g z f.value) u.type (shape_there shape node w.value f.value sure w.had u.unbroken f.first))
 
     shape_there : (shape : ShapeTree) (node : Node) (j : Judged) (form : Form) → shape_sure called there node.id shape ≡ true → shape_judged c shape ≡ Some j
@@ -677,13 +680,13 @@ module _ (i : Interface) (g : Function) (called : List ℕ → Bool) (there : Te
     shape_there (trees.constant n true) node j form sure e r h = judge i g form _ j e r (λ r. form_is i g unsigned _ form h (record { fits = sure; type = refl }))
     shape_there (trees.constant n false) node j form sure e r h = judge i g form _ j e r (λ r. form_is i g int _ form h (record { fits = sure; type = refl }))
     shape_there (trees.text bytes) node j form sure e r h =
-        judge i g form _ j e r (λ r. form_is i g (array char (length bytes + 1)) _ form h (both _ _ (blocks (record { node = node.id; bytes = bytes }) sure) refl))
+        judge i g form _ j e r (λ r. form_is i g (array char (length bytes + 1)) _ form h (and_from _ _ (blocks (record { node = node.id; bytes = bytes }) sure) refl))
     shape_there (trees.name x) node j form sure e r h = name_there x (entity_of c x) j form (place.entities x) e r h
     shape_there (trees.subscript a b) node j form sure e r h =
         let x = followed (typed s a) _ form h in
         let y = followed (typed s b) _ form x.then in
-        let first = left _ _ sure in
-        let second = right (is_sure called there a) _ sure in
+        let first = first_so _ _ sure in
+        let second = second_so (is_sure called there a) _ sure in
         let e2 = gave_at (type_of c b) y.value.type _ j (typed_type s b y.value y.first) (gave_at (type_of c a) x.value.type _ j (typed_type s a x.value x.first) e) in
         judge i g form _ j e2 r (λ r. subscript_there i g types place.table a b x.value y.value form
         (record { form = expression_there a x.value first x.first; null = null_value s a x.value x.first })
@@ -692,8 +695,8 @@ module _ (i : Interface) (g : Function) (called : List ℕ → Bool) (there : Te
     shape_there (trees.call f es) node j form sure e r h =
         let list = followed (all_typed s es) _ form h in
         let w = went (types_of c es) (λ us. call_judged (entity_of c f) es us) j e in
-        let good = all_good es list.value (right (called f) _ sure) list.first in
-        call_there f (entity_of c f) es w.value list.value j form (place.entities f) (left _ _ sure) good (types_good es list.value w.value good w.had) w.gave r list.then
+        let good = all_good es list.value (second_so (called f) _ sure) list.first in
+        call_there f (entity_of c f) es w.value list.value j form (place.entities f) (first_so _ _ sure) good (types_good es list.value w.value good w.had) w.gave r list.then
     shape_there (trees.member access a m) node j form sure e r h =
         let x = followed (typed s a) _ form h in
         judge i g form _ j (gave_at (type_of c a) x.value.type _ j (typed_type s a x.value x.first) e) r (λ r.
@@ -720,12 +723,12 @@ module _ (i : Interface) (g : Function) (called : List ℕ → Bool) (there : Te
         judge i g form _ j k r (λ r. subst (λ o. breaks_one (cast_judged_by o name a (type_in_use x.value)).tests ≡ false → FormFits i g (type_or_void o) form) (sym t.first)
         (λ r. form_is i g t.value _ form x.then (cast_there i g t.value x.value (expression_there a x.value sure x.first)
         (cast_converts i g t.value a (type_in_use x.value) (is_null (value_in_use x.value)) (null_value s a x.value x.first)
-        (not_true _ (unbroken_left _ _ (unbroken_right (is_void_base name.base) _ r)))))) r)
+        (not-false _ (unbroken_left _ _ (unbroken_right (is_void_base name.base) _ r)))))) r)
     shape_there (trees.binary operator a b) node j form sure e r h =
         let x = followed (typed s a) _ form h in
         let y = followed (typed s b) _ form x.then in
-        let first = left _ _ sure in
-        let second = right (is_sure called there a) _ sure in
+        let first = first_so _ _ sure in
+        let second = second_so (is_sure called there a) _ sure in
         let e2 = gave_at (type_of c b) y.value.type _ j (typed_type s b y.value y.first) (gave_at (type_of c a) x.value.type _ j (typed_type s a x.value x.first) e) in
         judge i g form _ j e2 r (λ r. binary_there i g types place.table operator a b x.value y.value form
         (record { form = expression_there a x.value first x.first; null = null_value s a x.value x.first })
@@ -735,20 +738,20 @@ module _ (i : Interface) (g : Function) (called : List ℕ → Bool) (there : Te
         let z = followed (typed s d) _ form h in
         let x = followed (typed s a) _ form z.then in
         let y = followed (typed s b) _ form x.then in
-        let rest = right (is_sure called there d) _ sure in
-        let first = left _ _ rest in
-        let second = right (is_sure called there a) _ rest in
+        let rest = second_so (is_sure called there d) _ sure in
+        let first = first_so _ _ rest in
+        let second = second_so (is_sure called there a) _ rest in
         let e1 = gave_at (type_of c d) z.value.type _ j (typed_type s d z.value z.first) e in
         let e3 = gave_at (type_of c b) y.value.type _ j (typed_type s b y.value y.first) (gave_at (type_of c a) x.value.type _ j (typed_type s a x.value x.first) e1) in
-        judge i g form _ j e3 r (λ r. form_is i g _ _ form y.then (conditional_there i g a b z.value x.value y.value (expression_there d z.value (left _ _ sure) z.first)
+        judge i g form _ j e3 r (λ r. form_is i g _ _ form y.then (conditional_there i g a b z.value x.value y.value (expression_there d z.value (first_so _ _ sure) z.first)
         (record { form = expression_there a x.value first x.first; null = null_value s a x.value x.first })
         (record { form = expression_there b y.value second y.first; null = null_value s b y.value y.first })
         (kept _ r)))
     shape_there (trees.assign operator a b) node j form sure e r h =
         let x = followed (typed s a) _ form h in
         let y = followed (typed s b) _ form x.then in
-        let first = left _ _ sure in
-        let second = right (is_sure called there a) _ sure in
+        let first = first_so _ _ sure in
+        let second = second_so (is_sure called there a) _ sure in
         let e2 = gave_at (type_of c b) y.value.type _ j (typed_type s b y.value y.first) (gave_at (type_of c a) x.value.type _ j (typed_type s a x.value x.first) e) in
         judge i g form _ j e2 r (λ r. subst (λ z. FormFits i g z form) (sym (assigned_type_is types operator a b x.value.type y.value.type))
         (assign_there i g types place.table operator a b x.value y.value form
@@ -760,18 +763,18 @@ module _ (i : Interface) (g : Function) (called : List ℕ → Bool) (there : Te
         let y = followed (typed s b) _ form x.then in
         let e2 = gave_at (type_of c b) y.value.type _ j (typed_type s b y.value y.first) (gave_at (type_of c a) x.value.type _ j (typed_type s a x.value x.first) e) in
         judge i g form _ j e2 r (λ r. form_is i g _ _ form y.then (
-          effect_there i g x.value.type x.value.form (expression_there a x.value (left _ _ sure) x.first),
-          expression_there b y.value (right (is_sure called there a) _ sure) y.first,
+          effect_there i g x.value.type x.value.form (expression_there a x.value (first_so _ _ sure) x.first),
+          expression_there b y.value (second_so (is_sure called there a) _ sure) y.first,
           refl,
         ))
 
     all_good : (es : Exprs) (list : List TypedExpr) → all_sure called there es ≡ true → all_typed s es ≡ Some list → Good es list
-    all_good no_exprs list sure h = subst (Good no_exprs) (same _ list h) tt
+    all_good no_exprs list sure h = subst (Good no_exprs) (same_Some _ list h) tt
     all_good (expr_and e es) list sure h =
         let x = followed (typed s e) _ list h in
         let rest = followed (all_typed s es) _ list x.then in
-        subst (Good (expr_and e es)) (same _ list rest.then) (
+        subst (Good (expr_and e es)) (same_Some _ list rest.then) (
           x.first,
-          record { form = expression_there e x.value (left _ _ sure) x.first; null = null_value s e x.value x.first },
-          all_good es rest.value (right (is_sure called there e) _ sure) rest.first,
+          record { form = expression_there e x.value (first_so _ _ sure) x.first; null = null_value s e x.value x.first },
+          all_good es rest.value (second_so (is_sure called there e) _ sure) rest.first,
         )

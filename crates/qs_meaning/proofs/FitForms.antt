@@ -1,12 +1,14 @@
 -- Forms whose values, and whose effects, fit.
 use Rattle.std.proofs.Common.{◌≡◌, ◌⊎◌, inl, inr, Bool, true, false, ◌&&◌, ◌||◌, Option, Some, is_some, refl, sym, ap, ◌∙◌, subst}
+use Rattle.std.proofs.lemmas.Bool.{and_from, or_cases}
+use Rattle.std.specs.Cmp.{first_so, second_so}
+use Rattle.std.proofs.lemmas.Option.{same_Some}
 use Rattle.qs_syntax.specs.Trees.{ExprTree, expr}
 use Rattle.qs_syntax.specs.Trees as trees
 use Rattle.qs_memory.specs.Scalars.{same_scalar, is_type}
 use Rattle.qs_memory.proofs.ScalarLaws.{scalar_same, same_self, same_as}
 use Rattle.qs_memory.specs.declared.scalar.Scalar.{Scalar}
 use Rattle.qs_memory.specs.declared.scalar.Scalar.TheVariants as scalars
-use Rattle.qs_memory.proofs.Options.{some_same}
 use Rattle.qs_calls.specs.declared.callee.Callee.{Callee}
 use Rattle.qs_calls.specs.Starts.{Signature, Interface, signature_of}
 use Rattle.qs_types.specs.Types.{TypeTree, int, unsigned, char, void, pointer, array, struct, is_integer, is_pointer, is_void, is_scalar}
@@ -20,8 +22,8 @@ use Rattle.qs_meaning.specs.Expressions.{typed}
 use Rattle.qs_meaning.specs.Units.{result_scalar}
 use Rattle.qs_meaning.specs.Fits.{type_after, assigned_type, conversion_fits, is_null, taken, becomes, result_fits, expr_fits, lvalue_fits, arguments_fit, assignment_fits, effect_fits}
 use Rattle.qs_meaning.specs.Fits as fitting
-use Rattle.qs_meaning.proofs.Options.{never, left, right, either, nothing, same}
-use Rattle.qs_meaning.proofs.FitConversions.{both, scalar_decayed, Integer, an_int, an_unsigned, a_char, Pointing, a_pointer, integer, pointing, scalar_kind, same_pointing, may_convert, conversion_taken, conversion_type, integers_convert, pointers_convert, null_converts, Alike, integers, pointers, right_null, left_null, Added, numbers, front, back, Subtracted, two_numbers, from_pointer, two_pointers}
+use Rattle.qs_meaning.proofs.Options.{never, nothing}
+use Rattle.qs_meaning.proofs.FitConversions.{scalar_decayed, Integer, an_int, an_unsigned, a_char, Pointing, a_pointer, integer, pointing, scalar_kind, same_pointing, may_convert, conversion_taken, conversion_type, integers_convert, pointers_convert, null_converts, Alike, integers, pointers, right_null, left_null, Added, numbers, front, back, Subtracted, two_numbers, from_pointer, two_pointers}
 
 -- ---- what fits
 
@@ -90,17 +92,17 @@ module _ (i : Interface) (g : Function) where
   -- ---- objects
 
   pub object_has : (p : Expr) (s : Scalar) → lvalue_fits i g s (object p) ≡ true → Has i g p scalars.Pointer
-  object_has p s h = record { fits = left _ _ h; type = scalar_same _ _ (right (expr_fits i g p) _ h) }
+  object_has p s h = record { fits = first_so _ _ h; type = scalar_same _ _ (second_so (expr_fits i g p) _ h) }
 
   pub pointer_object : (p : Expr) (s : Scalar) → Has i g p scalars.Pointer → lvalue_fits i g s (object p) ≡ true
-  pointer_object p s h = both _ _ h.fits (same_as _ _ h.type)
+  pointer_object p s h = and_from _ _ h.fits (same_as _ _ h.type)
 
   address_has : (l : Lvalue) (p : Expr) (s : Scalar) → address_in l ≡ Some p → lvalue_fits i g s l ≡ true → Has i g p scalars.Pointer
   address_has (variable x) p s e h = nothing p e
-  address_has (object q) p s e h = subst (λ z. Has i g z scalars.Pointer) (same _ _ e) (object_has q s h)
+  address_has (object q) p s e h = subst (λ z. Has i g z scalars.Pointer) (same_Some _ _ e) (object_has q s h)
 
   pub lvalue_there : (t : TypeTree) (form : Form) (l : Lvalue) → lvalue_of form ≡ Some l → FormFits i g t form → lvalue_fits i g (scalar_of t) l ≡ true
-  lvalue_there t (lvalue k) l e h = subst (λ z. lvalue_fits i g (scalar_of t) z ≡ true) (same _ _ e) h
+  lvalue_there t (lvalue k) l e h = subst (λ z. lvalue_fits i g (scalar_of t) z ≡ true) (same_Some _ _ e) h
   lvalue_there t (result x) l e h = nothing l e
   lvalue_there t (call f given) l e h = nothing l e
   lvalue_there t (assignment a) l e h = nothing l e
@@ -133,7 +135,7 @@ module _ (i : Interface) (g : Function) where
 
   called_has : (s : Scalar) (f : Callee) (given : Arguments) → CallFits i g (Some s) f given → Has i g (called s f given) s
   called_has s f given h = record {
-    fits = both _ _ (subst (λ o. arguments_fit i g (taken o) given ≡ true) (sym h.is) h.arguments)
+    fits = and_from _ _ (subst (λ o. arguments_fit i g (taken o) given ≡ true) (sym h.is) h.arguments)
         (subst (λ o. result_fits o s ≡ true) (sym h.is) (subst (λ o. is_type o s ≡ true) (sym h.result) (same_self s)));
     type = refl;
   }
@@ -144,10 +146,10 @@ module _ (i : Interface) (g : Function) where
   value_has t (call f given) h v = called_has (scalar_of t) f given (subst (λ o. CallFits i g o f given) (result_of t v) h)
   value_has t (assignment a) h v = record { fits = h.fits; type = h.type }
   value_has t (step a before) h v = h.1
-  value_has t (struct_assignment size alignment to from) h v = record { fits = both _ _ h.0 h.1.fits; type = h.1.type ∙ sym h.2 }
+  value_has t (struct_assignment size alignment to from) h v = record { fits = and_from _ _ h.0 h.1.fits; type = h.1.type ∙ sym h.2 }
   value_has t (comma a u b) h v =
       let k = value_has u b h.1 (sym (void_decayed u) ∙ ap is_void (sym h.2) ∙ v) in
-      record { fits = both _ _ h.0 k.fits; type = k.type ∙ (sym (scalar_decayed u) ∙ ap scalar_of (sym h.2)) }
+      record { fits = and_from _ _ h.0 k.fits; type = k.type ∙ (sym (scalar_decayed u) ∙ ap scalar_of (sym h.2)) }
 
   pub in_use : (a : TypedExpr) → FormFits i g a.type a.form → is_void (type_in_use a) ≡ false → Has i g (value_in_use a) (scalar_of (type_in_use a))
   in_use a h v =
@@ -161,22 +163,22 @@ module _ (i : Interface) (g : Function) where
   value_in_there unsigned l h = h
   value_in_there char l h = h
   value_in_there void (variable x) h = h
-  value_in_there void (object p) h = left _ _ h
+  value_in_there void (object p) h = first_so _ _ h
   value_in_there (pointer t) l h = h
   value_in_there (array t n) (variable x) h = h
-  value_in_there (array t n) (object p) h = left _ _ h
+  value_in_there (array t n) (object p) h = first_so _ _ h
   value_in_there (struct k) (variable x) h = h
-  value_in_there (struct k) (object p) h = left _ _ h
+  value_in_there (struct k) (object p) h = first_so _ _ h
 
   pub effect_there : (t : TypeTree) (form : Form) → FormFits i g t form → effect_fits i g (effect_of t form) ≡ true
   effect_there t (lvalue l) h = value_in_there t l h
   effect_there t (result x) h = h.fits
   effect_there t (call f given) h =
-      both _ _ (subst (λ o. is_some o ≡ true) (sym h.is) refl) (subst (λ o. arguments_fit i g (taken o) given ≡ true) (sym h.is) h.arguments)
+      and_from _ _ (subst (λ o. is_some o ≡ true) (sym h.is) refl) (subst (λ o. arguments_fit i g (taken o) given ≡ true) (sym h.is) h.arguments)
   effect_there t (assignment a) h = h.fits
   effect_there t (step a before) h = h.0.fits
   effect_there t (struct_assignment size alignment to from) h = h.0
-  effect_there t (comma a u b) h = both _ _ h.0 (effect_there u b h.1)
+  effect_there t (comma a u b) h = and_from _ _ h.0 (effect_there u b h.1)
 
   -- ---- a value that is converted
 
@@ -186,7 +188,7 @@ module _ (i : Interface) (g : Function) where
 
   pub becomes_there : (x : Expr) (t u : TypeTree) → Has i g x (scalar_of t) → may_convert t u (is_null x) ≡ true → becomes (conversion t u) x (scalar_of u) ≡ true
   becomes_there x t u h c =
-      both _ _ (conversion_there x t u h c)
+      and_from _ _ (conversion_there x t u h c)
       (subst (λ z. same_scalar (type_after (conversion t u) z) (scalar_of u) ≡ true) (sym h.type) (same_as _ _ (conversion_type t u)))
 
 -- ---- null constants
@@ -198,9 +200,9 @@ pub record IsNull (n : Bool) (u : TypeTree) : Type 0 where
 
 pub null_value : (s : Scope) (e : ExprTree) (a : TypedExpr) → typed s e ≡ Some a → is_null_constant e ≡ true → IsNull (is_null (value_in_use a)) (type_in_use a)
 null_value s (expr node (trees.constant n true)) a e h =
-    subst (λ (z : TypedExpr). IsNull (is_null (value_in_use z)) (type_in_use z)) (some_same _ a e) (record { is = h; type = an_unsigned })
+    subst (λ (z : TypedExpr). IsNull (is_null (value_in_use z)) (type_in_use z)) (same_Some _ a e) (record { is = h; type = an_unsigned })
 null_value s (expr node (trees.constant n false)) a e h =
-    subst (λ (z : TypedExpr). IsNull (is_null (value_in_use z)) (type_in_use z)) (some_same _ a e) (record { is = h; type = an_int })
+    subst (λ (z : TypedExpr). IsNull (is_null (value_in_use z)) (type_in_use z)) (same_Some _ a e) (record { is = h; type = an_int })
 null_value s (expr node (trees.text bytes)) a e h = never h
 null_value s (expr node (trees.name x)) a e h = never h
 null_value s (expr node (trees.unary operator b)) a e h = never h
@@ -237,31 +239,31 @@ pub null_assignable : {t u : TypeTree} (n : Bool) → Pointing t → IsNull n u 
 null_assignable n p k = record { converts = null_converts n k.type p k.is; solid = integer_solid k.type }
 
 pub assignable : (t : TypeTree) (e : ExprTree) (u : TypeTree) (n : Bool) → MaybeNull e n u → is_assignable t e u ≡ true → Assignable t u n
-assignable t e u n null h = go (either (both_integers t u) _ h)
+assignable t e u n null h = go (or_cases (both_integers t u) _ h)
   where
     pointers : (same_pointers t u ≡ true) ⊎ ((is_pointer t && is_null_constant e) ≡ true) → Assignable t u n
-    pointers (inl k) = pointers_assignable n (pointing t (left _ _ k)) (same_pointing t u (left _ _ k) (right (is_pointer t) _ k))
-    pointers (inr k) = null_assignable n (pointing t (left _ _ k)) (null (right (is_pointer t) _ k))
+    pointers (inl k) = pointers_assignable n (pointing t (first_so _ _ k)) (same_pointing t u (first_so _ _ k) (second_so (is_pointer t) _ k))
+    pointers (inr k) = null_assignable n (pointing t (first_so _ _ k)) (null (second_so (is_pointer t) _ k))
 
     go : (both_integers t u ≡ true) ⊎ ((same_pointers t u || (is_pointer t && is_null_constant e)) ≡ true) → Assignable t u n
-    go (inl k) = integers_assignable n (integer t (left _ _ k)) (integer u (right (is_integer t) _ k))
-    go (inr k) = pointers (either (same_pointers t u) _ k)
+    go (inl k) = integers_assignable n (integer t (first_so _ _ k)) (integer u (second_so (is_integer t) _ k))
+    go (inr k) = pointers (or_cases (same_pointers t u) _ k)
 
 pub alike : (a : ExprTree) (t : TypeTree) (b : ExprTree) (u : TypeTree) (n m : Bool) → MaybeNull a n t → MaybeNull b m u → (both_integers t u || alike_pointers a t b u) ≡ true
     → Alike t u n m
-alike a t b u n m first second h = go (either (both_integers t u) _ h)
+alike a t b u n m first second h = go (or_cases (both_integers t u) _ h)
   where
     nulls : ((is_pointer t && is_null_constant b) ≡ true) ⊎ ((is_null_constant a && is_pointer u) ≡ true) → Alike t u n m
-    nulls (inl k) = let z = second (right (is_pointer t) _ k) in right_null (pointing t (left _ _ k)) z.type z.is
-    nulls (inr k) = let z = first (left _ _ k) in left_null z.type (pointing u (right (is_null_constant a) _ k)) z.is
+    nulls (inl k) = let z = second (second_so (is_pointer t) _ k) in right_null (pointing t (first_so _ _ k)) z.type z.is
+    nulls (inr k) = let z = first (first_so _ _ k) in left_null z.type (pointing u (second_so (is_null_constant a) _ k)) z.is
 
     two : (same_pointers t u ≡ true) ⊎ (((is_pointer t && is_null_constant b) || (is_null_constant a && is_pointer u)) ≡ true) → Alike t u n m
-    two (inl k) = pointers (pointing t (left _ _ k)) (same_pointing t u (left _ _ k) (right (is_pointer t) _ k))
-    two (inr k) = nulls (either _ _ k)
+    two (inl k) = pointers (pointing t (first_so _ _ k)) (same_pointing t u (first_so _ _ k) (second_so (is_pointer t) _ k))
+    two (inr k) = nulls (or_cases _ _ k)
 
     go : (both_integers t u ≡ true) ⊎ (alike_pointers a t b u ≡ true) → Alike t u n m
-    go (inl k) = integers (integer t (left _ _ k)) (integer u (right (is_integer t) _ k))
-    go (inr k) = two (either (same_pointers t u) _ k)
+    go (inl k) = integers (integer t (first_so _ _ k)) (integer u (second_so (is_integer t) _ k))
+    go (inr k) = two (or_cases (same_pointers t u) _ k)
 
 pub alike_first : {t u : TypeTree} {n m : Bool} → Alike t u n m → is_void t ≡ false
 alike_first (integers i j) = integer_solid i

@@ -1,6 +1,7 @@
 -- The typed tree of a function fits, and has the signature that its header gives.
-use Rattle.std.proofs.Common.{◌≡◌, ◌⊎◌, inl, inr, ℕ, nat_lt, Bool, true, false, cond, not, List, [], ◌∷◌, ◌++◌, length, map, filter, Option, Some, None, is_some, option_map, refl, sym, ap, ◌∙◌, subst, if◌then◌else◌}
-use Rattle.std.proofs.lemmas.Bool.{eq-eqb}
+use Rattle.std.proofs.Common.{◌≡◌, ◌⊎◌, inl, inr, ℕ, nat_lt, Bool, true, false, cond, not, List, [], ◌∷◌, ◌++◌, length, map, filter, Option, Some, None, is_some, option_map, refl, sym, ap, ◌∙◌, subst, if◌then◌else◌, le-leb}
+use Rattle.std.proofs.lemmas.Bool.{eq-eqb, and_from}
+use Rattle.std.proofs.lemmas.Option.{same_Some}
 use Rattle.qs_base.specs.Bytes.{same_bytes}
 use Rattle.qs_syntax.specs.Trees.{ParameterTree, FunctionTree, Stmts}
 use Rattle.qs_memory.specs.Partial.{◌>>=◌}
@@ -30,10 +31,9 @@ use Rattle.qs_meaning.specs.Statements.{statements_typed}
 use Rattle.qs_meaning.specs.Units.{placed_among, plain_among, variables_among, locals_of, parameters_in, scalars_of, sizes_of, parameter_by, parameter_typed, parameters_typed, result_scalar, in_body, function_with}
 use Rattle.qs_meaning.specs.Interfaces.{types_of, signature}
 use Rattle.qs_meaning.specs.Fits.{is_size, place_fits, are_small}
-use Rattle.qs_meaning.proofs.Options.{never, nothing, same, went}
+use Rattle.qs_meaning.proofs.Options.{never, nothing, went}
 use Rattle.qs_meaning.proofs.TypedExpressions.{unless}
-use Rattle.qs_meaning.proofs.FitConversions.{both}
-use Rattle.qs_meaning.proofs.FitTypes.{is_small, SmallTable, size_room, is_least}
+use Rattle.qs_meaning.proofs.FitTypes.{is_small, SmallTable, size_room}
 use Rattle.qs_meaning.proofs.FitLeaves.{Places, scalar_signature, EntityFits, AllFit}
 use Rattle.qs_meaning.proofs.FitSmall.{starred_small}
 use Rattle.qs_meaning.proofs.FitInitialisers.{LocalPlace, in_variable, in_block}
@@ -76,7 +76,7 @@ module _ (i : Interface) (g : typed_trees.Function) (called : List ℕ → Bool)
 pointed_small : (structs : Structs) (o : Option TypeTree) (t : TypeTree) → ((u : TypeTree) → o ≡ Some u → is_small structs u ≡ true) → option_map pointer o ≡ Some t
     → is_small structs t ≡ true
 pointed_small structs None t h e = nothing t e
-pointed_small structs (Some u) t h e = subst (λ z. is_small structs z ≡ true) (same _ t e) (h u refl)
+pointed_small structs (Some u) t h e = subst (λ z. is_small structs z ≡ true) (same_Some _ t e) (h u refl)
 
 pub parameter_small : (c : Context) (p : ParameterTree) (t : TypeTree) → (parameter_declared c p).type ≡ Some t → is_small c.structs t ≡ true
 parameter_small c p t e =
@@ -126,13 +126,13 @@ small_in structs (x ∷ xs) l h (inr m) t e = small_in structs xs l h.1 m t e
 
 pub sizes_small : (structs : Structs) → SmallTable structs → (ls : List Local) (sizes : List ℕ) → ((l : Local) → In l ls → (t : TypeTree) → l.type ≡ Some t → is_small structs t ≡ true)
     → sizes_of structs ls ≡ Some sizes → are_small sizes ≡ true
-sizes_small structs table [] sizes h e = subst (λ z. are_small z ≡ true) (same [] sizes e) refl
+sizes_small structs table [] sizes h e = subst (λ z. are_small z ≡ true) (same_Some [] sizes e) refl
 sizes_small structs table (l ∷ ls) sizes h e =
     let n = followed (l.type >>= size_of structs) _ sizes e in
     let rest = followed (sizes_of structs ls) _ sizes n.then in
     let t = followed l.type _ n.value n.first in
-    subst (λ z. are_small z ≡ true) (same _ sizes rest.then)
-    (both _ _ (is_least n.value largest_size (size_room structs table t.value (h l (inl refl) t.value t.first) n.value t.then).most)
+    subst (λ z. are_small z ≡ true) (same_Some _ sizes rest.then)
+    (and_from _ _ (le-leb n.value largest_size (size_room structs table t.value (h l (inl refl) t.value t.first) n.value t.then).most)
     (sizes_small structs table ls rest.value (λ x m t e. h x (inr m) t e) rest.first))
 
 pub in_filtered : (p : Local → Bool) (l : Local) (xs : List Local) → In l (filter p xs) → In l xs
@@ -160,10 +160,10 @@ is_itself n = eq-eqb n n refl
 
 pub parameter_place : (structs : Structs) (g : typed_trees.Function) (t : TypeTree) (k : ℕ) (l : Lvalue) (p : Parameter) → LocalPlace structs g t l → ((x : ℕ) → l ≡ variable x → x ≡ k)
     → is_scalar t ≡ true → parameter_by (scalar_of t) l ≡ Some p → place_fits g.blocks k (scalar_of t) p ≡ true
-parameter_place structs g t k _ p (in_variable x) h s e = subst (λ z. place_fits g.blocks k (scalar_of t) z ≡ true) (same _ p e) (eq-eqb x k (h x refl))
+parameter_place structs g t k _ p (in_variable x) h s e = subst (λ z. place_fits g.blocks k (scalar_of t) z ≡ true) (same_Some _ p e) (eq-eqb x k (h x refl))
 parameter_place structs g t k _ p (in_block j room) h s e =
-    subst (λ z. place_fits g.blocks k (scalar_of t) z ≡ true) (same _ p e)
-    (both _ _ (same_self (scalar_of t)) (subst (λ o. is_size o (width (scalar_of t)) ≡ true) (sym (room ∙ scalar_width structs t s)) (is_itself (width (scalar_of t)))))
+    subst (λ z. place_fits g.blocks k (scalar_of t) z ≡ true) (same_Some _ p e)
+    (and_from _ _ (same_self (scalar_of t)) (subst (λ o. is_size o (width (scalar_of t)) ≡ true) (sym (room ∙ scalar_width structs t s)) (is_itself (width (scalar_of t)))))
 
 pub variable_place : (locals : Locals) (node x : ℕ) → local_lvalue locals node ≡ variable x → x ≡ place_among node locals.variables
 variable_place locals node x e = go (is_one_of node locals.placed) e
@@ -226,12 +226,12 @@ made s f body g is =
       of_variables = vs.first;
       of_blocks = ns.first;
       typed_body = ss.first;
-      is = sym (same _ g ss.then);
+      is = sym (same_Some _ g ss.then);
     }
 
 taken_types : (locals : Locals) (ps : List ParameterTree) (ts : List (Option TypeTree)) (us : List TypeTree) (rest : List Local) (params : List Parameter) (scs : List Scalar)
     → all_of ts ≡ Some us → scalars_of (parameters_locals ps ts ++ rest) ≡ Some scs → parameters_typed locals ps ts ≡ Some params → types_of params scs ≡ map scalar_of us
-taken_types locals [] [] us rest params scs e a b = subst (λ z. types_of z scs ≡ map scalar_of us) (same _ params b) (ap (map scalar_of) (same _ us e))
+taken_types locals [] [] us rest params scs e a b = subst (λ z. types_of z scs ≡ map scalar_of us) (same_Some _ params b) (ap (map scalar_of) (same_Some _ us e))
 taken_types locals [] (t ∷ ts) us rest params scs e a b = nothing params b
 taken_types locals (p ∷ ps) [] us rest params scs e a b = nothing params b
 taken_types locals (p ∷ ps) (None ∷ ts) us rest params scs e a b = nothing us e
@@ -240,9 +240,9 @@ taken_types locals (p ∷ ps) (Some t ∷ ts) us rest params scs e a b =
     let xs = followed (parameters_typed locals ps ts) _ params x.then in
     let later = followed (scalars_of (parameters_locals ps ts ++ rest)) _ scs a in
     let w = went (all_of ts) (λ ts. Some (t ∷ ts)) us e in
-    subst (λ z. types_of z scs ≡ map scalar_of us) (same _ params xs.then)
-    (subst (λ z. types_of (x.value ∷ xs.value) z ≡ map scalar_of us) (same _ scs later.then)
-    (ap (λ z. scalar_of t ∷ z) (taken_types locals ps ts w.value rest xs.value later.value w.had later.first xs.first) ∙ ap (map scalar_of) (same _ us w.gave)))
+    subst (λ z. types_of z scs ≡ map scalar_of us) (same_Some _ params xs.then)
+    (subst (λ z. types_of (x.value ∷ xs.value) z ≡ map scalar_of us) (same_Some _ scs later.then)
+    (ap (λ z. scalar_of t ∷ z) (taken_types locals ps ts w.value rest xs.value later.value w.had later.first xs.first) ∙ ap (map scalar_of) (same_Some _ us w.gave)))
 
 pub signature_there : (s : Scope) (f : FunctionTree) (body : Stmts) (g : typed_trees.Function) → Made s f body g → (sig : Signature) → signature_by (header_of s.context f) ≡ Some sig
     → signature g ≡ scalar_signature sig
@@ -251,4 +251,4 @@ signature_there s f body g m sig e =
     let t = went (result_type s.context f) (λ t. Some (record { parameters = us.value; result = t })) sig us.gave in
     let types = taken_types (locals_in s f body) f.parameters (parameter_types (inner_scope s.context) f.parameters) us.value
     (plain_among (operands_in s f body) (body_locals s f body)) m.parameters m.scalars us.had m.of_variables m.typed_parameters in
-    ap signature m.is ∙ ((λ j. record { parameters = types j; result_type = result_scalar (t.had j) }) ∙ ap scalar_signature (same _ sig t.gave))
+    ap signature m.is ∙ ((λ j. record { parameters = types j; result_type = result_scalar (t.had j) }) ∙ ap scalar_signature (same_Some _ sig t.gave))

@@ -4,6 +4,8 @@ use Rattle.std.specs.List.{slice_get, list_all}
 use Rattle.std.proofs.lemmas.Bool.Decides.{nat_tests}
 use Rattle.std.proofs.lemmas.List.{length-append}
 use Rattle.std.proofs.Math.Nat.{mul-le-mul_left, mul-suc}
+use Rattle.std.specs.Cmp.{first_so, second_so}
+use Rattle.std.proofs.lemmas.Option.{same_Some}
 use Rattle.qs_memory.specs.Memory.{Cell, byte, BlankTree, times, blank_cells}
 use Rattle.qs_memory.proofs.Options.{followed}
 use Rattle.qs_types.specs.declared.extent.Extent.{Extent}
@@ -12,7 +14,7 @@ use Rattle.qs_types.specs.Layout.{and_then, StructLayout, Layouts, array_extent,
 use Rattle.qs_types.specs.InitialiserRules.{member_at, part_type}
 use Rattle.qs_meaning.specs.Blanks.{Blanks, blank_by, members_blank, struct_blank, blanks_within, blank_of}
 use Rattle.qs_meaning.specs.Initialisers.{part_offset}
-use Rattle.qs_meaning.proofs.Options.{left, right, same, went}
+use Rattle.qs_meaning.proofs.Options.{went}
 use Rattle.qs_meaning.proofs.Options as options
 use Rattle.qs_meaning.proofs.StructTables.{extents_grow, layouts_grow}
 use Rattle.qs_meaning.proofs.FitTypes.{AllPositive, laid_as, layouts_positive, extents_positive, rounded_above, ends_behind, is_small, SmallTable}
@@ -68,21 +70,21 @@ extent_at layouts (x ∷ ms) es p zero m e =
     let v = went (extents_by layouts (member_types ms)) (λ es. Some (w.value ∷ es)) es w.gave in
     record {
       extent = w.value;
-      stands = subst (λ z. slice_get z 0 ≡ Some w.value) (same _ es v.gave) refl;
-      is = subst (λ (z : MemberTree). extent_by layouts z.type ≡ Some w.value) (same _ m e) w.had;
+      stands = subst (λ z. slice_get z 0 ≡ Some w.value) (same_Some _ es v.gave) refl;
+      is = subst (λ (z : MemberTree). extent_by layouts z.type ≡ Some w.value) (same_Some _ m e) w.had;
     }
 extent_at layouts (x ∷ ms) es p (suc i) m e =
     let w = went (extent_by layouts x.type) (λ e. and_then (extents_by layouts (member_types ms)) (λ es. Some (e ∷ es))) es p in
     let v = went (extents_by layouts (member_types ms)) (λ es. Some (w.value ∷ es)) es w.gave in
     let r = extent_at layouts ms v.value v.had i m e in
-    record { extent = r.extent; stands = subst (λ z. slice_get z (suc i) ≡ Some r.extent) (same _ es v.gave) r.stands; is = r.is }
+    record { extent = r.extent; stands = subst (λ z. slice_get z (suc i) ≡ Some r.extent) (same_Some _ es v.gave) r.stands; is = r.is }
 
 end_in : (es : List Extent) (start i o : ℕ) (e : Extent) → AllPositive es → slice_get (offsets_from start es) i ≡ Some o → slice_get es i ≡ Some e → o + e.size ≤ end_from start es
 end_in [] start i o e h p q = options.nothing o p
 end_in (x ∷ es) start zero o e h p q =
-    let s : rounded_up start x.alignment ≡ o = same _ o p in
+    let s : rounded_up start x.alignment ≡ o = same_Some _ o p in
     let f = ends_behind es (rounded_up start x.alignment + x.size) h.1 in
-    let n : x.size ≡ e.size = ap (λ (z : Extent). z.size) (same _ e q) in
+    let n : x.size ≡ e.size = ap (λ (z : Extent). z.size) (same_Some _ e q) in
     omega arith
 end_in (x ∷ es) start (suc i) o e h p q = end_in es (rounded_up start x.alignment + x.size) i o e h.1 p q
 
@@ -97,8 +99,8 @@ pub record PartFits (structs : Structs) (u : TypeTree) (at whole : ℕ) : Type 0
 small_at : (structs : Structs) (ms : List MemberTree) (i : ℕ) (m : MemberTree) → list_all (λ (m : MemberTree). is_small structs m.type) ms ≡ true → slice_get ms i ≡ Some m
     → is_small structs m.type ≡ true
 small_at structs [] i m all e = options.nothing m e
-small_at structs (x ∷ ms) zero m all e = subst (λ (z : MemberTree). is_small structs z.type ≡ true) (same _ m e) (left _ _ all)
-small_at structs (x ∷ ms) (suc i) m all e = small_at structs ms i m (right (is_small structs x.type) _ all) e
+small_at structs (x ∷ ms) zero m all e = subst (λ (z : MemberTree). is_small structs z.type ≡ true) (same_Some _ m e) (first_so _ _ all)
+small_at structs (x ∷ ms) (suc i) m all e = small_at structs ms i m (second_so (is_small structs x.type) _ all) e
 
 pub part_fits : (structs : Structs) → SmallTable structs → (t u : TypeTree) (i at n : ℕ) → is_small structs t ≡ true → size_of structs t ≡ Some n
     → part_type structs t i ≡ Some u → part_offset structs t i ≡ Some at → PartFits structs u at n
@@ -106,25 +108,25 @@ part_fits structs table (array t m) u i at n s p q r =
     let size = followed (size_of structs t) _ at r in
     let w = went (extent_of structs (array t m)) (λ (e : Extent). Some e.size) n p in
     let x = went (extent_of structs t) (λ element. Some (array_extent element m)) w.value w.had in
-    let element : x.value.size ≡ size.value = same _ _ (sym (ap (λ o. and_then o (λ (e : Extent). Some e.size)) x.had) ∙ size.first) in
-    let whole : size.value * m ≡ n = ap (λ z. z * m) (sym element) ∙ (ap (λ (e : Extent). e.size) (same _ w.value x.gave) ∙ same _ n w.gave) in
+    let element : x.value.size ≡ size.value = same_Some _ _ (sym (ap (λ o. and_then o (λ (e : Extent). Some e.size)) x.had) ∙ size.first) in
+    let whole : size.value * m ≡ n = ap (λ z. z * m) (sym element) ∙ (ap (λ (e : Extent). e.size) (same_Some _ w.value x.gave) ∙ same_Some _ n w.gave) in
     let there = chosen (nat_lt i m) refl q in
     record {
       size = size.value;
       is = subst (λ z. size_of structs z ≡ Some size.value) there.1 size.first;
       within =
-          let a : size.value * i ≡ at = same _ at size.then in
+          let a : size.value * i ≡ at = same_Some _ at size.then in
           let b : size.value * suc i ≤ size.value * m = mul-le-mul_left size.value (below i m there.0) in
           let c : size.value * suc i ≡ size.value * i + size.value = mul-suc size.value i in
           omega arith;
-      small = subst (λ z. is_small structs z ≡ true) there.1 (right _ _ s);
+      small = subst (λ z. is_small structs z ≡ true) there.1 (second_so _ _ s);
     }
   where
     below : (i m : ℕ) → nat_lt i m ≡ true → suc i ≤ m
     below i m h = grind (arith, nat_tests)
 
     chosen : (b : Bool) → nat_lt i m ≡ b → (if b then Some t else None) ≡ Some u → (nat_lt i m ≡ true) × (t ≡ u)
-    chosen true h e = (h, same _ u e)
+    chosen true h e = (h, same_Some _ u e)
     chosen false h e = options.nothing u e
 part_fits structs table (struct k) u i at n s p q r =
     let w = went (extent_of structs (struct k)) (λ (e : Extent). Some e.size) n p in
@@ -133,16 +135,16 @@ part_fits structs table (struct k) u i at n s p q r =
     let l = laid structs k x.value x.had in
     let m = went (slice_get l.members i) (λ (m : MemberTree). Some m.type) u (sym (ap (λ o. member_at o i) l.of) ∙ q) in
     let e = extent_at (layout_of structs) l.members l.extents l.are i m.value m.had in
-    let offsets : slice_get x.value.offsets i ≡ Some at = ap (λ (z : StructLayout). slice_get z.offsets i) (same _ _ (sym x.had ∙ y.had)) ∙ y.gave in
-    let size : x.value.size ≡ n = ap (λ (z : Extent). z.size) (same _ w.value x.gave) ∙ same _ n w.gave in
+    let offsets : slice_get x.value.offsets i ≡ Some at = ap (λ (z : StructLayout). slice_get z.offsets i) (same_Some _ _ (sym x.had ∙ y.had)) ∙ y.gave in
+    let size : x.value.size ≡ n = ap (λ (z : Extent). z.size) (same_Some _ w.value x.gave) ∙ same_Some _ n w.gave in
     record {
       size = e.extent.size;
-      is = subst (λ z. size_of structs z ≡ Some e.extent.size) (same _ u m.gave) (ap (λ o. and_then o (λ (e : Extent). Some e.size)) e.is);
+      is = subst (λ z. size_of structs z ≡ Some e.extent.size) (same_Some _ u m.gave) (ap (λ o. and_then o (λ (e : Extent). Some e.size)) e.is);
       within =
           let a = end_in l.extents 0 i at e.extent l.positive (subst (λ (z : StructLayout). slice_get z.offsets i ≡ Some at) (sym l.is) offsets) e.stands in
           let b = l.end in
           omega arith;
-      small = subst (λ z. is_small structs z ≡ true) (same _ u m.gave) (small_at structs l.members i m.value (table.members k l.members l.of) m.had);
+      small = subst (λ z. is_small structs z ≡ true) (same_Some _ u m.gave) (small_at structs l.members i m.value (table.members k l.members l.of) m.had);
     }
 part_fits structs table int u i at n s p q r = options.nothing u q
 part_fits structs table unsigned u i at n s p q r = options.nothing u q
@@ -172,26 +174,26 @@ module _ (structs : Structs) where
 
   pub blank_length : (blanks : Blanks) → LengthsBy blanks → (t : TypeTree) (b : BlankTree) (e : Extent) → blank_by blanks t ≡ Some b → extent_of structs t ≡ Some e
       → length (blank_cells b) ≡ e.size
-  blank_length blanks h int b e p q = subst (λ z. length (blank_cells z) ≡ e.size) (same _ b p) (ap (λ (z : Extent). z.size) (same _ e q))
-  blank_length blanks h unsigned b e p q = subst (λ z. length (blank_cells z) ≡ e.size) (same _ b p) (ap (λ (z : Extent). z.size) (same _ e q))
-  blank_length blanks h char b e p q = subst (λ z. length (blank_cells z) ≡ e.size) (same _ b p) (ap (λ (z : Extent). z.size) (same _ e q))
+  blank_length blanks h int b e p q = subst (λ z. length (blank_cells z) ≡ e.size) (same_Some _ b p) (ap (λ (z : Extent). z.size) (same_Some _ e q))
+  blank_length blanks h unsigned b e p q = subst (λ z. length (blank_cells z) ≡ e.size) (same_Some _ b p) (ap (λ (z : Extent). z.size) (same_Some _ e q))
+  blank_length blanks h char b e p q = subst (λ z. length (blank_cells z) ≡ e.size) (same_Some _ b p) (ap (λ (z : Extent). z.size) (same_Some _ e q))
   blank_length blanks h void b e p q = options.nothing b p
-  blank_length blanks h (pointer t) b e p q = subst (λ z. length (blank_cells z) ≡ e.size) (same _ b p) (ap (λ (z : Extent). z.size) (same _ e q))
+  blank_length blanks h (pointer t) b e p q = subst (λ z. length (blank_cells z) ≡ e.size) (same_Some _ b p) (ap (λ (z : Extent). z.size) (same_Some _ e q))
   blank_length blanks h (array t n) b e p q =
       let w = went (extent_of structs t) (λ element. Some (array_extent element n)) e q in
       let c = followed (blank_by blanks t) _ b p in
-      subst (λ z. length (blank_cells z) ≡ e.size) (same _ b c.then)
-      (times_length n (blank_cells c.value) ∙ ap (λ z. z * n) (blank_length blanks h t c.value w.value c.first w.had) ∙ ap (λ (z : Extent). z.size) (same _ e w.gave))
+      subst (λ z. length (blank_cells z) ≡ e.size) (same_Some _ b c.then)
+      (times_length n (blank_cells c.value) ∙ ap (λ z. z * n) (blank_length blanks h t c.value w.value c.first w.had) ∙ ap (λ (z : Extent). z.size) (same_Some _ e w.gave))
   blank_length blanks h (struct k) b e p q =
       let w = went (layout_of structs k) (λ l. Some (struct_extent l)) e q in
-      h k b w.value p w.had ∙ ap (λ (z : Extent). z.size) (same _ e w.gave)
+      h k b w.value p w.had ∙ ap (λ (z : Extent). z.size) (same_Some _ e w.gave)
 
   members_length : (blanks : Blanks) → LengthsBy blanks → (ms : List MemberTree) (es : List Extent) (at size : ℕ) (b : BlankTree) → AllPositive es
       → extents_by (layout_of structs) (member_types ms) ≡ Some es → end_from at es ≤ size → members_blank structs blanks at size ms (offsets_from at es) ≡ Some b
       → at + length (blank_cells b) ≡ size
   members_length blanks h [] es at size b pos p le q =
-      let end : end_from at [] ≤ size = subst (λ z. end_from at z ≤ size) (sym (same _ es p)) le in
-      subst (λ z. at + length (blank_cells z) ≡ size) (same _ b q) (last at size end)
+      let end : end_from at [] ≤ size = subst (λ z. end_from at z ≤ size) (sym (same_Some _ es p)) le in
+      subst (λ z. at + length (blank_cells z) ≡ size) (same_Some _ b q) (last at size end)
     where
       last : (at size : ℕ) → at ≤ size → at + length (times (size - at) (byte 0 ∷ []) ++ []) ≡ size
       last at size le =
@@ -206,12 +208,12 @@ module _ (structs : Structs) where
       let x = followed (blank_by blanks m.type) _ b q in
       let n = followed (size_of structs m.type) _ b x.then in
       let rest = followed (members_blank structs blanks (offset + n.value) size ms (offsets_from (offset + e.size) es)) _ b n.then in
-      let head = heads w.value e v.value es (same _ _ v.gave) in
-      let size_is : e.size ≡ n.value = same _ _ (sym (ap (λ o. and_then o (λ (e : Extent). Some e.size)) (w.had ∙ ap Some head.0)) ∙ n.first) in
+      let head = heads w.value e v.value es (same_Some _ _ v.gave) in
+      let size_is : e.size ≡ n.value = same_Some _ _ (sym (ap (λ o. and_then o (λ (e : Extent). Some e.size)) (w.had ∙ ap Some head.0)) ∙ n.first) in
       let first = blank_length blanks h m.type x.value e x.first (w.had ∙ ap Some head.0) in
       let later = members_length blanks h ms es (offset + e.size) size rest.value pos.1 (v.had ∙ ap Some head.1) le
       (subst (λ z. members_blank structs blanks (offset + z) size ms (offsets_from (offset + e.size) es) ≡ Some rest.value) (sym size_is) rest.first) in
-      subst (λ z. at + length (blank_cells z) ≡ size) (same _ b rest.then)
+      subst (λ z. at + length (blank_cells z) ≡ size) (same_Some _ b rest.then)
       (together at offset e.size (blank_cells x.value) (blank_cells rest.value) (rounded_above at e.alignment pos.0) first later)
     where
       heads : (x y : Extent) (xs ys : List Extent) → (x ∷ xs) ≡ (y ∷ ys) → (x ≡ y) × (xs ≡ ys)
@@ -231,8 +233,8 @@ module _ (structs : Structs) where
       let ms = followed (struct_of structs k) _ b p in
       let x = followed (layout_of structs k) _ b ms.then in
       let y = laid structs k l q in
-      let is = same _ l (sym x.first ∙ q) in
-      let of = same _ _ (sym y.of ∙ ms.first) in
+      let is = same_Some _ l (sym x.first ∙ q) in
+      let of = same_Some _ _ (sym y.of ∙ ms.first) in
       zero_plus (members_length (blanks_within depth structs) (blanks_length depth) y.members y.extents 0 l.size b y.positive y.are y.end
       (subst (λ (z : StructLayout). members_blank structs (blanks_within depth structs) 0 l.size y.members z.offsets ≡ Some b) (sym y.is)
       (subst (λ z. members_blank structs (blanks_within depth structs) 0 l.size z l.offsets ≡ Some b) (sym of)
@@ -245,4 +247,4 @@ module _ (structs : Structs) where
   pub blank_size : (t : TypeTree) (b : BlankTree) (n : ℕ) → blank_of structs t ≡ Some b → size_of structs t ≡ Some n → length (blank_cells b) ≡ n
   blank_size t b n p q =
       let w = went (extent_of structs t) (λ (e : Extent). Some e.size) n q in
-      blank_length (blanks_within (defined_structs structs) structs) (blanks_length (defined_structs structs)) t b w.value p w.had ∙ same _ n w.gave
+      blank_length (blanks_within (defined_structs structs) structs) (blanks_length (defined_structs structs)) t b w.value p w.had ∙ same_Some _ n w.gave

@@ -1,6 +1,9 @@
 -- The constants, texts and called functions in an expression, and what is known of them and of the names that it uses.
 use Rattle.std.proofs.Common.{◌≡◌, ℕ, ◌+◌, ◌^◌, nat_lt, nat_le, Bool, true, false, ◌&&◌, List, [], ◌∷◌, ◌++◌, map, length, Option, Some, None, refl, subst, if◌then◌else◌}
 use Rattle.std.specs.List.{list_all}
+use Rattle.std.proofs.lemmas.Bool.{and_from}
+use Rattle.std.specs.Cmp.{first_so, second_so}
+use Rattle.std.proofs.lemmas.Option.{same_Some}
 use Rattle.qs_base.specs.Bytes.{same_bytes}
 use Rattle.qs_base.proofs.ByteLaws.{bytes_exact}
 use Rattle.qs_syntax.specs.Trees.{ExprTree, expr, ShapeTree, Exprs, no_exprs, expr_and}
@@ -19,9 +22,8 @@ use Rattle.qs_meaning.specs.Names.{Locals, Statics, Scope, local_lvalue, file_va
 use Rattle.qs_meaning.specs.Units.{result_scalar}
 use Rattle.qs_meaning.specs.Fits.{lvalue_fits, object_there}
 use Rattle.qs_meaning.specs.FitLaws.{literals_fit, shape_literals_fit, all_literals_fit}
-use Rattle.qs_meaning.proofs.Options.{left, right, all_left, all_right, nothing, same, Known}
+use Rattle.qs_meaning.proofs.Options.{all_left, all_right, nothing, Known}
 use Rattle.qs_meaning.proofs.FaultlessExpressions.{HasTypes}
-use Rattle.qs_meaning.proofs.FitConversions.{both}
 use Rattle.qs_meaning.proofs.FitTypes.{is_small}
 
 -- ---- leaves
@@ -60,8 +62,8 @@ module _ (called : List ℕ → Bool) (there : TextBlock → Bool) where
       → (literals_fit a && literals_fit b) ≡ true → list_all called (expr_calls a ++ expr_calls b) ≡ true → list_all there (expr_texts a ++ expr_texts b) ≡ true
       → (is_sure called there a && is_sure called there b) ≡ true
   two a b first second w c t =
-      both _ _ (first (left _ _ w) (all_left called (expr_calls a) (expr_calls b) c) (all_left there (expr_texts a) (expr_texts b) t))
-      (second (right (literals_fit a) _ w) (all_right called (expr_calls a) (expr_calls b) c) (all_right there (expr_texts a) (expr_texts b) t))
+      and_from _ _ (first (first_so _ _ w) (all_left called (expr_calls a) (expr_calls b) c) (all_left there (expr_texts a) (expr_texts b) t))
+      (second (second_so (literals_fit a) _ w) (all_right called (expr_calls a) (expr_calls b) c) (all_right there (expr_texts a) (expr_texts b) t))
 
   mutual
     pub sure_by : (e : ExprTree) → literals_fit e ≡ true → list_all called (expr_calls e) ≡ true → list_all there (expr_texts e) ≡ true → is_sure called there e ≡ true
@@ -70,7 +72,7 @@ module _ (called : List ℕ → Bool) (there : TextBlock → Bool) where
     shape_sure_by : (id : ℕ) (shape : ShapeTree) → shape_literals_fit shape ≡ true → list_all called (shape_calls shape) ≡ true → list_all there (shape_texts id shape) ≡ true
         → shape_sure called there id shape ≡ true
     shape_sure_by id (trees.constant n u) w c t = w
-    shape_sure_by id (trees.text bytes) w c t = left _ _ t
+    shape_sure_by id (trees.text bytes) w c t = first_so _ _ t
     shape_sure_by id (trees.name x) w c t = refl
     shape_sure_by id (trees.unary operator a) w c t = sure_by a w c t
     shape_sure_by id (trees.step operator a) w c t = sure_by a w c t
@@ -80,18 +82,18 @@ module _ (called : List ℕ → Bool) (there : TextBlock → Bool) where
     shape_sure_by id (trees.binary operator a b) w c t = two a b (λ w c t. sure_by a w c t) (λ w c t. sure_by b w c t) w c t
     shape_sure_by id (trees.assign operator a b) w c t = two a b (λ w c t. sure_by a w c t) (λ w c t. sure_by b w c t) w c t
     shape_sure_by id (trees.conditional d a b) w c t =
-        both _ _ (sure_by d (left _ _ w) (all_left called (expr_calls d) _ c) (all_left there (expr_texts d) _ t))
-        (two a b (λ w c t. sure_by a w c t) (λ w c t. sure_by b w c t) (right (literals_fit d) _ w) (all_right called (expr_calls d) _ c) (all_right there (expr_texts d) _ t))
+        and_from _ _ (sure_by d (first_so _ _ w) (all_left called (expr_calls d) _ c) (all_left there (expr_texts d) _ t))
+        (two a b (λ w c t. sure_by a w c t) (λ w c t. sure_by b w c t) (second_so (literals_fit d) _ w) (all_right called (expr_calls d) _ c) (all_right there (expr_texts d) _ t))
     shape_sure_by id (trees.comma a b) w c t = two a b (λ w c t. sure_by a w c t) (λ w c t. sure_by b w c t) w c t
     shape_sure_by id (trees.subscript a b) w c t = two a b (λ w c t. sure_by a w c t) (λ w c t. sure_by b w c t) w c t
     shape_sure_by id (trees.member access a x) w c t = sure_by a w c t
-    shape_sure_by id (trees.call f es) w c t = both _ _ (left _ _ c) (all_sure_by es w (right (called f) _ c) t)
+    shape_sure_by id (trees.call f es) w c t = and_from _ _ (first_so _ _ c) (all_sure_by es w (second_so (called f) _ c) t)
 
     all_sure_by : (es : Exprs) → all_literals_fit es ≡ true → list_all called (exprs_calls es) ≡ true → list_all there (exprs_texts es) ≡ true → all_sure called there es ≡ true
     all_sure_by no_exprs w c t = refl
     all_sure_by (expr_and e es) w c t =
-        both _ _ (sure_by e (left _ _ w) (all_left called (expr_calls e) (exprs_calls es) c) (all_left there (expr_texts e) (exprs_texts es) t))
-        (all_sure_by es (right (literals_fit e) _ w) (all_right called (expr_calls e) (exprs_calls es) c) (all_right there (expr_texts e) (exprs_texts es) t))
+        and_from _ _ (sure_by e (first_so _ _ w) (all_left called (expr_calls e) (exprs_calls es) c) (all_left there (expr_texts e) (exprs_texts es) t))
+        (all_sure_by es (second_so (literals_fit e) _ w) (all_right called (expr_calls e) (exprs_calls es) c) (all_right there (expr_texts e) (exprs_texts es) t))
 
 -- a text that is no longer than an object may be
 abbrev pub is_short : TextBlock → Bool
@@ -138,7 +140,7 @@ module _ (i : Interface) (g : typed_trees.Function) (called : List ℕ → Bool)
       go : (lookup x bs ≡ Some e → EntityFits i g called s structs x e) → (c : Bool) → same_bytes b.name x ≡ c → (if c then Some b.entity else lookup x bs) ≡ Some e
           → EntityFits i g called s structs x e
       go later true h' p =
-          subst (λ z. EntityFits i g called s structs x z) (same _ _ p)
+          subst (λ z. EntityFits i g called s structs x z) (same_Some _ _ p)
           (subst (λ z. EntityFits i g called s structs z b.entity) ((bytes_exact b.name x).0 h') h.0)
       go later false h' p = later p
 

@@ -1,10 +1,11 @@
 -- The locals of a function have different numbers, so each has its own place among the variables or the blocks.
 use Rattle.std.proofs.Common.{◌≡◌, ◌⊎◌, inl, inr, ℕ, suc, ◌+◌, ◌==◌, nat_lt, Bool, true, false, cond, not, ◌||◌, List, [], ◌∷◌, ◌++◌, length, map, filter, Option, Some, refl, sym, ap, ◌∙◌, subst, arith, if◌then◌else◌}
 use Rattle.std.specs.List.{slice_get}
-use Rattle.std.proofs.lemmas.Bool.{eqb-true, eq-eqb}
+use Rattle.std.proofs.lemmas.Bool.{eqb-true, eq-eqb, and_from, or_right}
 use Rattle.std.proofs.lemmas.Bool.Decides.{nat_tests}
 use Rattle.std.proofs.lemmas.List.{map-append}
-use Rattle.std.proofs.lemmas.Option.{slice_get_within}
+use Rattle.std.proofs.lemmas.Option.{slice_get_within, same_Some}
+use Rattle.std.specs.Cmp.{first_so, second_so}
 use Rattle.qs_syntax.specs.declared.nodes.Node.{Node}
 use Rattle.qs_syntax.specs.declared.types.Base.{Base}
 use Rattle.qs_syntax.specs.Trees.{VariableTree, ParameterTree, StartTree, no_start, start_expression, start_declaration, StmtTree, empty, expression, declaration, block, branch, while_loop, do_loop, for_loop, break, continue, return, Stmts, no_stmts, stmt_and, Else, no_else, else_by}
@@ -21,8 +22,7 @@ use Rattle.qs_meaning.specs.Conversions.{scalar_of}
 use Rattle.qs_meaning.specs.Names.{place_among}
 use Rattle.qs_meaning.specs.Units.{nodes_of, scalars_of, sizes_of}
 use Rattle.qs_meaning.specs.FitLaws.{are_different, is_filled, variables_filled, start_filled, statement_filled, statements_filled, else_filled}
-use Rattle.qs_meaning.proofs.Options.{never, left, right, same}
-use Rattle.qs_meaning.proofs.FitConversions.{both}
+use Rattle.qs_meaning.proofs.Options.{never}
 use Rattle.qs_meaning.proofs.FitTypes.{is_small}
 use Rattle.qs_meaning.proofs.FitDeclarations.{variable_small}
 
@@ -68,10 +68,6 @@ sub_filter p (x ∷ xs) = go (p x) (sub_filter p xs)
     go true h = keep x h
     go false h = skip x h
 
-or_right : (x y : Bool) → y ≡ true → (x || y) ≡ true
-or_right true y e = refl
-or_right false y e = e
-
 sub_member : {xs ys : List ℕ} (n : ℕ) → Sub xs ys → is_one_of n xs ≡ true → is_one_of n ys ≡ true
 sub_member n done e = e
 sub_member n (skip y h) e = or_right (y == n) _ (sub_member n h e)
@@ -88,9 +84,9 @@ absent false c h e = refl
 
 pub sub_different : {xs ys : List ℕ} → Sub xs ys → are_different ys ≡ true → are_different xs ≡ true
 sub_different done e = refl
-sub_different {ys = _ ∷ ys} (skip y h) e = sub_different h (right (not (is_one_of y ys)) _ e)
+sub_different {ys = _ ∷ ys} (skip y h) e = sub_different h (second_so (not (is_one_of y ys)) _ e)
 sub_different {xs = _ ∷ xs} {ys = _ ∷ ys} (keep x h) e =
-    both _ _ (absent (is_one_of x xs) (is_one_of x ys) (sub_member x h) (left _ _ e)) (sub_different h (right (not (is_one_of x ys)) _ e))
+    and_from _ _ (absent (is_one_of x xs) (is_one_of x ys) (sub_member x h) (first_so _ _ e)) (sub_different h (second_so (not (is_one_of x ys)) _ e))
 
 -- ---- locals among others
 
@@ -159,11 +155,11 @@ not_among p l (x ∷ xs) d (inl s) e = go (p x) (ap p s ∙ e)
     go true e = never (sym e)
     go false e =
         none (is_one_of l.node (nodes_of (filter p xs))) (is_one_of l.node (nodes_of xs)) (sub_member l.node (sub_map (λ (z : Local). z.node) (sub_filter p xs)))
-        (subst (λ n. not (is_one_of n (nodes_of xs)) ≡ true) (ap (λ (z : Local). z.node) s) (left _ _ d))
-not_among p l (x ∷ xs) d (inr h) e = go (p x) (not_among p l xs (right (not (is_one_of x.node (nodes_of xs))) _ d) h e)
+        (subst (λ n. not (is_one_of n (nodes_of xs)) ≡ true) (ap (λ (z : Local). z.node) s) (first_so _ _ d))
+not_among p l (x ∷ xs) d (inr h) e = go (p x) (not_among p l xs (second_so (not (is_one_of x.node (nodes_of xs))) _ d) h e)
   where
     go : (b : Bool) → is_one_of l.node (nodes_of (filter p xs)) ≡ false → is_one_of l.node (nodes_of (cond b (x ∷ filter p xs) (filter p xs))) ≡ false
-    go true k = apart (x.node == l.node) (first_apart x.node l.node (nodes_of xs) (left _ _ d) (node_in l xs h)) k
+    go true k = apart (x.node == l.node) (first_apart x.node l.node (nodes_of xs) (first_so _ _ d) (node_in l xs h)) k
       where
         apart : (b : Bool) → b ≡ false → is_one_of l.node (nodes_of (filter p xs)) ≡ false → (b || is_one_of l.node (nodes_of (filter p xs))) ≡ false
         apart true e k = e
@@ -187,15 +183,15 @@ scalar_at [] ss l t e d h p = absurd h
 scalar_at (x ∷ xs) ss l t e d (inl s) p =
     let u = followed x.type _ ss e in
     let rest = followed (scalars_of xs) _ ss u.then in
-    subst (λ z. slice_get z (place_among l.node (nodes_of (x ∷ xs))) ≡ Some (scalar_of t)) (same _ ss rest.then)
+    subst (λ z. slice_get z (place_among l.node (nodes_of (x ∷ xs))) ≡ Some (scalar_of t)) (same_Some _ ss rest.then)
     (ap (slice_get (scalar_of u.value ∷ rest.value)) (place_first x.node l.node (nodes_of xs) (ap (λ (z : Local). z.node) s))
-    ∙ ap (λ z. Some (scalar_of z)) (same _ _ (sym u.first ∙ (ap (λ (z : Local). z.type) s ∙ p))))
+    ∙ ap (λ z. Some (scalar_of z)) (same_Some _ _ (sym u.first ∙ (ap (λ (z : Local). z.type) s ∙ p))))
 scalar_at (x ∷ xs) ss l t e d (inr h) p =
     let u = followed x.type _ ss e in
     let rest = followed (scalars_of xs) _ ss u.then in
-    subst (λ z. slice_get z (place_among l.node (nodes_of (x ∷ xs))) ≡ Some (scalar_of t)) (same _ ss rest.then)
-    (ap (slice_get (scalar_of u.value ∷ rest.value)) (place_later x.node l.node (nodes_of xs) (first_apart x.node l.node (nodes_of xs) (left _ _ d) (node_in l xs h)))
-    ∙ scalar_at xs rest.value l t rest.first (right (not (is_one_of x.node (nodes_of xs))) _ d) h p)
+    subst (λ z. slice_get z (place_among l.node (nodes_of (x ∷ xs))) ≡ Some (scalar_of t)) (same_Some _ ss rest.then)
+    (ap (slice_get (scalar_of u.value ∷ rest.value)) (place_later x.node l.node (nodes_of xs) (first_apart x.node l.node (nodes_of xs) (first_so _ _ d) (node_in l xs h)))
+    ∙ scalar_at xs rest.value l t rest.first (second_so (not (is_one_of x.node (nodes_of xs))) _ d) h p)
 
 -- the size of a block is that of its local's type
 pub record SizeAt (structs : Structs) (sizes : List ℕ) (k : ℕ) (t : TypeTree) : Type 0 where
@@ -212,18 +208,18 @@ size_at structs (x ∷ xs) sizes l t e d (inl s) p =
     record {
       size = n.value;
       is = ap (λ o. o >>= size_of structs) (sym (ap (λ (z : Local). z.type) s ∙ p)) ∙ n.first;
-      stands = subst (λ z. slice_get z (place_among l.node (nodes_of (x ∷ xs))) ≡ Some n.value) (same _ sizes rest.then)
+      stands = subst (λ z. slice_get z (place_among l.node (nodes_of (x ∷ xs))) ≡ Some n.value) (same_Some _ sizes rest.then)
           (ap (slice_get (n.value ∷ rest.value)) (place_first x.node l.node (nodes_of xs) (ap (λ (z : Local). z.node) s)));
     }
 size_at structs (x ∷ xs) sizes l t e d (inr h) p =
     let n = followed (x.type >>= size_of structs) _ sizes e in
     let rest = followed (sizes_of structs xs) _ sizes n.then in
-    let later = size_at structs xs rest.value l t rest.first (right (not (is_one_of x.node (nodes_of xs))) _ d) h p in
+    let later = size_at structs xs rest.value l t rest.first (second_so (not (is_one_of x.node (nodes_of xs))) _ d) h p in
     record {
       size = later.size;
       is = later.is;
-      stands = subst (λ z. slice_get z (place_among l.node (nodes_of (x ∷ xs))) ≡ Some later.size) (same _ sizes rest.then)
-          (ap (slice_get (n.value ∷ rest.value)) (place_later x.node l.node (nodes_of xs) (first_apart x.node l.node (nodes_of xs) (left _ _ d) (node_in l xs h))) ∙ later.stands);
+      stands = subst (λ z. slice_get z (place_among l.node (nodes_of (x ∷ xs))) ≡ Some later.size) (same_Some _ sizes rest.then)
+          (ap (slice_get (n.value ∷ rest.value)) (place_later x.node l.node (nodes_of xs) (first_apart x.node l.node (nodes_of xs) (first_so _ _ d) (node_in l xs h))) ∙ later.stands);
     }
 
 pub below_length : (sizes : List ℕ) (k n : ℕ) → slice_get sizes k ≡ Some n → nat_lt k (length sizes) ≡ true
@@ -233,8 +229,8 @@ below_length sizes k n e = let b = slice_get_within sizes k n e in grind (arith,
 pub place_behind : (front : List ℕ) (n : ℕ) (ns : List ℕ) → are_different (front ++ n ∷ ns) ≡ true → place_among n (front ++ n ∷ ns) ≡ length front
 place_behind [] n ns d = place_first n n ns refl
 place_behind (m ∷ front) n ns d =
-    place_later m n (front ++ n ∷ ns) (first_apart m n (front ++ n ∷ ns) (left _ _ d) (there front))
-    ∙ ap suc (place_behind front n ns (right (not (is_one_of m (front ++ n ∷ ns))) _ d))
+    place_later m n (front ++ n ∷ ns) (first_apart m n (front ++ n ∷ ns) (first_so _ _ d) (there front))
+    ∙ ap suc (place_behind front n ns (second_so (not (is_one_of m (front ++ n ∷ ns))) _ d))
   where
     or_left : (b c : Bool) → b ≡ true → (b || c) ≡ true
     or_left true c e = refl
@@ -348,7 +344,7 @@ statement_structs (return node e) c = refl
 variables_small : (vs : List VariableTree) (c : Context) (base : Base) → variables_filled vs ≡ true → SmallLocals c.structs (variables_locals c base vs)
 variables_small [] c base h = tt
 variables_small (v ∷ vs) c base h =
-    (λ t e. (variable_small c base v t (left _ _ h) e).small, variables_small vs (after_variable false c base v) base (right (is_filled v.initialiser) _ h))
+    (λ t e. (variable_small c base v t (first_so _ _ h) e).small, variables_small vs (after_variable false c base v) base (second_so (is_filled v.initialiser) _ h))
 
 start_small : (start : StartTree) (c : Context) → start_filled start ≡ true → SmallLocals c.structs (start_locals c start)
 start_small no_start c h = tt
@@ -362,13 +358,13 @@ mutual
   statement_small (declaration d) c h = variables_small d.variables c d.base h
   statement_small (block ss) c h = statements_small ss (inner_scope c) h
   statement_small (branch node e t r) c h =
-      small_both c.structs (statement_locals (inner_scope c) t) (else_locals c r) (statement_small t (inner_scope c) (left _ _ h)) (else_small r c (right (statement_filled t) _ h))
+      small_both c.structs (statement_locals (inner_scope c) t) (else_locals c r) (statement_small t (inner_scope c) (first_so _ _ h)) (else_small r c (second_so (statement_filled t) _ h))
   statement_small (while_loop node e t) c h = statement_small t (inside_loop (inner_scope c)) h
   statement_small (do_loop node t e) c h = statement_small t (inside_loop (inner_scope c)) h
   statement_small (for_loop node start e u t) c h =
       let inside = inside_loop (inner_scope (for_context c start)) in
-      small_both c.structs (start_locals (inner_scope c) start) (statement_locals inside t) (start_small start (inner_scope c) (left _ _ h))
-      (subst (λ z. SmallLocals z (statement_locals inside t)) (start_structs start (inner_scope c)) (statement_small t inside (right (start_filled start) _ h)))
+      small_both c.structs (start_locals (inner_scope c) start) (statement_locals inside t) (start_small start (inner_scope c) (first_so _ _ h))
+      (subst (λ z. SmallLocals z (statement_locals inside t)) (start_structs start (inner_scope c)) (statement_small t inside (second_so (start_filled start) _ h)))
   statement_small (break node) c h = tt
   statement_small (continue node) c h = tt
   statement_small (return node e) c h = tt
@@ -376,8 +372,8 @@ mutual
   pub statements_small : (ss : Stmts) (c : Context) → statements_filled ss ≡ true → SmallLocals c.structs (statements_locals c ss)
   statements_small no_stmts c h = tt
   statements_small (stmt_and t ts) c h =
-      small_both c.structs (statement_locals c t) (statements_locals (after_statement c t) ts) (statement_small t c (left _ _ h))
-      (subst (λ z. SmallLocals z (statements_locals (after_statement c t) ts)) (statement_structs t c) (statements_small ts (after_statement c t) (right (statement_filled t) _ h)))
+      small_both c.structs (statement_locals c t) (statements_locals (after_statement c t) ts) (statement_small t c (first_so _ _ h))
+      (subst (λ z. SmallLocals z (statements_locals (after_statement c t) ts)) (statement_structs t c) (statements_small ts (after_statement c t) (second_so (statement_filled t) _ h)))
 
   else_small : (r : Else) (c : Context) → else_filled r ≡ true → SmallLocals c.structs (else_locals c r)
   else_small no_else c h = tt

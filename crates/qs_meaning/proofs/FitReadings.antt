@@ -4,6 +4,8 @@ use Rattle.std.specs.List.{list_all}
 use Rattle.std.proofs.lemmas.Bool.Decides.{nat_tests}
 use Rattle.std.proofs.lemmas.List.Folds.{list_all-append}
 use Rattle.std.proofs.Math.Logic.{∥∥₁_elim}
+use Rattle.std.proofs.lemmas.Bool.{and_from}
+use Rattle.std.specs.Cmp.{first_so, second_so}
 use mathlib.Core.Bool.{Bool-set}
 use Rattle.qs_base.specs.Names.{is_name}
 use Rattle.qs_syntax.specs.declared.nodes.Node.{Node}
@@ -29,8 +31,7 @@ use Rattle.qs_types.specs.StatementRules.{after_variable, after_statement, for_c
 use Rattle.qs_types.specs.Sites.{Site, site, sites, option_sites, declarator_sites, declarators_sites, initialiser_sites, elements_sites, variable_sites, variables_sites, start_sites, statement_sites, statements_sites, members_sites, parameters_sites, declaration_sites, declarations_sites}
 use Rattle.qs_types.specs.UnitRules.{with_tag, body_context, after_declaration}
 use Rattle.qs_meaning.specs.FitLaws.{are_different, numbers_differ, literals_fit, all_literals_fit, unit_literals_fit, is_filled, variables_filled, start_filled, statement_filled, statements_filled, has_declarators, members_filled, declaration_filled, lists_are_filled, IsAsRead, ReadIsAsRead}
-use Rattle.qs_meaning.proofs.Options.{left, right, all_left, all_right}
-use Rattle.qs_meaning.proofs.FitConversions.{both}
+use Rattle.qs_meaning.proofs.Options.{all_left, all_right}
 use Rattle.qs_meaning.proofs.FitLocals.{ids}
 
 -- ---- numbers
@@ -48,7 +49,7 @@ above m n (x ∷ ns) h = neither (n == m) (other m n h) (above m (n + 1) ns (ome
 
 numbers_different : (n : ℕ) (ns : List Node) → are_different (ids (relabel_nodes numbered n ns)) ≡ true
 numbers_different n [] = refl
-numbers_different n (x ∷ ns) = both _ _ (ap not (above n (n + 1) ns (omega arith))) (numbers_different (n + 1) ns)
+numbers_different n (x ∷ ns) = and_from _ _ (ap not (above n (n + 1) ns (omega arith))) (numbers_different (n + 1) ns)
 
 -- ---- tokens
 
@@ -72,7 +73,7 @@ word n false h = below n h
 -- 6.4.5: literals that stand side by side are one text
 texts_read : {ts : List Terminal} {bytes : List ℕ} → ReadsTexts ts bytes → In ts → list_all is_byte bytes ≡ true
 texts_read no_text i = refl
-texts_read (a_further_text {bytes = bytes} at first r) i = list_all-append is_byte first bytes ∙ both _ _ (left _ _ i) (texts_read r (right (list_all is_byte first) _ i))
+texts_read (a_further_text {bytes = bytes} at first r) i = list_all-append is_byte first bytes ∙ and_from _ _ (first_so _ _ i) (texts_read r (second_so (list_all is_byte first) _ i))
 
 -- ---- expressions, with whatever numbers
 
@@ -80,11 +81,11 @@ mutual
   expr_read : {form : Form} {h : ℕ} {ts : List Terminal} {e : ExprTree} → Reads form h ts e → In ts → (n : ℕ) → literals_fit (relabel_expr numbered n e) ≡ true
   expr_read (a_name at x) i n = refl
   expr_read (an_empty_call at o c f) i n = refl
-  expr_read (a_call {ts = ts} at o c f r) i n = arguments_read r (front ts _ (right (is_name f) _ i)) _
-  expr_read (a_constant at k unsigned) i n = word k unsigned (left _ _ i)
-  expr_read (a_text {bytes = bytes} at first r) i n = list_all-append is_byte first bytes ∙ both _ _ (left _ _ i) (texts_read r (right (list_all is_byte first) _ i))
+  expr_read (a_call {ts = ts} at o c f r) i n = arguments_read r (front ts _ (second_so (is_name f) _ i)) _
+  expr_read (a_constant at k unsigned) i n = word k unsigned (first_so _ _ i)
+  expr_read (a_text {bytes = bytes} at first r) i n = list_all-append is_byte first bytes ∙ and_from _ _ (first_so _ _ i) (texts_read r (second_so (list_all is_byte first) _ i))
   expr_read (in_parentheses {ts = ts} o c r) i n = expr_read r (front ts _ i) n
-  expr_read (an_index {xs = xs} {ys = ys} {a = a} {b = b} o c r s) i n = both _ _ (expr_read r (front xs _ i) _) (expr_read s (front ys _ (back xs _ i)) _)
+  expr_read (an_index {xs = xs} {ys = ys} {a = a} {b = b} o c r s) i n = and_from _ _ (expr_read r (front xs _ i) _) (expr_read s (front ys _ (back xs _ i)) _)
   expr_read (a_member {xs = xs} access d k x r) i n = expr_read r (front xs _ i) _
   expr_read (an_increment_after {xs = xs} s r) i n = expr_read r (front xs _ i) _
   expr_read (a_decrement_after {xs = xs} s r) i n = expr_read r (front xs _ i) _
@@ -97,18 +98,18 @@ mutual
   expr_read (a_cast {ts = ts} at c t r) i n = expr_read r (back ts _ i) _
   expr_read (an_operand r) i n = expr_read r i n
   expr_read (stronger r) i n = expr_read r i n
-  expr_read (an_operation {xs = xs} {a = a} {b = b} operator at p r s) i n = both _ _ (expr_read r (front xs _ i) _) (expr_read s (back xs _ i) _)
+  expr_read (an_operation {xs = xs} {a = a} {b = b} operator at p r s) i n = and_from _ _ (expr_read r (front xs _ i) _) (expr_read s (back xs _ i) _)
   expr_read (a_plain_level r) i n = expr_read r i n
   expr_read (a_choice {xs = xs} {ys = ys} {a = a} {b = b} {c = c} q s r t u) i n =
-      both _ _ (expr_read r (front xs _ i) _) (both _ _ (expr_read t (front ys _ (back xs _ i)) _) (expr_read u (back ys _ (back xs _ i)) _))
+      and_from _ _ (expr_read r (front xs _ i) _) (and_from _ _ (expr_read t (front ys _ (back xs _ i)) _) (expr_read u (back ys _ (back xs _ i)) _))
   expr_read (a_plain_conditional r) i n = expr_read r i n
-  expr_read (an_assignment {xs = xs} {a = a} {b = b} operator at r s) i n = both _ _ (expr_read r (front xs _ i) _) (expr_read s (back xs _ i) _)
+  expr_read (an_assignment {xs = xs} {a = a} {b = b} operator at r s) i n = and_from _ _ (expr_read r (front xs _ i) _) (expr_read s (back xs _ i) _)
   expr_read (a_plain_assignment r) i n = expr_read r i n
-  expr_read (a_comma {xs = xs} {a = a} {b = b} at r s) i n = both _ _ (expr_read r (front xs _ i) _) (expr_read s (back xs _ i) _)
+  expr_read (a_comma {xs = xs} {a = a} {b = b} at r s) i n = and_from _ _ (expr_read r (front xs _ i) _) (expr_read s (back xs _ i) _)
 
   arguments_read : {h : ℕ} {ts : List Terminal} {es : Exprs} → ReadsArguments h ts es → In ts → (n : ℕ) → all_literals_fit (relabel_exprs numbered n es) ≡ true
-  arguments_read (a_last_argument {e = e} r) i n = both _ _ (expr_read r i _) refl
-  arguments_read (an_argument {xs = xs} {e = e} {es = es} at r s) i n = both _ _ (expr_read r (front xs _ i) _) (arguments_read s (back xs _ i) _)
+  arguments_read (a_last_argument {e = e} r) i n = and_from _ _ (expr_read r i _) refl
+  arguments_read (an_argument {xs = xs} {e = e} {es = es} at r s) i n = and_from _ _ (expr_read r (front xs _ i) _) (arguments_read s (back xs _ i) _)
 
 -- ---- declarations
 
@@ -116,24 +117,24 @@ abbrev are_fine : List Site → Bool
 are_fine ss = list_all (λ (s : Site). literals_fit s.expression) ss
 
 two : (xs ys : List Site) → are_fine xs ≡ true → are_fine ys ≡ true → are_fine (xs ++ ys) ≡ true
-two xs ys h k = list_all-append (λ (s : Site). literals_fit s.expression) xs ys ∙ both _ _ h k
+two xs ys h k = list_all-append (λ (s : Site). literals_fit s.expression) xs ys ∙ and_from _ _ h k
 
 given_read : {h : ℕ} {ts : List Terminal} {es : List ExprTree} → ReadsGiven h ts es → In ts → (n : ℕ) (c : Context)
     → are_fine (sites c (relabel_all numbered expr_count (relabel_expr numbered) n es)) ≡ true
 given_read no_length i n c = refl
-given_read (a_length {xs = xs} {e = e} {es = es} o k r s) i n c = both _ _ (expr_read r (front xs _ i) _) (given_read s (back xs _ i) _ c)
+given_read (a_length {xs = xs} {e = e} {es = es} o k r s) i n c = and_from _ _ (expr_read r (front xs _ i) _) (given_read s (back xs _ i) _ c)
 
 lengths_read : {h : ℕ} {ts : List Terminal} {l : LengthsTree} → ReadsLengths h ts l → In ts → (n : ℕ) (c : Context) → are_fine (sites c (relabel_lengths numbered n l).given) ≡ true
 lengths_read (are_given r) i n c = given_read r i n c
 lengths_read (first_open o k r) i n c = given_read r i n c
 
 declarator_read : {h : ℕ} {ts : List Terminal} {d : DeclaratorTree} → ReadsDeclarator h ts d → In ts → (n : ℕ) (c : Context) → are_fine (declarator_sites c (relabel_declarator numbered n d)) ≡ true
-declarator_read (a_declarator {xs = xs} at x s r) i n c = lengths_read r (right (is_name x) _ (back xs _ i)) _ c
+declarator_read (a_declarator {xs = xs} at x s r) i n c = lengths_read r (second_so (is_name x) _ (back xs _ i)) _ c
 
 mutual
   initialiser_read : {h : ℕ} {ts : List Terminal} {x : InitialiserTree} → ReadsInitialiser h ts x → In ts → (n : ℕ) (file : Bool) (c : Context) (t : Option TypeTree)
       → are_fine (initialiser_sites file c t (relabel_initialiser numbered n x)) ≡ true
-  initialiser_read (a_value r) i n file c t = both _ _ (expr_read r i _) refl
+  initialiser_read (a_value r) i n file c t = and_from _ _ (expr_read r i _) refl
   initialiser_read (a_list {ts = ts} o k r) i n file c t = initialisers_read r (front ts _ i) _ file c t 0
 
   initialisers_read : {h : ℕ} {ts : List Terminal} {is : Initialisers} → ReadsInitialisers h ts is → In ts → (n : ℕ) (file : Bool) (c : Context) (t : Option TypeTree) (k : ℕ)
@@ -175,7 +176,7 @@ variables_read (a_last_variable {v = v} r) i n =
     let x = variable_read r i n in
     record {
       sites = λ file c base. two (variable_sites file c (after_variable file c base (relabel_variable numbered n v)) base (relabel_variable numbered n v)) [] (x.sites file c _ base) refl;
-      filled = both _ _ x.filled refl;
+      filled = and_from _ _ x.filled refl;
     }
 variables_read (a_variable {xs = xs} {v = v} {vs = vs} at r s) i n =
     let x = variable_read r (front xs _ i) n in
@@ -183,7 +184,7 @@ variables_read (a_variable {xs = xs} {v = v} {vs = vs} at r s) i n =
     record {
       sites = λ file c base. two (variable_sites file c (after_variable file c base (relabel_variable numbered n v)) base (relabel_variable numbered n v)) _ (x.sites file c _ base)
           (rest.sites file _ base);
-      filled = both _ _ x.filled rest.filled;
+      filled = and_from _ _ x.filled rest.filled;
     }
 
 declaration_read : {h : ℕ} {ts : List Terminal} {d : DeclarationTree} → ReadsDeclaration h ts d → In ts → (n : ℕ) → VariablesRead n d.variables
@@ -213,7 +214,7 @@ all_members_read (a_further_group {xs = xs} {m = m} {ms = ms} r s) i n c =
 
 parameter_read : {h : ℕ} {ts : List Terminal} {p : ParameterTree} → ReadsParameter h ts p → In ts → (n : ℕ) (c : Context)
     → are_fine (sites c (relabel_parameter numbered n p).lengths.given) ≡ true
-parameter_read (a_named_parameter {xs = xs} {ys = ys} at x t s r) i n c = lengths_read r (right (is_name x) _ (back ys _ (back xs _ i))) _ c
+parameter_read (a_named_parameter {xs = xs} {ys = ys} at x t s r) i n c = lengths_read r (second_so (is_name x) _ (back ys _ (back xs _ i))) _ c
 parameter_read (an_unnamed_parameter {xs = xs} {ys = ys} t s r other) i n c = lengths_read r (back ys _ (back xs _ i)) _ c
 
 parameters_read : {h : ℕ} {ts : List Terminal} {ps : List ParameterTree} → ReadsParameters h ts ps → In ts → (n : ℕ) (c : Context)
@@ -233,7 +234,7 @@ head_read (some_parameters r) i n c = parameters_read r i n c
 optional_read : {h : ℕ} {ts : List Terminal} {e : Option ExprTree} → ReadsOptional h ts e → In ts → (n : ℕ) (c : Context)
     → are_fine (option_sites c (relabel_option (relabel_expr numbered) n e)) ≡ true
 optional_read nothing_there i n c = refl
-optional_read (something_there r) i n c = both _ _ (expr_read r i n) refl
+optional_read (something_there r) i n c = and_from _ _ (expr_read r i n) refl
 
 record StatementRead (sites : List Site) (filled : Bool) : Type 0 where
   fine : are_fine sites ≡ true
@@ -242,7 +243,7 @@ record StatementRead (sites : List Site) (filled : Bool) : Type 0 where
 start_read : {h : ℕ} {ts : List Terminal} {s : StartTree} → ReadsStart h ts s → In ts → (n : ℕ) (c : Context)
     → StatementRead (start_sites c (relabel_start numbered n s)) (start_filled (relabel_start numbered n s))
 start_read (a_start_declaration {d = d} r) i n c = let x = declaration_read r i n in record { fine = x.sites false c d.base; full = x.filled }
-start_read (a_start_expression {ts = ts} s r) i n c = record { fine = both _ _ (expr_read r (front ts _ i) n) refl; full = refl }
+start_read (a_start_expression {ts = ts} s r) i n c = record { fine = and_from _ _ (expr_read r (front ts _ i) n) refl; full = refl }
 start_read (no_start_at_all s) i n c = record { fine = refl; full = refl }
 
 mutual
@@ -250,30 +251,30 @@ mutual
       → StatementRead (statement_sites c (relabel_stmt numbered n s)) (statement_filled (relabel_stmt numbered n s))
   statement_read (a_block {ts = ts} o k r) i n c = items_read r (front ts _ i) n (inner_scope c)
   statement_read (an_empty at) i n c = record { fine = refl; full = refl }
-  statement_read (an_expression {ts = ts} s r) i n c = record { fine = both _ _ (expr_read r (front ts _ i) _) refl; full = refl }
+  statement_read (an_expression {ts = ts} s r) i n c = record { fine = and_from _ _ (expr_read r (front ts _ i) _) refl; full = refl }
   statement_read (an_if {xs = xs} {e = e} {s = s} at o k r q) i n c =
       let x = statement_read q (back xs _ i) (n + 1 + expr_count e) (inner_scope c) in
       record {
-        fine = both _ _ (expr_read r (front xs _ i) (n + 1)) (two (statement_sites (inner_scope c) (relabel_stmt numbered (n + 1 + expr_count e) s)) [] x.fine refl);
-        full = both _ _ x.full refl;
+        fine = and_from _ _ (expr_read r (front xs _ i) (n + 1)) (two (statement_sites (inner_scope c) (relabel_stmt numbered (n + 1 + expr_count e) s)) [] x.fine refl);
+        full = and_from _ _ x.full refl;
       }
   statement_read (an_if_with_else {xs = xs} {ys = ys} {e = e} {s = s} {t = t} at o k m r q closed w) i n c =
       let x = statement_read q (front ys _ (back xs _ i)) (n + 1 + expr_count e) (inner_scope c) in
       let y = statement_read w (back ys _ (back xs _ i)) (n + 1 + expr_count e + stmt_count s) (inner_scope c) in
       record {
-        fine = both _ _ (expr_read r (front xs _ i) (n + 1))
+        fine = and_from _ _ (expr_read r (front xs _ i) (n + 1))
             (two (statement_sites (inner_scope c) (relabel_stmt numbered (n + 1 + expr_count e) s))
             (statement_sites (inner_scope c) (relabel_stmt numbered (n + 1 + expr_count e + stmt_count s) t)) x.fine y.fine);
-        full = both _ _ x.full y.full;
+        full = and_from _ _ x.full y.full;
       }
   statement_read (a_while {xs = xs} {e = e} {s = s} at o k r q) i n c =
       let x = statement_read q (back xs _ i) (n + 1 + expr_count e) (inside_loop (inner_scope c)) in
-      record { fine = both _ _ (expr_read r (front xs _ i) (n + 1)) x.fine; full = x.full }
+      record { fine = and_from _ _ (expr_read r (front xs _ i) (n + 1)) x.fine; full = x.full }
   statement_read (a_do {xs = xs} {ys = ys} {s = s} {e = e} at w o k m q r) i n c =
       let x = statement_read q (front xs _ i) (n + 1) (inside_loop (inner_scope c)) in
       record {
         fine = two (statement_sites (inside_loop (inner_scope c)) (relabel_stmt numbered (n + 1) s)) (site c (relabel_expr numbered (n + 1 + stmt_count s) e)) x.fine
-            (both _ _ (expr_read r (front ys _ (back xs _ i)) (n + 1 + stmt_count s)) refl);
+            (and_from _ _ (expr_read r (front ys _ (back xs _ i)) (n + 1 + stmt_count s)) refl);
         full = x.full;
       }
   statement_read (a_for {ws = ws} {xs = xs} {ys = ys} {start = a} {e = e} {u = u} {s = s} at o m k ra re ru rs) i n c =
@@ -293,7 +294,7 @@ mutual
             (optional_read re (front xs _ (back ws _ i)) first behind)
             (two (option_sites behind (relabel_option (relabel_expr numbered) second u)) (statement_sites inside (relabel_stmt numbered third s))
             (optional_read ru (front ys _ (back xs _ (back ws _ i))) second behind) y.fine));
-        full = both _ _ x.full y.full;
+        full = and_from _ _ x.full y.full;
       }
   statement_read (a_break at s) i n c = record { fine = refl; full = refl }
   statement_read (a_continue at s) i n c = record { fine = refl; full = refl }
@@ -310,7 +311,7 @@ mutual
   items_read (an_item {xs = xs} {s = s} {ss = ss} r q) i n c =
       let x = item_read r (front xs _ i) n c in
       let y = items_read q (back xs _ i) _ (after_statement c (relabel_stmt numbered n s)) in
-      record { fine = two (statement_sites c (relabel_stmt numbered n s)) _ x.fine y.fine; full = both _ _ x.full y.full }
+      record { fine = two (statement_sites c (relabel_stmt numbered n s)) _ x.fine y.fine; full = and_from _ _ x.full y.full }
 
 -- ---- units
 
@@ -324,15 +325,15 @@ both_read f ss c h k =
 external_read : {h : ℕ} {ts : List Terminal} {d : DeclTree} → ReadsExternal h ts d → In ts → (n : ℕ) (c : Context)
     → StatementRead (declaration_sites c (relabel_decl numbered n d)) (declaration_filled (relabel_decl numbered n d))
 external_read (a_struct_with_members {ts = ts} at m o k s x r) i n c =
-    let y = all_members_read r (front ts _ (right (is_name x) _ i)) _ (with_tag c x) in record { fine = y.0; full = y.1 }
+    let y = all_members_read r (front ts _ (second_so (is_name x) _ i)) _ (with_tag c x) in record { fine = y.0; full = y.1 }
 external_read (a_forward at m s x) i n c = record { fine = refl; full = refl }
 external_read (a_header {xs = xs} {ys = ys} {zs = zs} {ps = ps} m o k s x t u r) i n c = record {
   fine = two (parameters_sites (inner_scope c) (relabel_all numbered parameter_count (relabel_parameter numbered) (n + 1) ps)) []
-      (head_read r (front zs _ (right (is_name x) _ (back ys _ (back xs _ i)))) (n + 1) (inner_scope c)) refl;
+      (head_read r (front zs _ (second_so (is_name x) _ (back ys _ (back xs _ i)))) (n + 1) (inner_scope c)) refl;
   full = refl;
 }
 external_read (a_definition {m = stars} {xs = xs} {ys = ys} {zs = zs} {ws = ws} {base = base} {ps = ps} {ss = ss} m o k b e x t u r q) i n c =
-    let behind = right (is_name x) _ (back ys _ (back xs _ i)) in
+    let behind = second_so (is_name x) _ (back ys _ (back xs _ i)) in
     both_read
     (relabel_function numbered n (record { node = trees.unnumbered (place xs); result_type = record { base = base; stars = stars }; name = x; parameters = ps; body = Some ss }))
     (relabel_stmts numbered (n + 1 + all_count parameter_count ps) ss) c (head_read r (front zs _ behind) (n + 1) (inner_scope c))
@@ -341,11 +342,11 @@ external_read (some_variables {d = d} r) i n c = let x = outer_read r i n in rec
 
 unit_read : {h : ℕ} {ts : List Terminal} {ds : List DeclTree} → ReadsUnit h ts ds → In ts → (n : ℕ) (c : Context)
     → StatementRead (declarations_sites c (relabel_all numbered decl_count (relabel_decl numbered) n ds)) (lists_are_filled (relabel_all numbered decl_count (relabel_decl numbered) n ds))
-unit_read (a_last_external {d = d} r) i n c = let x = external_read r i n c in record { fine = two (declaration_sites c (relabel_decl numbered n d)) [] x.fine refl; full = both _ _ x.full refl }
+unit_read (a_last_external {d = d} r) i n c = let x = external_read r i n c in record { fine = two (declaration_sites c (relabel_decl numbered n d)) [] x.fine refl; full = and_from _ _ x.full refl }
 unit_read (an_external {xs = xs} {d = d} {ds = ds} r s) i n c =
     let x = external_read r (front xs _ i) n c in
     let y = unit_read s (back xs _ i) _ (after_declaration c (relabel_decl numbered n d)) in
-    record { fine = two (declaration_sites c (relabel_decl numbered n d)) _ x.fine y.fine; full = both _ _ x.full y.full }
+    record { fine = two (declaration_sites c (relabel_decl numbered n d)) _ x.fine y.fine; full = and_from _ _ x.full y.full }
 
 reading_is : (ds : UnitTree) → Reading ds → IsAsRead ds
 reading_is ds r =

@@ -2,6 +2,8 @@
 use Rattle.std.proofs.Common.{◌≡◌, ℕ, suc, ◌+◌, ◌==◌, Bool, true, false, not, ◌||◌, List, [], ◌∷◌, ◌++◌, map, Option, Some, None, is_some, refl, sym, ap, ◌∙◌, subst, arith, if◌then◌else◌}
 use Rattle.std.specs.List.{slice_get}
 use Rattle.std.proofs.lemmas.Bool.{eqb-true}
+use Rattle.std.specs.Cmp.{first_so, second_so}
+use Rattle.std.proofs.lemmas.Option.{same_Some}
 use Rattle.qs_base.specs.Bytes.{same_bytes}
 use Rattle.qs_base.proofs.ByteLaws.{bytes_exact}
 use Rattle.qs_syntax.specs.declared.types.Base.{Base}
@@ -26,7 +28,7 @@ use Rattle.qs_meaning.specs.Names.{Scope, within, function_number}
 use Rattle.qs_meaning.specs.Interfaces.{signature}
 use Rattle.qs_meaning.specs.TypedLaws.{IsFileScope}
 use Rattle.qs_meaning.specs.Units.{parameters_in, function_with, function_typed, file_variables_typed, declaration_typed, declarations_typed, name_with_body, functions_in}
-use Rattle.qs_meaning.proofs.Options.{never, left, right, nothing, same, went, Known}
+use Rattle.qs_meaning.proofs.Options.{never, nothing, went, Known}
 use Rattle.qs_meaning.proofs.FaultlessExpressions.{none_left, none_right, unbroken, first_unbroken}
 use Rattle.qs_meaning.proofs.Bindings.{has_types}
 use Rattle.qs_meaning.proofs.Bodies.{lengths_typed, not_held_back}
@@ -81,7 +83,7 @@ same_types (array t n) char e = never e
 same_types (array t n) void e = never e
 same_types (array t n) (pointer u) e = never e
 same_types (array t n) (array u m) e =
-    ap (λ z. array z n) (same_types t u (right (n == m) _ e)) ∙ ap (array u) (eqb-true n m (left _ _ e))
+    ap (λ z. array z n) (same_types t u (second_so (n == m) _ e)) ∙ ap (array u) (eqb-true n m (first_so _ _ e))
 same_types (array t n) (struct j) e = never e
 same_types (struct k) int e = never e
 same_types (struct k) unsigned e = never e
@@ -92,22 +94,22 @@ same_types (struct k) (array u m) e = never e
 same_types (struct k) (struct j) e = ap struct (eqb-true k j e)
 
 same_lists : (ts : List TypeTree) (us : List (Option TypeTree)) (vs : List TypeTree) → may_all_be ts us ≡ true → all_of us ≡ Some vs → ts ≡ vs
-same_lists [] [] vs e h = same [] vs h
+same_lists [] [] vs e h = same_Some [] vs h
 same_lists [] (u ∷ us) vs e h = never e
 same_lists (t ∷ ts) [] vs e h = never e
 same_lists (t ∷ ts) (None ∷ us) vs e h = nothing vs h
 same_lists (t ∷ ts) (Some u ∷ us) vs e h =
     let w = went (all_of us) (λ ts. Some (u ∷ ts)) vs h in
-    (λ j. same_types t u (left _ _ e) j ∷ same_lists ts us w.value (right (same_type t u) _ e) w.had j) ∙ same _ vs w.gave
+    (λ j. same_types t u (first_so _ _ e) j ∷ same_lists ts us w.value (second_so (same_type t u) _ e) w.had j) ∙ same_Some _ vs w.gave
 
 -- a header that agrees with a signature has it
 pub same_signatures : (r s : Signature) (h : Header) → agree (Some r) h ≡ true → signature_by h ≡ Some s → r ≡ s
 same_signatures r s h e k =
     let us = went (all_of h.parameters) (λ ts. and_then h.result (λ t. Some (record { parameters = ts; result = t }))) s k in
     let t = went h.result (λ t. Some (record { parameters = us.value; result = t })) s us.gave in
-    let result = same_types r.result t.value (subst (λ o. may_be r.result o ≡ true) t.had (left _ _ e)) in
-    let parameters = same_lists r.parameters h.parameters us.value (right (may_be r.result h.result) _ e) us.had in
-    (λ j. record { parameters = parameters j; result = result j }) ∙ same _ s t.gave
+    let result = same_types r.result t.value (subst (λ o. may_be r.result o ≡ true) t.had (first_so _ _ e)) in
+    let parameters = same_lists r.parameters h.parameters us.value (second_so (may_be r.result h.result) _ e) us.had in
+    (λ j. record { parameters = parameters j; result = result j }) ∙ same_Some _ s t.gave
 
 -- ---- names
 
@@ -217,7 +219,7 @@ module _ (s₀ : Scope) (x : List ℕ) (s : Signature) where
       go true e =
           let here = ap (λ z. lookup z c.inner) ((bytes_exact f.name x).0 e) ∙ d.is in
           let may = kept_first (may_declare c f) _ (header_unbroken s₀ c f h faults) in
-          let agrees = left (agree (Some s) (header_of c f)) _ (subst (λ o. agrees_with o (header_of c f) (is_some f.body) ≡ true) here may) in
+          let agrees = first_so (agree (Some s) (header_of c f)) _ (subst (λ o. agrees_with o (header_of c f) (is_some f.body) ≡ true) here may) in
           let signature = header_signature s₀ c f h faults in
           record {
             node = f.node.id;
@@ -292,7 +294,7 @@ module _ (s₀ : Scope) (x : List ℕ) (s : Signature) where
       go (Some (file_variable n t)) e = record { node = _; body = _; is = at (Some (file_variable n t)) e }
       go (Some (contexts.function n q earlier)) e = record { node = _; body = _; is = at (Some (contexts.function n q earlier)) e }
       go (Some (given q)) e =
-          never (sym (ap not body) ∙ right (agree (Some q) (header_of c f)) _ (subst (λ o. agrees_with o (header_of c f) (is_some f.body) ≡ true) e agrees))
+          never (sym (ap not body) ∙ second_so (agree (Some q) (header_of c f)) _ (subst (λ o. agrees_with o (header_of c f) (is_some f.body) ≡ true) e agrees))
 
   same_signature : (n m : ℕ) (r : Signature) (b a : Bool) → Some (contexts.function n (Some r) b) ≡ Some (contexts.function m (Some s) a) → r ≡ s
   same_signature n m r b a e = cc
@@ -310,7 +312,7 @@ module _ (s₀ : Scope) (x : List ℕ) (s : Signature) where
       let own = none_left (declaration_faults c d) (declarations_faults (after_declaration c d) ds) f in
       let faults = none_right (declaration_faults c d) (declarations_faults (after_declaration c d) ds) f in
       let scope = file_after s₀ c d h own in
-      subst (λ z. slice_get (map signature z) (function_number x (functions_in (d ∷ ds))) ≡ Some (scalar_signature s)) (ap (λ (z : TypedProgram). z.functions) (same _ rest later.then))
+      subst (λ z. slice_get (map signature z) (function_number x (functions_in (d ∷ ds))) ≡ Some (scalar_signature s)) (ap (λ (z : TypedProgram). z.functions) (same_Some _ rest later.then))
       (here d now.value own now.first later.value.functions
       (λ g. found ds (after_declaration c d) later.value scope faults later.first n e g)
       (λ r k. let p = persists_as r ds (after_declaration c d) scope faults k in same_signature p.node n r p.body true (sym p.is ∙ e)))
@@ -325,20 +327,20 @@ module _ (s₀ : Scope) (x : List ℕ) (s : Signature) where
           → (entity_has_body (lookup x (after_declaration c d).inner) ≡ false → Found fs ds)
           → ((r : Signature) → Declared (after_declaration c d) x r → r ≡ s)
           → slice_get (map signature (now.functions ++ fs)) (function_number x (functions_in (d ∷ ds))) ≡ Some (scalar_signature s)
-      here (structure t) now own q fs go ends = none_here now fs (ap (λ (z : TypedProgram). z.functions) (sym (same _ now q))) (go (ap (λ z. entity_has_body (lookup x z)) (struct_inner c t) ∙ b))
-      here (forward g) now own q fs go ends = none_here now fs (ap (λ (z : TypedProgram). z.functions) (sym (same _ now q))) (go (ap (λ z. entity_has_body (lookup x z)) (tag_inner c g.name) ∙ b))
+      here (structure t) now own q fs go ends = none_here now fs (ap (λ (z : TypedProgram). z.functions) (sym (same_Some _ now q))) (go (ap (λ z. entity_has_body (lookup x z)) (struct_inner c t) ∙ b))
+      here (forward g) now own q fs go ends = none_here now fs (ap (λ (z : TypedProgram). z.functions) (sym (same_Some _ now q))) (go (ap (λ z. entity_has_body (lookup x z)) (tag_inner c g.name) ∙ b))
       here (variables d) now own q fs go ends =
           let bs = followed (file_variables_typed (within s₀ c) d.base d.variables) _ now q in
-          none_here now fs (ap (λ (z : TypedProgram). z.functions) (sym (same _ now bs.then))) (go (variables_no_body d.variables c d.base b))
+          none_here now fs (ap (λ (z : TypedProgram). z.functions) (sym (same_Some _ now bs.then))) (go (variables_no_body d.variables c d.base b))
       here (function f) now own q fs go ends =
           let gs = followed (function_typed (within s₀ c) f f.body) _ now q in
           subst (λ z. slice_get (map signature (z ++ fs)) (function_number x (name_with_body f.name f.body ++ functions_in ds)) ≡ Some (scalar_signature s))
-          (ap (λ (z : TypedProgram). z.functions) (same _ now gs.then)) (by_body f.body refl gs.value gs.first)
+          (ap (λ (z : TypedProgram). z.functions) (same_Some _ now gs.then)) (by_body f.body refl gs.value gs.first)
         where
           by_body : (o : Option Stmts) → f.body ≡ o → (gs : List Function) → function_typed (within s₀ c) f f.body ≡ Some gs
               → slice_get (map signature (gs ++ fs)) (function_number x (name_with_body f.name f.body ++ functions_in ds)) ≡ Some (scalar_signature s)
           by_body None e gs q =
-              let none = same [] gs (sym (ap (function_typed (within s₀ c) f) e) ∙ q) in
+              let none = same_Some [] gs (sym (ap (function_typed (within s₀ c) f) e) ∙ q) in
               subst (λ z. slice_get (map signature (z ++ fs)) (function_number x (name_with_body f.name f.body ++ functions_in ds)) ≡ Some (scalar_signature s)) none
               (subst (λ o. slice_get (map signature fs) (function_number x (name_with_body f.name o ++ functions_in ds)) ≡ Some (scalar_signature s)) (sym e)
               (go (header_no_body c f e b)))
@@ -347,7 +349,7 @@ module _ (s₀ : Scope) (x : List ℕ) (s : Signature) where
               (sym (ap (function_typed (within s₀ c) f) e) ∙ q) in
               let m = made (within s₀ c) f body g.value g.first in
               let sig = header_signature s₀ c f h own in
-              subst (λ z. slice_get (map signature (z ++ fs)) (function_number x (name_with_body f.name f.body ++ functions_in ds)) ≡ Some (scalar_signature s)) (same _ gs g.then)
+              subst (λ z. slice_get (map signature (z ++ fs)) (function_number x (name_with_body f.name f.body ++ functions_in ds)) ≡ Some (scalar_signature s)) (same_Some _ gs g.then)
               (subst (λ o. slice_get (signature g.value ∷ map signature fs) (function_number x (name_with_body f.name o ++ functions_in ds)) ≡ Some (scalar_signature s)) (sym e)
               (by_name (same_bytes f.name x) refl g.value sig.value (signature_there (within s₀ c) f body g.value m sig.value sig.is) sig.is (ap is_some e)))
             where

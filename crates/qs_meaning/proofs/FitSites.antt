@@ -1,8 +1,9 @@
 -- The expressions of a unit that is read and within the limits: constants, texts and called functions are known.
 use Rattle.std.proofs.Common.{◌≡◌, ℕ, ◌+◌, nat_lt, nat_le, ◌==◌, Bool, true, false, ◌&&◌, ◌||◌, List, [], ◌∷◌, ◌++◌, length, map, flat_map, Some, None, refl, arith, if◌then◌else◌}
 use Rattle.std.specs.List.{list_all}
-use Rattle.std.proofs.lemmas.Bool.{eq-eqb}
+use Rattle.std.proofs.lemmas.Bool.{eq-eqb, and_from, or_left, or_right}
 use Rattle.std.proofs.lemmas.Bool.Decides.{nat_tests}
+use Rattle.std.specs.Cmp.{first_so, second_so}
 use Rattle.qs_base.specs.Bytes.{same_bytes}
 use Rattle.qs_base.proofs.ByteLaws.{bytes_exact}
 use Rattle.qs_syntax.specs.Trees.{UnitTree}
@@ -14,18 +15,9 @@ use Rattle.qs_types.specs.References.{TextBlock, expr_calls, expr_texts, site_te
 use Rattle.qs_types.specs.Sites.{Site, unit_sites}
 use Rattle.qs_types.specs.UnitRules.{is_name_in}
 use Rattle.qs_meaning.specs.FitLaws.{literals_fit, unit_literals_fit}
-use Rattle.qs_meaning.proofs.Options.{never, left, right, all_left, all_right}
-use Rattle.qs_meaning.proofs.FitConversions.{both}
+use Rattle.qs_meaning.proofs.Options.{never, all_left, all_right}
 use Rattle.qs_meaning.proofs.FitLeaves.{is_sure, sure_by, is_short}
 use Rattle.qs_meaning.proofs.FitInitialisers.{site_sure}
-
-or_left : (x y : Bool) → x ≡ true → (x || y) ≡ true
-or_left true y e = refl
-or_left false y e = never e
-
-or_right : (x y : Bool) → y ≡ true → (x || y) ≡ true
-or_right true y e = refl
-or_right false y e = e
 
 -- ---- texts are short, since data are within the limit
 
@@ -42,11 +34,11 @@ blocks_within limit end (b ∷ bs) e = go (nat_lt limit (block_end end b)) refl 
     go : (c : Bool) → nat_lt limit (block_end end b) ≡ c → (block_past limit (block_end end b) bs ≡ None → list_all (λ (b : Block). nat_le b.size limit) bs ≡ true)
         → (if c then Some b.node else block_past limit (block_end end b) bs) ≡ None → (nat_le b.size limit && list_all (λ (b : Block). nat_le b.size limit) bs) ≡ true
     go true h later e = never (no b.node e)
-    go false h later e = both _ _ (at_most (rounded_up end word_size) b.size h) (later e)
+    go false h later e = and_from _ _ (at_most (rounded_up end word_size) b.size h) (later e)
 
 short_texts : (ts : List TextBlock) → list_all (λ (b : Block). nat_le b.size global_limit) (map text_block ts) ≡ true → list_all is_short ts ≡ true
 short_texts [] e = refl
-short_texts (t ∷ ts) e = both _ _ (left _ _ e) (short_texts ts (right (nat_le (length t.bytes + 1) global_limit) _ e))
+short_texts (t ∷ ts) e = and_from _ _ (first_so _ _ e) (short_texts ts (second_so (nat_le (length t.bytes + 1) global_limit) _ e))
 
 pub literals_short : (unit : UnitTree) → first_past_globals global_limit unit ≡ None → list_all is_short (literal_blocks unit) ≡ true
 literals_short unit e =
@@ -86,14 +78,14 @@ name_back x (y ∷ xs) ys e = or_right (same_bytes x y) _ (name_back x xs ys e)
 calls_known : (xs all : List (List ℕ)) → ((x : List ℕ) → is_name_in x xs ≡ true → is_name_in x all ≡ true) → list_all (λ x. is_name_in x all) xs ≡ true
 calls_known [] all h = refl
 calls_known (x ∷ xs) all h =
-    both _ _ (h x (or_left (same_bytes x x) _ ((bytes_exact x x).1 refl))) (calls_known xs all (λ y e. h y (or_right (same_bytes y x) _ e)))
+    and_from _ _ (h x (or_left (same_bytes x x) _ ((bytes_exact x x).1 refl))) (calls_known xs all (λ y e. h y (or_right (same_bytes y x) _ e)))
 
 texts_known : (ts : List TextBlock) (texts : List ℕ) → list_all is_short ts ≡ true → ((n : ℕ) → is_one_of n (nodes_of ts) ≡ true → is_one_of n texts ≡ true)
     → list_all (λ (t : TextBlock). is_one_of t.node texts && is_short t) ts ≡ true
 texts_known [] texts s h = refl
 texts_known (t ∷ ts) texts s h =
-    both _ _ (both _ _ (h t.node (or_left (t.node == t.node) _ (eq-eqb t.node t.node refl))) (left _ _ s))
-    (texts_known ts texts (right (is_short t) _ s) (λ n e. h n (or_right (t.node == n) _ e)))
+    and_from _ _ (and_from _ _ (h t.node (or_left (t.node == t.node) _ (eq-eqb t.node t.node refl))) (first_so _ _ s))
+    (texts_known ts texts (second_so (is_short t) _ s) (λ n e. h n (or_right (t.node == n) _ e)))
 
 -- ---- the expressions of a unit
 
@@ -109,8 +101,8 @@ sites_sure : (ss : List Site) (names : List (List ℕ)) (texts : List ℕ) → l
     → list_all (site_sure (calls_in names) (text_in texts)) ss ≡ true
 sites_sure [] names texts w c s t = refl
 sites_sure (x ∷ xs) names texts w c s t =
-    both _ _ (go x.fills_array (all_left is_short (site_texts x) (flat_map site_texts xs) s) (λ n e. t n (one_front n (site_texts x) (flat_map site_texts xs) e)))
-    (sites_sure xs names texts (right (literals_fit x.expression) _ w)
+    and_from _ _ (go x.fills_array (all_left is_short (site_texts x) (flat_map site_texts xs) s) (λ n e. t n (one_front n (site_texts x) (flat_map site_texts xs) e)))
+    (sites_sure xs names texts (second_so (literals_fit x.expression) _ w)
     (λ y e. c y (name_back y (expr_calls x.expression) (flat_map (λ (s : Site). expr_calls s.expression) xs) e)) (all_right is_short (site_texts x) (flat_map site_texts xs) s)
     (λ n e. t n (one_back n (site_texts x) (flat_map site_texts xs) e)))
   where
@@ -119,7 +111,7 @@ sites_sure (x ∷ xs) names texts w c s t =
         → (b || is_sure (calls_in names) (text_in texts) x.expression) ≡ true
     go true s t = refl
     go false s t =
-        sure_by (calls_in names) (text_in texts) x.expression (left _ _ w)
+        sure_by (calls_in names) (text_in texts) x.expression (first_so _ _ w)
         (calls_known (expr_calls x.expression) names (λ y e. c y (name_front y (expr_calls x.expression) (flat_map (λ (s : Site). expr_calls s.expression) xs) e)))
         (texts_known (expr_texts x.expression) texts s t)
 

@@ -1,5 +1,8 @@
 -- The types of expressions are small, where those of names, members and texts are.
-use Rattle.std.proofs.Common.{◌≡◌, ◌≤◌, ℕ, zero, suc, ◌+◌, ◌*◌, nat_le, Bool, true, false, ◌&&◌, ◌||◌, List, [], length, Option, Some, None, is_some, refl, sym, subst, arith, if◌then◌else◌}
+use Rattle.std.proofs.Common.{◌≡◌, ◌≤◌, ℕ, zero, suc, ◌+◌, ◌*◌, nat_le, Bool, true, false, ◌&&◌, ◌||◌, List, [], length, Option, Some, None, is_some, refl, sym, subst, arith, if◌then◌else◌, le-leb}
+use Rattle.std.proofs.lemmas.Bool.{and_from}
+use Rattle.std.specs.Cmp.{first_so, second_so}
+use Rattle.std.proofs.lemmas.Option.{same_Some}
 use Rattle.qs_syntax.specs.declared.types.Base.{Base}
 use Rattle.qs_syntax.specs.declared.types.Base.TheVariants as bases
 use Rattle.qs_syntax_vocabulary.specs.declared.operators.UnaryOperator.{UnaryOperator}
@@ -24,10 +27,9 @@ use Rattle.qs_types.specs.Expressions.{Judged, judged, unary_judged, step_judged
 use Rattle.qs_types.specs.References.{TextBlock}
 use Rattle.qs_meaning.specs.Typed.{Function}
 use Rattle.qs_meaning.specs.Names.{Scope}
-use Rattle.qs_meaning.proofs.Options.{never, left, right, nothing, same, went}
+use Rattle.qs_meaning.proofs.Options.{never, nothing, went}
 use Rattle.qs_meaning.proofs.TypedExpressions.{unless}
-use Rattle.qs_meaning.proofs.FitConversions.{both}
-use Rattle.qs_meaning.proofs.FitTypes.{is_small, SmallTable, small_referenced, small_decayed, member_small, is_least}
+use Rattle.qs_meaning.proofs.FitTypes.{is_small, SmallTable, small_referenced, small_decayed, member_small}
 use Rattle.qs_meaning.proofs.FitLeaves.{is_sure, shape_sure, is_short, places, EntityFits}
 
 -- ---- named types
@@ -37,13 +39,13 @@ pointers_small structs zero t h = h
 pointers_small structs (suc stars) t h = pointers_small structs stars t h
 
 base_small : (c : Context) (base : Base) (t : TypeTree) → base_type c base ≡ Some t → is_small c.structs t ≡ true
-base_small c bases.Void t e = subst (λ z. is_small c.structs z ≡ true) (same _ t e) refl
-base_small c bases.Int t e = subst (λ z. is_small c.structs z ≡ true) (same _ t e) refl
-base_small c bases.Unsigned t e = subst (λ z. is_small c.structs z ≡ true) (same _ t e) refl
-base_small c bases.Char t e = subst (λ z. is_small c.structs z ≡ true) (same _ t e) refl
+base_small c bases.Void t e = subst (λ z. is_small c.structs z ≡ true) (same_Some _ t e) refl
+base_small c bases.Int t e = subst (λ z. is_small c.structs z ≡ true) (same_Some _ t e) refl
+base_small c bases.Unsigned t e = subst (λ z. is_small c.structs z ≡ true) (same_Some _ t e) refl
+base_small c bases.Char t e = subst (λ z. is_small c.structs z ≡ true) (same_Some _ t e) refl
 base_small c (bases.Struct tag) t e =
     let w = went (tag_place c tag) (λ k. Some (struct k)) t e in
-    subst (λ z. is_small c.structs z ≡ true) (same _ t w.gave) refl
+    subst (λ z. is_small c.structs z ≡ true) (same_Some _ t w.gave) refl
 
 pub starred_small : (c : Context) (base : Base) (stars : ℕ) → is_small c.structs (type_or_void (starred_type c base stars)) ≡ true
 starred_small c base stars = go (base_type c base) refl
@@ -123,7 +125,7 @@ module _ (structs : Structs) where
 
   -- a text that is short is a small array
   pub chars_small : (n : ℕ) → nat_le n size_limit ≡ true → 1 ≤ n → is_small structs (array char n) ≡ true
-  chars_small n h k = both _ _ (both _ _ (is_least 1 n k) (sized (nat_le (1 * n) size_limit) (times n h))) refl
+  chars_small n h k = and_from _ _ (and_from _ _ (le-leb 1 n k) (sized (nat_le (1 * n) size_limit) (times n h))) refl
     where
       times : (n : ℕ) → nat_le n size_limit ≡ true → nat_le (1 * n) size_limit ≡ true
       times n h = let e : 1 * n ≡ n = omega arith in subst (λ z. nat_le z size_limit ≡ true) (sym e) h
@@ -145,7 +147,7 @@ module _ (i : Interface) (g : Function) (called : List ℕ → Bool) (there : Te
   Small t = is_small c.structs t ≡ true
 
   small_at : (k j : Judged) → Some k ≡ Some j → Small k.type → Small j.type
-  small_at k j e h = subst (λ (z : Judged). Small z.type) (same k j e) h
+  small_at k j e h = subst (λ (z : Judged). Small z.type) (same_Some k j e) h
 
   name_small : (x : List ℕ) (o : Option Entity) (j : Judged) → ((e : Entity) → o ≡ Some e → EntityFits i g called (places s) c.structs x e) → name_judged o ≡ Some j → Small j.type
   name_small x None j fit e = small_at _ j e refl
@@ -183,8 +185,8 @@ module _ (i : Interface) (g : Function) (called : List ℕ → Bool) (there : Te
         let x = went (type_of c a) (λ t. and_then (type_of c b) (λ u. Some (subscript_judged c.structs (decayed t) (decayed u)))) j e in
         let y = went (type_of c b) (λ u. Some (subscript_judged c.structs (decayed x.value) (decayed u))) j x.gave in
         small_at _ j y.gave (small_referenced c.structs (sum_type (decayed x.value) (decayed y.value)) (common_small c.structs (decayed x.value) (decayed y.value)
-        (small_decayed c.structs x.value (type_small a x.value (left _ _ sure) x.had))
-        (small_decayed c.structs y.value (type_small b y.value (right (is_sure called there a) _ sure) y.had))))
+        (small_decayed c.structs x.value (type_small a x.value (first_so _ _ sure) x.had))
+        (small_decayed c.structs y.value (type_small b y.value (second_so (is_sure called there a) _ sure) y.had))))
     shape_small (trees.call f es) id j sure e =
         let w = went (types_of c es) (λ us. call_judged (entity_of c f) es us) j e in
         call_small f (entity_of c f) es w.value j (place.entities f) w.gave
@@ -208,21 +210,21 @@ module _ (i : Interface) (g : Function) (called : List ℕ → Bool) (there : Te
         let x = went (type_of c a) (λ t. and_then (type_of c b) (λ u. Some (binary_judged c.structs operator a (decayed t) b (decayed u)))) j e in
         let y = went (type_of c b) (λ u. Some (binary_judged c.structs operator a (decayed x.value) b (decayed u))) j x.gave in
         small_at _ j y.gave (binary_small c.structs operator a b (decayed x.value) (decayed y.value)
-        (small_decayed c.structs x.value (type_small a x.value (left _ _ sure) x.had))
-        (small_decayed c.structs y.value (type_small b y.value (right (is_sure called there a) _ sure) y.had)))
+        (small_decayed c.structs x.value (type_small a x.value (first_so _ _ sure) x.had))
+        (small_decayed c.structs y.value (type_small b y.value (second_so (is_sure called there a) _ sure) y.had)))
     shape_small (trees.conditional d a b) id j sure e =
         let z = went (type_of c d) (λ r. and_then (type_of c a) (λ t. and_then (type_of c b) (λ u. Some (conditional_judged (decayed r) a (decayed t) b (decayed u))))) j e in
         let x = went (type_of c a) (λ t. and_then (type_of c b) (λ u. Some (conditional_judged (decayed z.value) a (decayed t) b (decayed u)))) j z.gave in
         let y = went (type_of c b) (λ u. Some (conditional_judged (decayed z.value) a (decayed x.value) b (decayed u))) j x.gave in
-        let rest = right (is_sure called there d) _ sure in
+        let rest = second_so (is_sure called there d) _ sure in
         small_at _ j y.gave (common_small c.structs (decayed x.value) (decayed y.value)
-        (small_decayed c.structs x.value (type_small a x.value (left _ _ rest) x.had))
-        (small_decayed c.structs y.value (type_small b y.value (right (is_sure called there a) _ rest) y.had)))
+        (small_decayed c.structs x.value (type_small a x.value (first_so _ _ rest) x.had))
+        (small_decayed c.structs y.value (type_small b y.value (second_so (is_sure called there a) _ rest) y.had)))
     shape_small (trees.assign operator a b) id j sure e =
         let x = went (type_of c a) (λ t. and_then (type_of c b) (λ u. Some (assign_judged c.structs operator a t b u))) j e in
         let y = went (type_of c b) (λ u. Some (assign_judged c.structs operator a x.value b u)) j x.gave in
-        small_at _ j y.gave (assign_small c.structs operator a b x.value y.value (type_small a x.value (left _ _ sure) x.had))
+        small_at _ j y.gave (assign_small c.structs operator a b x.value y.value (type_small a x.value (first_so _ _ sure) x.had))
     shape_small (trees.comma a b) id j sure e =
         let x = went (type_of c a) (λ t. and_then (type_of c b) (λ u. Some (judged [] (decayed u)))) j e in
         let y = went (type_of c b) (λ u. Some (judged [] (decayed u))) j x.gave in
-        small_at _ j y.gave (small_decayed c.structs y.value (type_small b y.value (right (is_sure called there a) _ sure) y.had))
+        small_at _ j y.gave (small_decayed c.structs y.value (type_small b y.value (second_so (is_sure called there a) _ sure) y.had))

@@ -1,6 +1,9 @@
 -- The typed tree of a statement fits.
 use Rattle.std.proofs.Common.{◌≡◌, ℕ, Bool, true, false, not, ◌&&◌, List, [], ◌∷◌, ◌++◌, Option, Some, None, is_some, refl, sym, ap, ◌∙◌, subst, if◌then◌else◌}
 use Rattle.std.specs.List.{list_all}
+use Rattle.std.proofs.lemmas.Bool.{and_from}
+use Rattle.std.specs.Cmp.{first_so, second_so}
+use Rattle.std.proofs.lemmas.Option.{same_Some}
 use Rattle.qs_syntax.specs.declared.nodes.Node.{Node}
 use Rattle.qs_syntax.specs.declared.types.Base.{Base}
 use Rattle.qs_syntax.specs.Trees.{ExprTree, InitialiserTree, VariableTree, StartTree, no_start, start_expression, start_declaration, StmtTree, empty, expression, declaration, block, branch, while_loop, do_loop, for_loop, break, continue, return, Stmts, no_stmts, stmt_and, Else, no_else, else_by}
@@ -31,11 +34,10 @@ use Rattle.qs_meaning.specs.Units.{result_scalar}
 use Rattle.qs_meaning.specs.Statements.{initialised, variable_typed, variables_typed, effect_typed, option_effect, condition_typed, option_condition, start_typed, return_typed, statement_typed, statements_typed, else_typed}
 use Rattle.qs_meaning.specs.Fits.{is_null, expr_fits, lvalue_fits, effect_fits, object_there, returned_fits, option_fits, stmt_fits, stmts_fit}
 use Rattle.qs_meaning.specs.FitLaws.{is_filled, variables_filled, start_filled, statement_filled, statements_filled, else_filled}
-use Rattle.qs_meaning.proofs.Options.{never, left, right, same, all_left, all_right}
+use Rattle.qs_meaning.proofs.Options.{never, all_left, all_right}
 use Rattle.qs_meaning.proofs.FaultlessExpressions.{HasTypes, none_left, none_right, unbroken, second_unbroken, type_of_known}
 use Rattle.qs_meaning.proofs.TypedExpressions.{kept}
 use Rattle.qs_meaning.proofs.Bodies.{not_held_back}
-use Rattle.qs_meaning.proofs.FitConversions.{both}
 use Rattle.qs_meaning.proofs.FitForms.{FormFits, result_of, scalar_solid, in_use, effect_there, becomes_there, null_value, assignable}
 use Rattle.qs_meaning.proofs.FitTypes.{is_small, SmallTable}
 use Rattle.qs_meaning.proofs.FitLeaves.{is_sure, is_short, places, EntityFits, AllFit, entity_found, names_typed}
@@ -116,7 +118,7 @@ module _ (i : Interface) (g : Function) (called : List ℕ → Bool) (there : Te
   initialised_there : (b : Bool) (c : Context) → InBody b c → (node : ℕ) (t : TypeTree) → LocalIs node t → SizedType c.structs t → (init : Option InitialiserTree) (set : Effect)
       → breaks_one (initialiser_tests false c (Some t) init) ≡ false → option_initialiser_faults false c (Some t) init ≡ []
       → are_sure (option_initialiser_sites false c (Some t) init) ≡ true → initialised (within s₀ c) node t init ≡ Some set → effect_fits i g set ≡ true
-  initialised_there b c h node t l d None set tests faults sure q = subst (λ z. effect_fits i g z ≡ true) (same _ set q) refl
+  initialised_there b c h node t l d None set tests faults sure q = subst (λ z. effect_fits i g z ≡ true) (same_Some _ set q) refl
   initialised_there b c h node t l d (Some init) set tests faults sure q =
       local_there i g called there (within s₀ c) (place_of b c h) (types_of b c h) short blocks t d.size (local_lvalue s₀.locals node) init set l.fits
       (subst (λ z. LocalPlace z g t (local_lvalue s₀.locals node)) (sym h.same_structs) l.place) d.small d.is
@@ -142,7 +144,7 @@ module _ (i : Interface) (g : Function) (called : List ℕ → Bool) (there : Te
   variables_there : (vs : List VariableTree) (b : Bool) (c : Context) (base : Base) (set : Effect) → InBody b c → variables_faults false c base vs ≡ []
       → are_sure (variables_sites false c base vs) ≡ true → LocalsAre (variables_locals c base vs) → variables_filled vs ≡ true
       → variables_typed (within s₀ c) base vs ≡ Some set → Behind b (after_variables false c base vs) set
-  variables_there [] b c base set h faults sure locals filled q = record { fits = subst (λ z. effect_fits i g z ≡ true) (same _ set q) refl; body = h }
+  variables_there [] b c base set h faults sure locals filled q = record { fits = subst (λ z. effect_fits i g z ≡ true) (same_Some _ set q) refl; body = h }
   variables_there (v ∷ vs) b c base set h faults sure locals filled q =
       let after = after_variable false c base v in
       let now = followed (variable_typed (within s₀ c) base v) _ set q in
@@ -160,13 +162,13 @@ module _ (i : Interface) (g : Function) (called : List ℕ → Bool) (there : Te
       let own_tests = second_unbroken (variable_declared c base v).tests (initialiser_tests false after (variable_declared c base v).type v.initialiser) later_tests in
       let here = sure_left (variable_sites false c after base v) (variables_sites false after base vs) sure in
       let own_sure = sure_right (declarator_sites c v.declarator) (option_initialiser_sites false after (variable_declared c base v).type v.initialiser) here in
-      let d = variable_small c base v t.value (left _ _ filled) t.first in
+      let d = variable_small c base v t.value (first_so _ _ filled) t.first in
       let l = locals.0 t.value t.first in
       let body = variable_body b c h base v t.value t.first l (subst (λ z. is_small z t.value ≡ true) h.same_structs d.small) in
       let rest = variables_there vs b after base later.value body (none_right (variable_faults false c after base v) (variables_faults false after base vs) faults)
-      (sure_right (variable_sites false c after base v) (variables_sites false after base vs) sure) locals.1 (right (is_filled v.initialiser) _ filled) later.first in
+      (sure_right (variable_sites false c after base v) (variables_sites false after base vs) sure) locals.1 (second_so (is_filled v.initialiser) _ filled) later.first in
       record {
-        fits = subst (λ z. effect_fits i g z ≡ true) (same _ set later.then) (both _ _
+        fits = subst (λ z. effect_fits i g z ≡ true) (same_Some _ set later.then) (and_from _ _
             (initialised_there b after body v.declarator.node.id t.value l d v.initialiser now.value
             (subst (λ o. breaks_one (initialiser_tests false after o v.initialiser) ≡ false) t.first own_tests)
             (subst (λ o. option_initialiser_faults false after o v.initialiser ≡ []) t.first initialiser)
@@ -179,11 +181,11 @@ module _ (i : Interface) (g : Function) (called : List ℕ → Bool) (there : Te
   effect_fits_there : (b : Bool) (c : Context) → InBody b c → (e : ExprTree) (set : Effect) → are_sure (site c e) ≡ true → effect_typed (within s₀ c) e ≡ Some set → effect_fits i g set ≡ true
   effect_fits_there b c h e set sure q =
       let a = followed (typed (within s₀ c) e) _ set q in
-      subst (λ z. effect_fits i g z ≡ true) (same _ set a.then) (effect_there i g a.value.type a.value.form (form_there b c h e a.value (left _ _ sure) a.first))
+      subst (λ z. effect_fits i g z ≡ true) (same_Some _ set a.then) (effect_there i g a.value.type a.value.form (form_there b c h e a.value (first_so _ _ sure) a.first))
 
   option_effect_there : (b : Bool) (c : Context) → InBody b c → (e : Option ExprTree) (set : Effect) → are_sure (option_sites c e) ≡ true → option_effect (within s₀ c) e ≡ Some set
       → effect_fits i g set ≡ true
-  option_effect_there b c h None set sure q = subst (λ z. effect_fits i g z ≡ true) (same _ set q) refl
+  option_effect_there b c h None set sure q = subst (λ z. effect_fits i g z ≡ true) (same_Some _ set q) refl
   option_effect_there b c h (Some e) set sure q = effect_fits_there b c h e set sure q
 
   condition_there : (b : Bool) (c : Context) → InBody b c → (e : ExprTree) (x : Expr) → breaks_one (condition_tests (type_of c e)) ≡ false → are_sure (site c e) ≡ true
@@ -191,33 +193,33 @@ module _ (i : Interface) (g : Function) (called : List ℕ → Bool) (there : Te
   condition_there b c h e x tests sure q =
       let a = followed (typed (within s₀ c) e) _ x q in
       let kind = kept _ (subst (λ o. breaks_one (condition_tests o) ≡ false) (typed_type (within s₀ c) e a.value a.first) tests) in
-      subst (λ z. expr_fits i g z ≡ true) (same _ x a.then)
-      (in_use i g a.value (form_there b c h e a.value (left _ _ sure) a.first) (scalar_solid (type_in_use a.value) kind)).fits
+      subst (λ z. expr_fits i g z ≡ true) (same_Some _ x a.then)
+      (in_use i g a.value (form_there b c h e a.value (first_so _ _ sure) a.first) (scalar_solid (type_in_use a.value) kind)).fits
 
   option_condition_there : (b : Bool) (c : Context) → InBody b c → (e : Option ExprTree) (x : Option Expr) → breaks_one (option_condition_tests c e) ≡ false
       → are_sure (option_sites c e) ≡ true → option_condition (within s₀ c) e ≡ Some x → option_fits i g x ≡ true
-  option_condition_there b c h None x tests sure q = subst (λ z. option_fits i g z ≡ true) (same _ x q) refl
+  option_condition_there b c h None x tests sure q = subst (λ z. option_fits i g z ≡ true) (same_Some _ x q) refl
   option_condition_there b c h (Some e) x tests sure q =
       let y = followed (condition_typed (within s₀ c) e) _ x q in
-      subst (λ z. option_fits i g z ≡ true) (same _ x y.then) (condition_there b c h e y.value tests sure y.first)
+      subst (λ z. option_fits i g z ≡ true) (same_Some _ x y.then) (condition_there b c h e y.value tests sure y.first)
 
   condition_kept : (c : Context) (node : Node) (e : ExprTree) → condition_faults c node e ≡ [] → breaks_one (condition_tests (type_of c e)) ≡ false
   condition_kept c node e f = unbroken node.id (condition_tests (type_of c e)) (none_left (faults_of node.id (condition_tests (type_of c e))) _ f)
 
   return_there : (b : Bool) (c : Context) → InBody b c → (node : Node) (e : Option ExprTree) (a : Stmt) → faults_of node.id (return_tests c c.result e) ≡ []
       → are_sure (option_sites c e) ≡ true → return_typed (within s₀ c) e ≡ Some a → stmt_fits i g b a ≡ true
-  return_there b c h node None a f sure q = subst (λ z. stmt_fits i g b z ≡ true) (same _ a q) refl
+  return_there b c h node None a f sure q = subst (λ z. stmt_fits i g b z ≡ true) (same_Some _ a q) refl
   return_there b c h node (Some e) a f sure q =
       let t = followed c.result _ a q in
       let x = followed (typed (within s₀ c) e) _ a t.then in
       let tests = subst (λ o. breaks_one (returns t.value e o) ≡ false) (typed_type (within s₀ c) e x.value x.first)
       (subst (λ o. breaks_one (return_tests c o (Some e)) ≡ false) t.first (unbroken node.id (return_tests c c.result (Some e)) f)) in
-      let solid = not_void (is_void t.value) (left _ _ (kept _ tests)) in
-      let may = assignable t.value e (type_in_use x.value) (is_null (value_in_use x.value)) (null_value (within s₀ c) e x.value x.first) (right (not (is_void t.value)) _ (kept _ tests)) in
-      let v = in_use i g x.value (form_there b c h e x.value (left _ _ sure) x.first) may.solid in
-      subst (λ z. stmt_fits i g b z ≡ true) (same _ a x.then)
+      let solid = not_void (is_void t.value) (first_so _ _ (kept _ tests)) in
+      let may = assignable t.value e (type_in_use x.value) (is_null (value_in_use x.value)) (null_value (within s₀ c) e x.value x.first) (second_so (not (is_void t.value)) _ (kept _ tests)) in
+      let v = in_use i g x.value (form_there b c h e x.value (first_so _ _ sure) x.first) may.solid in
+      subst (λ z. stmt_fits i g b z ≡ true) (same_Some _ a x.then)
       (subst (λ o. returned_fits i g (conversion (type_in_use x.value) t.value) (value_in_use x.value) o ≡ true) (sym (h.result t.value t.first ∙ result_of t.value solid))
-      (both _ _ v.fits (becomes_there i g (value_in_use x.value) (type_in_use x.value) t.value v may.converts)))
+      (and_from _ _ v.fits (becomes_there i g (value_in_use x.value) (type_in_use x.value) t.value v may.converts)))
     where
       not_void : (b : Bool) → not b ≡ true → b ≡ false
       not_void true e = never e
@@ -227,7 +229,7 @@ module _ (i : Interface) (g : Function) (called : List ℕ → Bool) (there : Te
 
   start_there : (b : Bool) (c : Context) → InBody b c → (start : StartTree) (set : Effect) → start_faults c start ≡ [] → are_sure (start_sites c start) ≡ true
       → LocalsAre (start_locals c start) → start_filled start ≡ true → start_typed (within s₀ c) start ≡ Some set → Behind b (after_start c start) set
-  start_there b c h no_start set f sure locals filled q = record { fits = subst (λ z. effect_fits i g z ≡ true) (same _ set q) refl; body = h }
+  start_there b c h no_start set f sure locals filled q = record { fits = subst (λ z. effect_fits i g z ≡ true) (same_Some _ set q) refl; body = h }
   start_there b c h (start_expression e) set f sure locals filled q = record { fits = effect_fits_there b c h e set sure q; body = h }
   start_there b c h (start_declaration d) set f sure locals filled q = variables_there d.variables b c d.base set h f sure locals filled q
 
@@ -267,7 +269,7 @@ module _ (i : Interface) (g : Function) (called : List ℕ → Bool) (there : Te
   after_body (return node e) b c a h f sure locals filled q = h
 
   stmt_is : (b : Bool) (x a : Stmt) → Some x ≡ Some a → stmt_fits i g b x ≡ true → stmt_fits i g b a ≡ true
-  stmt_is b x a e h = subst (λ z. stmt_fits i g b z ≡ true) (same x a e) h
+  stmt_is b x a e h = subst (λ z. stmt_fits i g b z ≡ true) (same_Some x a e) h
 
   mutual
     pub statement_there : (t : StmtTree) (b : Bool) (c : Context) (a : Stmt) → InBody b c → statement_faults c t ≡ [] → are_sure (statement_sites c t) ≡ true
@@ -287,24 +289,24 @@ module _ (i : Interface) (g : Function) (called : List ℕ → Bool) (there : Te
         let z = followed (else_typed (within s₀ c) r) _ a y.then in
         let parts = none_right (condition_faults c node e) _ f in
         let rest = sure_right (site c e) (statement_sites (inner_scope c) t ++ else_sites c r) sure in
-        stmt_is b _ a z.then (both _ _
+        stmt_is b _ a z.then (and_from _ _
         (condition_there b c h e x.value (condition_kept c node e (none_left _ _ f)) (sure_left (site c e) (statement_sites (inner_scope c) t ++ else_sites c r) sure) x.first)
-        (both _ _ (statement_there t b (inner_scope c) y.value (inner_body b c h) (none_left _ _ parts) (sure_left (statement_sites (inner_scope c) t) (else_sites c r) rest)
-        (locals_left (statement_locals (inner_scope c) t) (else_locals c r) locals) (left _ _ filled) y.first)
+        (and_from _ _ (statement_there t b (inner_scope c) y.value (inner_body b c h) (none_left _ _ parts) (sure_left (statement_sites (inner_scope c) t) (else_sites c r) rest)
+        (locals_left (statement_locals (inner_scope c) t) (else_locals c r) locals) (first_so _ _ filled) y.first)
         (else_there r b c z.value h (none_right (statement_faults (inner_scope c) t) _ parts) (sure_right (statement_sites (inner_scope c) t) (else_sites c r) rest)
-        (locals_right (statement_locals (inner_scope c) t) (else_locals c r) locals) (right (statement_filled t) _ filled) z.first)))
+        (locals_right (statement_locals (inner_scope c) t) (else_locals c r) locals) (second_so (statement_filled t) _ filled) z.first)))
     statement_there (while_loop node e t) b c a h f sure locals filled q =
         let inside = inside_loop (inner_scope c) in
         let x = followed (condition_typed (within s₀ c) e) _ a q in
         let y = followed (statement_typed (within s₀ inside) t) _ a x.then in
-        stmt_is b _ a y.then (both _ _
+        stmt_is b _ a y.then (and_from _ _
         (condition_there b c h e x.value (condition_kept c node e (none_left _ _ f)) (sure_left (site c e) (statement_sites inside t) sure) x.first)
         (statement_there t true inside y.value (loop_body b c h) (none_right (condition_faults c node e) _ f) (sure_right (site c e) (statement_sites inside t) sure) locals filled y.first))
     statement_there (do_loop node t e) b c a h f sure locals filled q =
         let inside = inside_loop (inner_scope c) in
         let y = followed (statement_typed (within s₀ inside) t) _ a q in
         let x = followed (condition_typed (within s₀ c) e) _ a y.then in
-        stmt_is b _ a x.then (both _ _
+        stmt_is b _ a x.then (and_from _ _
         (statement_there t true inside y.value (loop_body b c h) (none_left _ _ f) (sure_left (statement_sites inside t) (site c e) sure) locals filled y.first)
         (condition_there b c h e x.value (condition_kept c node e (none_right (statement_faults inside t) _ f)) (sure_right (statement_sites inside t) (site c e) sure) x.first))
     statement_there (for_loop node start e u t) b c a h f sure locals filled q =
@@ -321,22 +323,22 @@ module _ (i : Interface) (g : Function) (called : List ℕ → Bool) (there : Te
         let last = sure_right (option_sites behind e) (option_sites behind u ++ statement_sites inside t) rest in
         let first = start_there b (inner_scope c) (inner_body b c h) start w.value (none_left _ _ f)
         (sure_left (start_sites (inner_scope c) start) (option_sites behind e ++ (option_sites behind u ++ statement_sites inside t)) sure)
-        (locals_left (start_locals (inner_scope c) start) (statement_locals inside t) locals) (left _ _ filled) w.first in
-        stmt_is b _ a z.then (both _ _ first.fits (both _ _
+        (locals_left (start_locals (inner_scope c) start) (statement_locals inside t) locals) (first_so _ _ filled) w.first in
+        stmt_is b _ a z.then (and_from _ _ first.fits (and_from _ _
         (option_condition_there b behind first.body e x.value
         (if_tests (rule_starts.start_typed behind start) (option_typed behind u) (option_condition_tests behind e) (start_known c start w.value w.first) (option_known behind u y.value y.first) tests)
         (sure_left (option_sites behind e) (option_sites behind u ++ statement_sites inside t) rest) x.first)
-        (both _ _ (option_effect_there b behind first.body u y.value (sure_left (option_sites behind u) (statement_sites inside t) last) y.first)
+        (and_from _ _ (option_effect_there b behind first.body u y.value (sure_left (option_sites behind u) (statement_sites inside t) last) y.first)
         (statement_there t true inside z.value (loop_body b behind first.body) (none_right (for_faults behind start node e u) (statement_faults inside t) parts)
         (sure_right (option_sites behind u) (statement_sites inside t) last) (locals_right (start_locals (inner_scope c) start) (statement_locals inside t) locals)
-        (right (start_filled start) _ filled) z.first))))
+        (second_so (start_filled start) _ filled) z.first))))
     statement_there (break node) b c a h f sure locals filled q = stmt_is b _ a q (loop_kept b c h node f)
     statement_there (continue node) b c a h f sure locals filled q = stmt_is b _ a q (loop_kept b c h node f)
     statement_there (return node e) b c a h f sure locals filled q = return_there b c h node e a (none_left (faults_of node.id (return_tests c c.result e)) _ f) sure q
 
     pub statements_there : (ss : Stmts) (b : Bool) (c : Context) (list : typed_trees.Stmts) → InBody b c → statements_faults c ss ≡ [] → are_sure (statements_sites c ss) ≡ true
         → LocalsAre (statements_locals c ss) → statements_filled ss ≡ true → statements_typed (within s₀ c) ss ≡ Some list → stmts_fit i g b list ≡ true
-    statements_there no_stmts b c list h f sure locals filled q = subst (λ z. stmts_fit i g b z ≡ true) (same _ list q) refl
+    statements_there no_stmts b c list h f sure locals filled q = subst (λ z. stmts_fit i g b z ≡ true) (same_Some _ list q) refl
     statements_there (stmt_and t ts) b c list h f sure locals filled q =
         let after = after_statement c t in
         let x = followed (statement_typed (within s₀ c) t) _ list q in
@@ -344,11 +346,11 @@ module _ (i : Interface) (g : Function) (called : List ℕ → Bool) (there : Te
         let first = none_left (statement_faults c t) (statements_faults after ts) f in
         let first_sure = sure_left (statement_sites c t) (statements_sites after ts) sure in
         let first_locals = locals_left (statement_locals c t) (statements_locals after ts) locals in
-        subst (λ z. stmts_fit i g b z ≡ true) (same _ list y.then) (both _ _
-        (statement_there t b c x.value h first first_sure first_locals (left _ _ filled) x.first)
-        (statements_there ts b after y.value (after_body t b c x.value h first first_sure first_locals (left _ _ filled) x.first)
+        subst (λ z. stmts_fit i g b z ≡ true) (same_Some _ list y.then) (and_from _ _
+        (statement_there t b c x.value h first first_sure first_locals (first_so _ _ filled) x.first)
+        (statements_there ts b after y.value (after_body t b c x.value h first first_sure first_locals (first_so _ _ filled) x.first)
         (none_right (statement_faults c t) (statements_faults after ts) f) (sure_right (statement_sites c t) (statements_sites after ts) sure)
-        (locals_right (statement_locals c t) (statements_locals after ts) locals) (right (statement_filled t) _ filled) y.first))
+        (locals_right (statement_locals c t) (statements_locals after ts) locals) (second_so (statement_filled t) _ filled) y.first))
 
     pub else_there : (r : Else) (b : Bool) (c : Context) (a : Stmt) → InBody b c → else_faults c r ≡ [] → are_sure (else_sites c r) ≡ true
         → LocalsAre (else_locals c r) → else_filled r ≡ true → else_typed (within s₀ c) r ≡ Some a → stmt_fits i g b a ≡ true

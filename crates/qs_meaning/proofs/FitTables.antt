@@ -3,6 +3,9 @@ use Rattle.std.proofs.Common.{◌≡◌, ◌≤◌, ◌⊎◌, inl, inr, ℕ, �
 use Rattle.std.specs.List.{list_all, slice_get}
 use Rattle.std.proofs.lemmas.Bool.Decides.{nat_tests}
 use Rattle.std.proofs.lemmas.List.Folds.{list_all-append}
+use Rattle.std.proofs.lemmas.Bool.{and_from}
+use Rattle.std.specs.Cmp.{first_so, second_so}
+use Rattle.std.proofs.lemmas.Option.{same_Some}
 use Rattle.qs_syntax.specs.declared.types.Base.{Base}
 use Rattle.qs_syntax.specs.Trees.{DeclaratorTree, MembersTree, StructTree}
 use Rattle.qs_types.specs.declared.extent.Extent.{Extent}
@@ -17,14 +20,13 @@ use Rattle.qs_types.specs.UnitRules.{with_tag, Before, no_members, has_room, opt
 use Rattle.qs_meaning.specs.FitLaws.{has_declarators, members_filled}
 use Rattle.qs_meaning.specs.Names.{Scope, within}
 use Rattle.qs_meaning.specs.TypedLaws.{IsFileScope}
-use Rattle.qs_meaning.proofs.Options.{never, left, right, nothing, same, went, known}
+use Rattle.qs_meaning.proofs.Options.{never, nothing, went, known}
 use Rattle.qs_meaning.proofs.FaultlessExpressions.{none_left, none_right, unbroken, first_unbroken, second_unbroken}
 use Rattle.qs_meaning.proofs.TypedExpressions.{kept}
 use Rattle.qs_meaning.proofs.Bindings.{has_types}
 use Rattle.qs_meaning.proofs.Bodies.{declared_known, lengths_typed}
 use Rattle.qs_meaning.proofs.FunctionsTyped.{file_sound}
 use Rattle.qs_meaning.proofs.StructTables.{GoesOn, Grown, extents_grow, layout_grows, some_grows, appended_back, appended_goes_on, set_keeps, IsNew, set_back, set_count, with_tag_known}
-use Rattle.qs_meaning.proofs.FitConversions.{both}
 use Rattle.qs_meaning.proofs.FitTypes.{is_small, IsRoom, SmallTable, sized_is, room, extents_positive, layouts_positive, rounded_above, ends_behind, laid_as}
 use Rattle.qs_meaning.proofs.FitLayouts.{laid}
 use Rattle.qs_meaning.proofs.FitDeclarations.{declared_small}
@@ -51,24 +53,24 @@ small_grows structs more g char h = h
 small_grows structs more g void h = h
 small_grows structs more g (pointer t) h = small_grows structs more g t h
 small_grows structs more g (array t n) h =
-    both _ _ (both _ _ (left _ _ (left _ _ h))
+    and_from _ _ (and_from _ _ (first_so _ _ (first_so _ _ h))
     (some_grows (sized_by (layout_of structs) (array t n)) (sized_by (layout_of more) (array t n))
-    (sized_grows (layout_of structs) (layout_of more) (layout_grows structs more g) (array t n)) (right (nat_le 1 n) _ (left _ _ h))))
-    (small_grows structs more g t (right (nat_le 1 n && is_sized structs (array t n)) _ h))
+    (sized_grows (layout_of structs) (layout_of more) (layout_grows structs more g) (array t n)) (second_so (nat_le 1 n) _ (first_so _ _ h))))
+    (small_grows structs more g t (second_so (nat_le 1 n && is_sized structs (array t n)) _ h))
 small_grows structs more g (struct k) h = h
 
 members_grow : (structs more : Structs) → GoesOn structs more → (ms : List MemberTree) → list_all (λ (m : MemberTree). is_small structs m.type) ms ≡ true
     → list_all (λ (m : MemberTree). is_small more m.type) ms ≡ true
 members_grow structs more g [] h = refl
 members_grow structs more g (m ∷ ms) h =
-    both _ _ (small_grows structs more g m.type (left _ _ h)) (members_grow structs more g ms (right (is_small structs m.type) _ h))
+    and_from _ _ (small_grows structs more g m.type (first_so _ _ h)) (members_grow structs more g ms (second_so (is_small structs m.type) _ h))
 
 -- a struct that had members before is as large as before
 old_size : (structs more : Structs) → GoesOn structs more → SmallTable structs → (k : ℕ) (l : StructLayout) → is_some (layout_of structs k) ≡ true → layout_of more k ≡ Some l
     → IsRoom l.size
 old_size structs more g table k l e p =
     let old = known (layout_of structs k) e in
-    subst (λ (z : StructLayout). IsRoom z.size) (same old.value l (sym (layout_grows structs more g k old.value old.is) ∙ p)) (table.sizes k old.value old.is)
+    subst (λ (z : StructLayout). IsRoom z.size) (same_Some old.value l (sym (layout_grows structs more g k old.value old.is) ∙ p)) (table.sizes k old.value old.is)
 
 -- ---- what is known behind a declaration of a struct
 
@@ -139,10 +141,10 @@ extents_room structs table [] es has small p = never has
 extents_room structs table (m ∷ ms) es has small p =
     let w = went (extent_of structs m.type) (λ e. and_then (extents_by (layout_of structs) (member_types ms)) (λ es. Some (e ∷ es))) es p in
     let v = went (extents_by (layout_of structs) (member_types ms)) (λ es. Some (w.value ∷ es)) es w.gave in
-    let first = (room structs table m.type (left _ _ small) w.value w.had).least in
+    let first = (room structs table m.type (first_so _ _ small) w.value w.had).least in
     let positive = extents_positive (layout_of structs) (layouts_positive (defined_structs structs) structs) (member_types ms) v.value v.had in
     let behind = ends_behind v.value (rounded_up 0 w.value.alignment + w.value.size) positive in
-    subst (λ z. 1 ≤ end_from 0 z) (same _ es v.gave) (omega arith)
+    subst (λ z. 1 ≤ end_from 0 z) (same_Some _ es v.gave) (omega arith)
 
 greater : (a b : ℕ) → 1 ≤ b → 1 ≤ max a b
 greater a b h = grind arith
@@ -177,7 +179,7 @@ module _ (c : Context) (h : IsFileScope c) (table : SmallTable c.structs) (k : �
       let old = all_sized_is (layout_of c.structs) (member_types new) w.value w.had in
       let grown = extents_grow (layout_of c.structs) (layout_of more) (layout_grows c.structs more goes_on) (member_types new) w.value old in
       let a = laid more j l p in
-      let extents = same _ _ (sym a.are ∙ (ap (λ z. extents_by (layout_of more) (member_types z)) (same _ _ (sym a.of ∙ of) ∙ sym is) ∙ grown)) in
+      let extents = same_Some _ _ (sym a.are ∙ (ap (λ z. extents_by (layout_of more) (member_types z)) (same_Some _ _ (sym a.of ∙ of) ∙ sym is) ∙ grown)) in
       let layout = ap struct_layout (sym extents) ∙ a.is in
       let least = extents_room c.structs table new w.value has small old in
       let above = rounded_above (end_from 0 w.value) (strictest w.value) (strict_positive w.value) in
@@ -247,7 +249,7 @@ module _ (c : Context) where
     where
       go : (b : Bool) → AllSmall (if b then before.members else before.members ++ record { name = x; type = t } ∷ [])
       go true = h
-      go false = list_all-append (λ (m : MemberTree). is_small c.structs m.type) before.members (record { name = x; type = t } ∷ []) ∙ both _ _ h (both _ _ (small t refl) refl)
+      go false = list_all-append (λ (m : MemberTree). is_small c.structs m.type) before.members (record { name = x; type = t } ∷ []) ∙ and_from _ _ h (and_from _ _ (small t refl) refl)
 
   together_small : (before : Before) (base : Base) (ds : List DeclaratorTree) → AllSmall before.members → AllSmall (after_together c before base ds).members
   together_small before base [] h = h

@@ -1,9 +1,12 @@
 -- Sizes, alignments and offsets of types whose arrays have elements and are within the limit of sizes.
-use Rattle.std.proofs.Common.{◌≡◌, ◌≤◌, ℕ, zero, suc, ◌+◌, ◌-◌, ◌*◌, nat_le, max, Bool, true, false, ◌&&◌, List, [], ◌∷◌, Some, None, refl, sym, ap, ◌∙◌, subst, arith, if◌then◌else◌}
+use Rattle.std.proofs.Common.{◌≡◌, ◌≤◌, ℕ, zero, suc, ◌+◌, ◌-◌, ◌*◌, nat_le, max, Bool, true, false, ◌&&◌, List, [], ◌∷◌, Some, None, refl, sym, ap, ◌∙◌, subst, arith, if◌then◌else◌, leb-true, le-leb}
 use Rattle.std.specs.List.{slice_get, list_all}
 use Rattle.std.proofs.lemmas.Bool.Decides.{nat_tests}
 use Rattle.std.proofs.lemmas.Nat.{mod_below, div-add-mod'}
 use Rattle.std.proofs.Math.Nat.{mul-le-mul_left, mul-le-mul_right}
+use Rattle.std.proofs.lemmas.Bool.{and_from}
+use Rattle.std.specs.Cmp.{first_so, second_so}
+use Rattle.std.proofs.lemmas.Option.{same_Some}
 use Rattle.qs_base.specs.Bytes.{same_bytes}
 use Rattle.qs_types.specs.declared.extent.Extent.{Extent}
 use Rattle.qs_types.specs.Types.{TypeTree, int, unsigned, char, void, pointer, array, struct, MemberTree, Structs, referenced}
@@ -13,8 +16,8 @@ use Rattle.qs_types.specs.Expressions.{member_in, member_type}
 use Rattle.qs_memory.specs.Sizes.{largest_size}
 use Rattle.qs_memory.proofs.Options.{followed}
 use Rattle.qs_meaning.specs.Expressions.{member_number, member_offset}
-use Rattle.qs_meaning.proofs.Options.{left, right, nothing, same, went, Known, known}
-use Rattle.qs_meaning.proofs.FitConversions.{both, Elements}
+use Rattle.qs_meaning.proofs.Options.{nothing, went, Known, known}
+use Rattle.qs_meaning.proofs.FitConversions.{Elements}
 
 -- ---- alignments
 
@@ -32,24 +35,24 @@ one_one : 1 ≤ 1
 one_one = omega arith
 
 extent_positive : (layouts : Layouts) → PositiveLayouts layouts → (t : TypeTree) (e : Extent) → extent_by layouts t ≡ Some e → 1 ≤ e.alignment
-extent_positive layouts h int e p = subst (λ (z : Extent). 1 ≤ z.alignment) (same _ e p) one_four
-extent_positive layouts h unsigned e p = subst (λ (z : Extent). 1 ≤ z.alignment) (same _ e p) one_four
-extent_positive layouts h char e p = subst (λ (z : Extent). 1 ≤ z.alignment) (same _ e p) one_one
+extent_positive layouts h int e p = subst (λ (z : Extent). 1 ≤ z.alignment) (same_Some _ e p) one_four
+extent_positive layouts h unsigned e p = subst (λ (z : Extent). 1 ≤ z.alignment) (same_Some _ e p) one_four
+extent_positive layouts h char e p = subst (λ (z : Extent). 1 ≤ z.alignment) (same_Some _ e p) one_one
 extent_positive layouts h void e p = nothing e p
-extent_positive layouts h (pointer t) e p = subst (λ (z : Extent). 1 ≤ z.alignment) (same _ e p) one_four
+extent_positive layouts h (pointer t) e p = subst (λ (z : Extent). 1 ≤ z.alignment) (same_Some _ e p) one_four
 extent_positive layouts h (array t n) e p =
     let w = went (extent_by layouts t) (λ element. Some (array_extent element n)) e p in
-    subst (λ (z : Extent). 1 ≤ z.alignment) (same _ e w.gave) (extent_positive layouts h t w.value w.had)
+    subst (λ (z : Extent). 1 ≤ z.alignment) (same_Some _ e w.gave) (extent_positive layouts h t w.value w.had)
 extent_positive layouts h (struct k) e p =
     let w = went (layouts k) (λ l. Some (struct_extent l)) e p in
-    subst (λ (z : Extent). 1 ≤ z.alignment) (same _ e w.gave) (h k w.value w.had)
+    subst (λ (z : Extent). 1 ≤ z.alignment) (same_Some _ e w.gave) (h k w.value w.had)
 
 pub extents_positive : (layouts : Layouts) → PositiveLayouts layouts → (ts : List TypeTree) (es : List Extent) → extents_by layouts ts ≡ Some es → AllPositive es
-extents_positive layouts h [] es p = subst AllPositive (same [] es p) tt
+extents_positive layouts h [] es p = subst AllPositive (same_Some [] es p) tt
 extents_positive layouts h (t ∷ ts) es p =
     let w = went (extent_by layouts t) (λ e. and_then (extents_by layouts ts) (λ es. Some (e ∷ es))) es p in
     let r = went (extents_by layouts ts) (λ es. Some (w.value ∷ es)) es w.gave in
-    subst AllPositive (same _ es r.gave) (extent_positive layouts h t w.value w.had, extents_positive layouts h ts r.value r.had)
+    subst AllPositive (same_Some _ es r.gave) (extent_positive layouts h t w.value w.had, extents_positive layouts h ts r.value r.had)
 
 greater : (a b : ℕ) → 1 ≤ b → 1 ≤ max a b
 greater a b h = grind arith
@@ -73,7 +76,7 @@ laid_as structs zero k l p = nothing l p
 laid_as structs (suc depth) k l p =
     let m = went (struct_of structs k) (members_layout (layouts_within depth structs)) l p in
     let w = went (extents_by (layouts_within depth structs) (member_types m.value)) (λ es. Some (struct_layout es)) l m.gave in
-    record { members = m.value; of = m.had; depth = depth; below = omega arith; extents = w.value; are = w.had; is = same _ l w.gave }
+    record { members = m.value; of = m.had; depth = depth; below = omega arith; extents = w.value; are = w.had; is = same_Some _ l w.gave }
 
 pub layouts_positive : (depth : ℕ) (structs : Structs) → PositiveLayouts (layouts_within depth structs)
 layouts_positive depth structs k l p = let a = laid_as structs depth k l p in subst (λ (z : StructLayout). 1 ≤ z.alignment) a.is (strict a.extents)
@@ -99,7 +102,7 @@ ends_behind (e ∷ es) start h =
 offset_in : (es : List Extent) (start i o : ℕ) → AllPositive es → slice_get (offsets_from start es) i ≡ Some o → o ≤ end_from start es
 offset_in [] start i o h p = nothing o p
 offset_in (e ∷ es) start zero o h p =
-    let s : rounded_up start e.alignment ≡ o = same _ o p in
+    let s : rounded_up start e.alignment ≡ o = same_Some _ o p in
     let f = ends_behind es (rounded_up start e.alignment + e.size) h.1 in
     omega arith
 offset_in (e ∷ es) start (suc i) o h p = offset_in es (rounded_up start e.alignment + e.size) i o h.1 p
@@ -147,7 +150,7 @@ within e f p = go (nat_le e.size size_limit) refl p
     at_most n h = grind (arith, nat_tests)
 
     go : (b : Bool) → nat_le e.size size_limit ≡ b → (if b then Some e else None) ≡ Some f → Within e f
-    go true h q = let i = same e f q in record { is = i; most = subst (λ (z : Extent). z.size ≤ 16777216) i (at_most e.size h) }
+    go true h q = let i = same_Some e f q in record { is = i; most = subst (λ (z : Extent). z.size ≤ 16777216) i (at_most e.size h) }
     go false h q = nothing f q
 
 pub sized_is : (layouts : Layouts) (t : TypeTree) (e : Extent) → sized_by layouts t ≡ Some e → extent_by layouts t ≡ Some e
@@ -174,42 +177,36 @@ four_room = record { least = omega arith; most = omega arith }
 one_room : IsRoom 1
 one_room = record { least = omega arith; most = omega arith }
 
-at_least : (m n : ℕ) → nat_le m n ≡ true → m ≤ n
-at_least m n h = grind (arith, nat_tests)
-
-pub is_least : (m n : ℕ) → m ≤ n → nat_le m n ≡ true
-is_least m n h = grind (arith, nat_tests)
-
 product : (a n : ℕ) → 1 ≤ a → 1 ≤ n → 1 ≤ a * n
 product a n h k = let m : a * 1 ≤ a * n = mul-le-mul_left a k in omega arith
 
 pub room : (structs : Structs) → SmallTable structs → (t : TypeTree) → is_small structs t ≡ true → (e : Extent) → extent_of structs t ≡ Some e → IsRoom e.size
-room structs table int s e p = subst (λ (z : Extent). IsRoom z.size) (same _ e p) four_room
-room structs table unsigned s e p = subst (λ (z : Extent). IsRoom z.size) (same _ e p) four_room
-room structs table char s e p = subst (λ (z : Extent). IsRoom z.size) (same _ e p) one_room
+room structs table int s e p = subst (λ (z : Extent). IsRoom z.size) (same_Some _ e p) four_room
+room structs table unsigned s e p = subst (λ (z : Extent). IsRoom z.size) (same_Some _ e p) four_room
+room structs table char s e p = subst (λ (z : Extent). IsRoom z.size) (same_Some _ e p) one_room
 room structs table void s e p = nothing e p
-room structs table (pointer t) s e p = subst (λ (z : Extent). IsRoom z.size) (same _ e p) four_room
+room structs table (pointer t) s e p = subst (λ (z : Extent). IsRoom z.size) (same_Some _ e p) four_room
 room structs table (array t n) s e p =
     let w = went (extent_of structs t) (λ element. Some (array_extent element n)) e p in
-    let element = room structs table t (right (nat_le 1 n && is_sized structs (array t n)) _ s) w.value w.had in
-    let k : Known (sized_by (layout_of structs) (array t n)) = known _ (right (nat_le 1 n) _ (left _ _ s)) in
-    let whole = same _ _ (sym (sized_is (layout_of structs) (array t n) k.value k.is) ∙ p) in
+    let element = room structs table t (second_so (nat_le 1 n && is_sized structs (array t n)) _ s) w.value w.had in
+    let k : Known (sized_by (layout_of structs) (array t n)) = known _ (second_so (nat_le 1 n) _ (first_so _ _ s)) in
+    let whole = same_Some _ _ (sym (sized_is (layout_of structs) (array t n) k.value k.is) ∙ p) in
     record {
-      least = subst (λ (z : Extent). 1 ≤ z.size) (same _ e w.gave) (product w.value.size n element.least (at_least 1 n (left _ _ (left _ _ s))));
+      least = subst (λ (z : Extent). 1 ≤ z.size) (same_Some _ e w.gave) (product w.value.size n element.least (leb-true 1 n (first_so _ _ (first_so _ _ s))));
       most = subst (λ (z : Extent). z.size ≤ 16777216) whole (sized_most (layout_of structs) t n k.value k.is);
     }
 room structs table (struct k) s e p =
     let w = went (layout_of structs k) (λ l. Some (struct_extent l)) e p in
-    subst (λ (z : Extent). IsRoom z.size) (same _ e w.gave) (table.sizes k w.value w.had)
+    subst (λ (z : Extent). IsRoom z.size) (same_Some _ e w.gave) (table.sizes k w.value w.had)
 
 -- an array has no more elements than bytes
 pub array_length : (structs : Structs) → SmallTable structs → (t : TypeTree) (n : ℕ) → is_small structs (array t n) ≡ true → n ≤ 16777216
 array_length structs table t n s =
-    let k : Known (sized_by (layout_of structs) (array t n)) = known _ (right (nat_le 1 n) _ (left _ _ s)) in
+    let k : Known (sized_by (layout_of structs) (array t n)) = known _ (second_so (nat_le 1 n) _ (first_so _ _ s)) in
     let most = sized_most (layout_of structs) t n k.value k.is in
     let w = went (extent_of structs t) (λ element. Some (array_extent element n)) k.value (sized_is (layout_of structs) (array t n) k.value k.is) in
-    let element = (room structs table t (right (nat_le 1 n && is_sized structs (array t n)) _ s) w.value w.had).least in
-    let whole : w.value.size * n ≡ k.value.size = ap (λ (z : Extent). z.size) (same _ k.value w.gave) in
+    let element = (room structs table t (second_so (nat_le 1 n && is_sized structs (array t n)) _ s) w.value w.had).least in
+    let whole : w.value.size * n ≡ k.value.size = ap (λ (z : Extent). z.size) (same_Some _ k.value w.gave) in
     at_most w.value.size n element (subst (λ z. z ≤ 16777216) (sym whole) most)
   where
     at_most : (a n : ℕ) → 1 ≤ a → a * n ≤ 16777216 → n ≤ 16777216
@@ -218,7 +215,7 @@ array_length structs table t n s =
 pub size_room : (structs : Structs) → SmallTable structs → (t : TypeTree) → is_small structs t ≡ true → (n : ℕ) → size_of structs t ≡ Some n → IsRoom n
 size_room structs table t s n p =
     let w = went (extent_of structs t) (λ (e : Extent). Some e.size) n p in
-    subst IsRoom (same _ n w.gave) (room structs table t s w.value w.had)
+    subst IsRoom (same_Some _ n w.gave) (room structs table t s w.value w.had)
 
 pub small_referenced : (structs : Structs) (t : TypeTree) → is_small structs t ≡ true → is_small structs (referenced t) ≡ true
 small_referenced structs int s = s
@@ -226,7 +223,7 @@ small_referenced structs unsigned s = s
 small_referenced structs char s = s
 small_referenced structs void s = s
 small_referenced structs (pointer t) s = s
-small_referenced structs (array t n) s = right (nat_le 1 n && is_sized structs (array t n)) _ s
+small_referenced structs (array t n) s = second_so (nat_le 1 n && is_sized structs (array t n)) _ s
 small_referenced structs (struct k) s = s
 
 pub small_decayed : (structs : Structs) (t : TypeTree) → is_small structs t ≡ true → is_small structs (decayed t) ≡ true
@@ -235,24 +232,24 @@ small_decayed structs unsigned s = s
 small_decayed structs char s = s
 small_decayed structs void s = s
 small_decayed structs (pointer t) s = s
-small_decayed structs (array t n) s = right (nat_le 1 n && is_sized structs (array t n)) _ s
+small_decayed structs (array t n) s = second_so (nat_le 1 n && is_sized structs (array t n)) _ s
 small_decayed structs (struct k) s = s
 
 -- what a pointer of a small type leads to is of a size among which pointers move
 pub elements : (structs : Structs) → SmallTable structs → (t : TypeTree) → is_small structs t ≡ true → Elements structs t
 elements structs table t s n p =
     let r = size_room structs table (referenced t) (small_referenced structs t s) n p in
-    both _ _ (is_least 1 n r.least) (is_least n largest_size r.most)
+    and_from _ _ (le-leb 1 n r.least) (le-leb n largest_size r.most)
 
 -- ---- members
 
 member_is_small : (structs : Structs) (x : List ℕ) (ms : List MemberTree) (u : TypeTree) → list_all (λ (m : MemberTree). is_small structs m.type) ms ≡ true
     → member_in x ms ≡ Some u → is_small structs u ≡ true
 member_is_small structs x [] u all e = nothing u e
-member_is_small structs x (m ∷ ms) u all e = go (λ f. member_is_small structs x ms u (right (is_small structs m.type) _ all) f) (same_bytes m.name x) e
+member_is_small structs x (m ∷ ms) u all e = go (λ f. member_is_small structs x ms u (second_so (is_small structs m.type) _ all) f) (same_bytes m.name x) e
   where
     go : (member_in x ms ≡ Some u → is_small structs u ≡ true) → (b : Bool) → (if b then Some m.type else member_in x ms) ≡ Some u → is_small structs u ≡ true
-    go later true e = subst (λ z. is_small structs z ≡ true) (same _ _ e) (left _ _ all)
+    go later true e = subst (λ z. is_small structs z ≡ true) (same_Some _ _ e) (first_so _ _ all)
     go later false e = later e
 
 pub member_small : (structs : Structs) → SmallTable structs → (t u : TypeTree) (x : List ℕ) → member_type structs t x ≡ Some u → is_small structs u ≡ true
@@ -271,7 +268,7 @@ offset_small structs table k i o p =
     let w = went (layout_of structs k) (λ (l : StructLayout). slice_get l.offsets i) o p in
     let a = offset_within structs k i o w.value w.had w.gave in
     let b = (table.sizes k w.value w.had).most in
-    is_least o largest_size (omega arith)
+    le-leb o largest_size (omega arith)
 
 pub member_offset_small : (structs : Structs) → SmallTable structs → (t : TypeTree) (x : List ℕ) (o : ℕ) → member_offset structs t x ≡ Some o → nat_le o largest_size ≡ true
 member_offset_small structs table (struct k) x o p =

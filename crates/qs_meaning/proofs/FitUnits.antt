@@ -1,10 +1,12 @@
 -- The typed tree of a well typed unit fits.
 use Rattle.std.proofs.Common.{◌≡◌, ◌<◌, ℕ, ◌+◌, nat_lt, ◌==◌, Bool, true, false, not, ◌&&◌, ◌||◌, List, [], ◌∷◌, ◌++◌, length, map, Option, Some, None, is_some, refl, sym, ap, ◌∙◌, subst, arith, if◌then◌else◌}
 use Rattle.std.specs.List.{list_all}
-use Rattle.std.proofs.lemmas.Bool.{eq-eqb}
+use Rattle.std.proofs.lemmas.Bool.{eq-eqb, and_from}
 use Rattle.std.proofs.lemmas.Bool.Decides.{nat_tests}
 use Rattle.std.proofs.lemmas.List.{map-append, length-append, length-map}
 use Rattle.std.proofs.lemmas.List.Folds.{list_all-append}
+use Rattle.std.specs.Cmp.{first_so, second_so}
+use Rattle.std.proofs.lemmas.Option.{same_Some}
 use Rattle.qs_base.specs.Bytes.{same_bytes}
 use Rattle.qs_base.proofs.ByteLaws.{bytes_exact}
 use Rattle.qs_syntax.specs.declared.nodes.Node.{Node}
@@ -36,11 +38,10 @@ use Rattle.qs_meaning.specs.Units.{parameters_in, function_with, function_typed,
 use Rattle.qs_meaning.specs.Fits.{function_fits, program_fits}
 use Rattle.qs_meaning.specs.FitLaws.{are_different, is_filled, variables_filled, body_filled, declaration_filled, IsAsRead, TypedUnitsFit}
 use Rattle.qs_meaning.specs.TypedLaws.{IsFileScope}
-use Rattle.qs_meaning.proofs.Options.{never, left, right, nothing, same, all_left, all_right, went, Known}
+use Rattle.qs_meaning.proofs.Options.{never, nothing, all_left, all_right, went, Known}
 use Rattle.qs_meaning.proofs.FaultlessExpressions.{none_left, none_right}
 use Rattle.qs_meaning.proofs.InitialMemory.{placed_below, declarations_count}
 use Rattle.qs_meaning.proofs.UnitsTyped.{header_signature, start_known}
-use Rattle.qs_meaning.proofs.FitConversions.{both}
 use Rattle.qs_meaning.proofs.FitTypes.{is_small, SmallTable}
 use Rattle.qs_meaning.proofs.FitLeaves.{is_short, scalar_signature}
 use Rattle.qs_meaning.proofs.FitSmall.{starred_small}
@@ -81,7 +82,7 @@ module _ (i : Interface) (called : List ℕ → Bool) (statics : Statics) (funct
       go : (lookup x bs ≡ Some e → FileFits i called statics functions structs x e) → (c : Bool) → same_bytes b.name x ≡ c → (if c then Some b.entity else lookup x bs) ≡ Some e
           → FileFits i called statics functions structs x e
       go later true n p =
-          subst (λ z. FileFits i called statics functions structs x z) (same _ _ p)
+          subst (λ z. FileFits i called statics functions structs x z) (same_Some _ _ p)
           (subst (λ z. FileFits i called statics functions structs z b.entity) ((bytes_exact b.name x).0 n) h.0)
       go later false n p = later p
 
@@ -110,7 +111,7 @@ signature_small : (c : Context) (f : FunctionTree) (s : Signature) → signature
 signature_small c f s e =
     let us = went (all_of (header_of c f).parameters) (λ ts. and_then (result_type c f) (λ t. Some (record { parameters = ts; result = t }))) s e in
     let t = went (result_type c f) (λ t. Some (record { parameters = us.value; result = t })) s us.gave in
-    subst (λ (z : Signature). is_small c.structs z.result ≡ true) (same _ s t.gave) (result_small c f t.value t.had)
+    subst (λ (z : Signature). is_small c.structs z.result ≡ true) (same_Some _ s t.gave) (result_small c f t.value t.had)
 
 -- ---- a unit
 
@@ -141,11 +142,11 @@ module _ (unit : UnitTree) (program : TypedProgram) (typed : declarations_typed 
       + (length-map (literal_blocks unit) text_block ∙ sym (length-map (literal_blocks unit) (λ (t : TextBlock). t.node))) j))
 
   short : (t : TextBlock) → there t ≡ true → is_short t ≡ true
-  short t h = right (is_one_of t.node texts) _ h
+  short t h = second_so (is_one_of t.node texts) _ h
 
   text_blocks : (t : TextBlock) → there t ≡ true → nat_lt (length nodes + place_among t.node texts) (length i.data_blocks) ≡ true
   text_blocks t h =
-      let below = placed_below t.node texts (left _ _ h) in
+      let below = placed_below t.node texts (first_so _ _ h) in
       subst (λ z. nat_lt (length nodes + place_among t.node texts) z ≡ true) (sym data_count) (less (length nodes) (place_among t.node texts) (length texts) below)
     where
       less : (a b c : ℕ) → b < c → nat_lt (a + b) (a + c) ≡ true
@@ -208,12 +209,12 @@ module _ (unit : UnitTree) (program : TypedProgram) (typed : declarations_typed 
         table = h.table;
         names = (
           subst (λ o. NameFits c.structs v.declarator.name (file_variable v.declarator.node.id o)) (sym t.first)
-              (variable_blocks v.declarator.node.id (left _ _ listed), (variable_small c base v t.value (left _ _ filled) t.first).small),
+              (variable_blocks v.declarator.node.id (first_so _ _ listed), (variable_small c base v t.value (first_so _ _ filled) t.first).small),
           h.names,
         );
         flat = h.flat;
-      }) (none_right (variable_faults true c after base v) (variables_faults true after base vs) f) (right (is_filled v.initialiser) _ filled)
-      (right (is_one_of v.declarator.node.id nodes) _ listed) later.first
+      }) (none_right (variable_faults true c after base v) (variables_faults true after base vs) f) (second_so (is_filled v.initialiser) _ filled)
+      (second_so (is_one_of v.declarator.node.id nodes) _ listed) later.first
 
   -- ---- functions
 
@@ -292,15 +293,15 @@ module _ (unit : UnitTree) (program : TypedProgram) (typed : declarations_typed 
   function_fits_there c f fs h after own sure filled different q = go f.body refl
     where
       go : (o : Option Stmts) → f.body ≡ o → all_fit fs ≡ true
-      go None e = subst (λ z. all_fit z ≡ true) (same [] fs (sym (ap (function_typed (within s₀ c) f) e) ∙ q)) refl
+      go None e = subst (λ z. all_fit z ≡ true) (same_Some [] fs (sym (ap (function_typed (within s₀ c) f) e) ∙ q)) refl
       go (Some body) e =
           let g = followed (function_with (within s₀ c) f body (addressed_in c f body) (parameters_in c f) (statements_locals (body_context c f) body)) _ fs
           (sym (ap (function_typed (within s₀ c) f) e) ∙ q) in
           let m = made (within s₀ c) f body g.value g.first in
-          subst (λ z. all_fit z ≡ true) (same _ fs g.then) (both _ _
+          subst (λ z. all_fit z ≡ true) (same_Some _ fs g.then) (and_from _ _
           (function_there i called there (within s₀ c) short text_blocks h.scope h.table h.flat f body own e after.names
           (subst (λ o. are_different (ids (all_nodes parameter_nodes f.parameters ++ option_nodes stmts_nodes o)) ≡ true) e
-          (right (not (is_one_of f.node.id (ids (all_nodes parameter_nodes f.parameters ++ option_nodes stmts_nodes f.body)))) _ different))
+          (second_so (not (is_one_of f.node.id (ids (all_nodes parameter_nodes f.parameters ++ option_nodes stmts_nodes f.body)))) _ different))
           (subst (λ o. are_sure (body_sites c f o) ≡ true) e (all_right (site_sure called there) (parameters_sites (inner_scope c) f.parameters) (body_sites c f f.body) sure))
           (subst (λ o. body_filled o ≡ true) e filled) g.value m) refl)
 
@@ -315,17 +316,17 @@ module _ (unit : UnitTree) (program : TypedProgram) (typed : declarations_typed 
       → list_all (λ n. is_one_of n nodes) (file_variables_in (d ∷ [])) ≡ true → undefined_from (runs unit) (unit_calls unit) (d ∷ ds) ≡ None
       → context_after (after_declaration c d) ds ≡ context_after start_context unit → declaration_typed (within s₀ c) d ≡ Some now → Declaration c d now
   declaration_there (structure t) c ds now h own faults sure filled different listed undefined end q = record {
-    fits = subst (λ (z : TypedProgram). all_fit z.functions ≡ true) (same _ now q) refl;
+    fits = subst (λ (z : TypedProgram). all_fit z.functions ≡ true) (same_Some _ now q) refl;
     after = behind_structs c (after_struct c t) (struct_after s₀ c t h.scope h.table filled own) (file_after s₀ c (structure t) h.scope own) h;
   }
   declaration_there (forward t) c ds now h own faults sure filled different listed undefined end q = record {
-    fits = subst (λ (z : TypedProgram). all_fit z.functions ≡ true) (same _ now q) refl;
+    fits = subst (λ (z : TypedProgram). all_fit z.functions ≡ true) (same_Some _ now q) refl;
     after = behind_structs c (with_tag c t.name) (tag_after c t.name h.scope h.table) (file_after s₀ c (forward t) h.scope own) h;
   }
   declaration_there (variables d) c ds now h own faults sure filled different listed undefined end q =
       let bs = followed (file_variables_typed (within s₀ c) d.base d.variables) _ now q in
       record {
-        fits = subst (λ (z : TypedProgram). all_fit z.functions ≡ true) (same _ now bs.then) refl;
+        fits = subst (λ (z : TypedProgram). all_fit z.functions ≡ true) (same_Some _ now bs.then) refl;
         after = variables_there d.variables c d.base bs.value h own filled
             (all_left (λ n. is_one_of n nodes) (map (λ (v : VariableTree). v.declarator.node.id) d.variables) [] listed) bs.first;
       }
@@ -338,7 +339,7 @@ module _ (unit : UnitTree) (program : TypedProgram) (typed : declarations_typed 
         flat = h.flat;
       } in
       record {
-        fits = subst (λ (z : TypedProgram). all_fit z.functions ≡ true) (same _ now fs.then) (function_fits_there c f fs.value h after own sure filled different fs.first);
+        fits = subst (λ (z : TypedProgram). all_fit z.functions ≡ true) (same_Some _ now fs.then) (function_fits_there c f fs.value h after own sure filled different fs.first);
         after = after;
       }
 
@@ -355,7 +356,7 @@ module _ (unit : UnitTree) (program : TypedProgram) (typed : declarations_typed 
   listed_parts (function f) ds l = (refl, l)
   listed_parts (variables d) ds l =
       let ns = map (λ (v : VariableTree). v.declarator.node.id) d.variables in (
-        list_all-append (λ n. is_one_of n nodes) ns [] ∙ both _ _ (all_left (λ n. is_one_of n nodes) ns (file_variables_in ds) l) refl,
+        list_all-append (λ n. is_one_of n nodes) ns [] ∙ and_from _ _ (all_left (λ n. is_one_of n nodes) ns (file_variables_in ds) l) refl,
         all_right (λ n. is_one_of n nodes) ns (file_variables_in ds) l,
       )
 
@@ -363,7 +364,7 @@ module _ (unit : UnitTree) (program : TypedProgram) (typed : declarations_typed 
       → list_all declaration_filled ds ≡ true → are_different (ids (unit_nodes ds)) ≡ true → list_all (λ n. is_one_of n nodes) (file_variables_in ds) ≡ true
       → undefined_from (runs unit) (unit_calls unit) ds ≡ None → context_after c ds ≡ context_after start_context unit → declarations_typed (within s₀ c) ds ≡ Some rest
       → all_fit rest.functions ≡ true
-  declarations_there [] c rest h f sure filled different listed undefined end q = subst (λ (z : TypedProgram). all_fit z.functions ≡ true) (same _ rest q) refl
+  declarations_there [] c rest h f sure filled different listed undefined end q = subst (λ (z : TypedProgram). all_fit z.functions ≡ true) (same_Some _ rest q) refl
   declarations_there (d ∷ ds) c rest h f sure filled different listed undefined end q =
       let after = after_declaration c d in
       let now = followed (declaration_typed (within s₀ c) d) _ rest q in
@@ -371,12 +372,12 @@ module _ (unit : UnitTree) (program : TypedProgram) (typed : declarations_typed 
       let faults = none_right (declaration_faults c d) (declarations_faults after ds) f in
       let parts = listed_parts d ds listed in
       let here = declaration_there d c ds now.value h (none_left (declaration_faults c d) (declarations_faults after ds) f) faults
-      (all_left (site_sure called there) (declaration_sites c d) (declarations_sites after ds) sure) (left _ _ filled) (front_different (decl_nodes d) (unit_nodes ds) different)
+      (all_left (site_sure called there) (declaration_sites c d) (declarations_sites after ds) sure) (first_so _ _ filled) (front_different (decl_nodes d) (unit_nodes ds) different)
       parts.0 undefined end now.first in
-      subst (λ (z : TypedProgram). all_fit z.functions ≡ true) (same _ rest later.then)
-      (list_all-append (function_fits i) now.value.functions later.value.functions ∙ both _ _ here.fits
+      subst (λ (z : TypedProgram). all_fit z.functions ≡ true) (same_Some _ rest later.then)
+      (list_all-append (function_fits i) now.value.functions later.value.functions ∙ and_from _ _ here.fits
       (declarations_there ds after later.value here.after faults (all_right (site_sure called there) (declaration_sites c d) (declarations_sites after ds) sure)
-      (right (declaration_filled d) _ filled) (back_different (decl_nodes d) (unit_nodes ds) different) parts.1 (later_undefined d ds undefined) end later.first))
+      (second_so (declaration_filled d) _ filled) (back_different (decl_nodes d) (unit_nodes ds) different) parts.1 (later_undefined d ds undefined) end later.first))
 
   pub unit_there : all_fit program.functions ≡ true
   unit_there =
@@ -393,9 +394,9 @@ module _ (unit : UnitTree) (program : TypedProgram) (typed : declarations_typed 
 
       all_among : (ns all : List ℕ) → ((n : ℕ) → is_one_of n ns ≡ true → is_one_of n all ≡ true) → list_all (λ n. is_one_of n all) ns ≡ true
       all_among [] all h = refl
-      all_among (n ∷ ns) all h = both _ _ (h n (or_left (n == n) _ (eq-eqb n n refl))) (all_among ns all (λ m e. h m (or_right (n == m) _ e)))
+      all_among (n ∷ ns) all h = and_from _ _ (h n (or_left (n == n) _ (eq-eqb n n refl))) (all_among ns all (λ m e. h m (or_right (n == m) _ e)))
 
 pub typed_units_fit : TypedUnitsFit
 typed_units_fit unit u read well limits e =
     let d = followed (declarations_typed (start_scope unit) unit) _ u e in
-    subst (λ z. program_fits z ≡ true) (same _ u d.then) (unit_there unit d.value d.first read well limits)
+    subst (λ z. program_fits z ≡ true) (same_Some _ u d.then) (unit_there unit d.value d.first read well limits)

@@ -1,7 +1,8 @@
 -- Where a function breaks no rule, it has a typed tree.
 use Rattle.std.proofs.Common.{◌≡◌, ℕ, ◌==◌, Bool, true, false, cond, not, ◌&&◌, ◌||◌, List, [], ◌∷◌, ◌++◌, Option, Some, None, is_some, filter, flat_map, option_map, refl, sym, ap, ◌∙◌, subst, if◌then◌else◌}
 use Rattle.std.specs.List.{list_all}
-use Rattle.std.proofs.lemmas.Bool.{eqb-true, eq-eqb}
+use Rattle.std.proofs.lemmas.Bool.{eqb-true, eq-eqb, or_left, or_right, and_from}
+use Rattle.std.specs.Cmp.{first_so, second_so}
 use Rattle.qs_syntax.specs.Trees.{ExprTree, LengthsTree, ParameterTree}
 use Rattle.qs_memory.specs.Partial.{◌>>=◌}
 use Rattle.qs_types.specs.Types.{TypeTree, int, unsigned, char, void, pointer, array, struct, is_scalar, Structs}
@@ -18,25 +19,13 @@ use Rattle.qs_meaning.specs.Typed.{variable, object, pointer_to, local}
 use Rattle.qs_meaning.specs.Conversions.{scalar_of}
 use Rattle.qs_meaning.specs.Names.{Locals, Scope, within, place_among}
 use Rattle.qs_meaning.specs.Units.{nodes_of, placed_among, scalars_of, sizes_of, parameter_by, parameter_typed, parameters_typed}
-use Rattle.qs_meaning.proofs.Options.{never, left, right, Known, known, onward}
+use Rattle.qs_meaning.proofs.Options.{never, Known, known, onward}
 use Rattle.qs_meaning.proofs.FaultlessExpressions.{none_left, none_right, unbroken, first_unbroken, second_unbroken, type_known}
 use Rattle.qs_meaning.proofs.Bindings.{Sound, has_types}
 use Rattle.qs_meaning.proofs.LocalInitialisers.{sites_taken}
 use Rattle.qs_meaning.proofs.Bodies.{is_fine_local, locals_fine, is_sized_local, all_sized, lengths_typed}
 
 -- ---- the locals of a function
-
-or_left : (x y : Bool) → x ≡ true → (x || y) ≡ true
-or_left true y e = refl
-or_left false y e = never e
-
-or_right : (x y : Bool) → y ≡ true → (x || y) ≡ true
-or_right true y e = refl
-or_right false y e = e
-
-both : (x y : Bool) → x ≡ true → y ≡ true → (x && y) ≡ true
-both true y e f = f
-both false y e f = never e
 
 -- what stands in the rest of a list stands in the list
 in_filtered : (p : Local → Bool) (x : Local) (xs : List Local) (n : ℕ) → is_one_of n (nodes_of (filter p xs)) ≡ true → is_one_of n (nodes_of (filter p (x ∷ xs))) ≡ true
@@ -60,7 +49,7 @@ fine_among : (taken : List ℕ) (declared placed : List ℕ) (xs : List Local)
     → locals_fine declared placed xs ≡ true
 fine_among taken declared placed [] h k = refl
 fine_among taken declared placed (x ∷ xs) h k =
-    both _ _ (both _ _ (h x.node (or_left (x.node == x.node) _ (eq-eqb x.node x.node refl))) (large (is_no_scalar x.type) refl))
+    and_from _ _ (and_from _ _ (h x.node (or_left (x.node == x.node) _ (eq-eqb x.node x.node refl))) (large (is_no_scalar x.type) refl))
     (fine_among taken declared placed xs (λ n e. h n (or_right (x.node == n) _ e)) (λ n e. k n (in_filtered (is_placed taken) x xs n e)))
   where
     large : (b : Bool) → is_no_scalar x.type ≡ b → (not b || is_one_of x.node placed) ≡ true
@@ -102,14 +91,14 @@ one_right n (x ∷ xs) ys e = or_right (x == n) _ (one_right n xs ys e)
 
 each_node : (q : ℕ → Bool) (ns : List ℕ) → ((n : ℕ) → is_one_of n ns ≡ true → q n ≡ true) → list_all q ns ≡ true
 each_node q [] h = refl
-each_node q (n ∷ ns) h = both _ _ (h n (or_left (n == n) _ (eq-eqb n n refl))) (each_node q ns (λ m e. h m (or_right (n == m) _ e)))
+each_node q (n ∷ ns) h = and_from _ _ (h n (or_left (n == n) _ (eq-eqb n n refl))) (each_node q ns (λ m e. h m (or_right (n == m) _ e)))
 
 each_site : (declared placed : List ℕ) (sites : List Site)
     → ((n : ℕ) → is_one_of n (flat_map (λ (x : Site). addressed x.context x.expression) sites) ≡ true → (not (is_one_of n declared) || is_one_of n placed) ≡ true)
     → sites_taken declared placed sites ≡ true
 each_site declared placed [] h = refl
 each_site declared placed (x ∷ xs) h =
-    both _ _ (each_node _ (addressed x.context x.expression)
+    and_from _ _ (each_node _ (addressed x.context x.expression)
     (λ n e. h n (one_left n (addressed x.context x.expression) (flat_map (λ (x : Site). addressed x.context x.expression) xs) e)))
     (each_site declared placed xs (λ n e. h n (one_right n (addressed x.context x.expression) (flat_map (λ (x : Site). addressed x.context x.expression) xs) e)))
 
@@ -127,29 +116,29 @@ typed structs (Some t) e = record { value = t; is = refl }
 
 pub scalars_known : (structs : Structs) (p : Local → Bool) (xs : List Local) → all_sized structs xs ≡ true → Known (scalars_of (filter p xs))
 scalars_known structs p [] e = record { value = _; is = refl }
-scalars_known structs p (x ∷ xs) e = go (scalars_known structs p xs (right (is_sized_local structs x) _ e)) (p x)
+scalars_known structs p (x ∷ xs) e = go (scalars_known structs p xs (second_so (is_sized_local structs x) _ e)) (p x)
   where
     go : Known (scalars_of (filter p xs)) → (b : Bool) → Known (scalars_of (cond b (x ∷ filter p xs) (filter p xs)))
-    go rest true = onward x.type _ (typed structs x.type (left _ _ e)) (onward (scalars_of (filter p xs)) _ rest (record { value = _; is = refl }))
+    go rest true = onward x.type _ (typed structs x.type (first_so _ _ e)) (onward (scalars_of (filter p xs)) _ rest (record { value = _; is = refl }))
     go rest false = rest
 
 -- behind others
 pub scalars_behind : (structs : Structs) (xs ys : List Local) → all_sized structs xs ≡ true → Known (scalars_of ys) → Known (scalars_of (xs ++ ys))
 scalars_behind structs [] ys e k = k
 scalars_behind structs (x ∷ xs) ys e k =
-    onward x.type _ (typed structs x.type (left _ _ e))
-    (onward (scalars_of (xs ++ ys)) _ (scalars_behind structs xs ys (right (is_sized_local structs x) _ e) k) (record { value = _; is = refl }))
+    onward x.type _ (typed structs x.type (first_so _ _ e))
+    (onward (scalars_of (xs ++ ys)) _ (scalars_behind structs xs ys (second_so (is_sized_local structs x) _ e) k) (record { value = _; is = refl }))
 
 pub sizes_known : (structs : Structs) (p : Local → Bool) (xs : List Local) → all_sized structs xs ≡ true → Known (sizes_of structs (filter p xs))
 sizes_known structs p [] e = record { value = _; is = refl }
-sizes_known structs p (x ∷ xs) e = go (sizes_known structs p xs (right (is_sized_local structs x) _ e)) (p x)
+sizes_known structs p (x ∷ xs) e = go (sizes_known structs p xs (second_so (is_sized_local structs x) _ e)) (p x)
   where
     size : (o : Option TypeTree) → is_some (and_then o (size_of structs)) ≡ true → Known (o >>= size_of structs)
     size None e = never e
     size (Some t) e = known (size_of structs t) e
 
     go : Known (sizes_of structs (filter p xs)) → (b : Bool) → Known (sizes_of structs (cond b (x ∷ filter p xs) (filter p xs)))
-    go rest true = onward (x.type >>= size_of structs) _ (size x.type (left _ _ e)) (onward (sizes_of structs (filter p xs)) _ rest (record { value = _; is = refl }))
+    go rest true = onward (x.type >>= size_of structs) _ (size x.type (first_so _ _ e)) (onward (sizes_of structs (filter p xs)) _ rest (record { value = _; is = refl }))
     go rest false = rest
 
 -- ---- parameters (6.7.6.3, 6.9.1)
@@ -186,7 +175,7 @@ elements_typed c l e = go l.is_open l.given e
     go : (b : Bool) (es : List ExprTree) → all_typed c es ≡ true → all_typed c (if b then es else behind_first es) ≡ true
     go true es e = e
     go false [] e = refl
-    go false (x ∷ es) e = right (is_some (type_of c x)) _ e
+    go false (x ∷ es) e = second_so (is_some (type_of c x)) _ e
 
 first_typed : (c : Context) (l : LengthsTree) → all_typed c l.given ≡ true → is_length_typed c (first_length l) ≡ true
 first_typed c l e = go l.is_open l.given e
@@ -194,7 +183,7 @@ first_typed c l e = go l.is_open l.given e
     go : (b : Bool) (es : List ExprTree) → all_typed c es ≡ true → is_length_typed c (if b then None else first_in es) ≡ true
     go true es e = refl
     go false [] e = refl
-    go false (x ∷ es) e = left _ _ e
+    go false (x ∷ es) e = first_so _ _ e
 
 pub parameter_type_known : (c : Context) (p : ParameterTree) → all_typed c p.lengths.given ≡ true → breaks_one (parameter_declared c p).tests ≡ false → Known
     (parameter_declared c p).type
@@ -264,9 +253,9 @@ module _ (s₀ : Scope) (declared_nodes : List ℕ) where
   parameters_scalar has_body [] c h d f = refl
   parameters_scalar has_body (p ∷ ps) c h d f =
       let own = parameter_scalar has_body c h p (none_left (faults_of p.node.id (parameter_tests c has_body p) ++ lengths_faults c p.lengths.given) _ f) in
-      both _ _ own
-      (parameters_scalar has_body ps (after_parameter c p) (with_parameter_sound c h p (parameter_declared c p).type own (left _ _ d) p.name)
-      (right (is_one_of p.node.id declared_nodes) _ d)
+      and_from _ _ own
+      (parameters_scalar has_body ps (after_parameter c p) (with_parameter_sound c h p (parameter_declared c p).type own (first_so _ _ d) p.name)
+      (second_so (is_one_of p.node.id declared_nodes) _ d)
       (none_right (faults_of p.node.id (parameter_tests c has_body p) ++ lengths_faults c p.lengths.given) _ f))
 
   -- the body knows the parameters
@@ -276,8 +265,8 @@ module _ (s₀ : Scope) (declared_nodes : List ℕ) where
   with_parameters_sound [] ts c h d e = h
   with_parameters_sound (p ∷ ps) [] c h d e = h
   with_parameters_sound (p ∷ ps) (t ∷ ts) c h d e =
-      with_parameters_sound ps ts (with_parameter c p t p.name) (with_parameter_sound c h p t (left _ _ e) (left _ _ d) p.name)
-      (right (is_one_of p.node.id declared_nodes) _ d) (right (is_scalar_type t) _ e)
+      with_parameters_sound ps ts (with_parameter c p t p.name) (with_parameter_sound c h p t (first_so _ _ e) (first_so _ _ d) p.name)
+      (second_so (is_one_of p.node.id declared_nodes) _ d) (second_so (is_scalar_type t) _ e)
 
 same_result_one : (c : Context) (p : ParameterTree) (t : Option TypeTree) (x : Option (List ℕ)) → (with_parameter c p t x).result ≡ c.result
 same_result_one c p t None = refl
@@ -310,9 +299,9 @@ pub parameters_known : (locals : Locals) (ps : List ParameterTree) (c : Context)
     (parameters_typed locals ps (parameter_types c ps))
 parameters_known locals [] c e = record { value = _; is = refl }
 parameters_known locals (p ∷ ps) c e =
-    onward (parameter_typed locals p (parameter_declared c p).type) _ (parameter_known locals p (parameter_declared c p).type (left _ _ e))
+    onward (parameter_typed locals p (parameter_declared c p).type) _ (parameter_known locals p (parameter_declared c p).type (first_so _ _ e))
     (onward (parameters_typed locals ps (parameter_types (after_parameter c p) ps)) _
-    (parameters_known locals ps (after_parameter c p) (right (is_scalar_type (parameter_declared c p).type) _ e))
+    (parameters_known locals ps (after_parameter c p) (second_so (is_scalar_type (parameter_declared c p).type) _ e))
     (record { value = _; is = refl }))
 
 one_sized : (structs : Structs) (o : Option TypeTree) → is_scalar_type o ≡ true → is_some (and_then o (size_of structs)) ≡ true
@@ -323,13 +312,13 @@ pub parameters_sized : (structs : Structs) (ps : List ParameterTree) (c : Contex
     (parameters_locals ps (parameter_types c ps)) ≡ true
 parameters_sized structs [] c e = refl
 parameters_sized structs (p ∷ ps) c e =
-    both _ _ (one_sized structs (parameter_declared c p).type (left _ _ e))
-    (parameters_sized structs ps (after_parameter c p) (right (is_scalar_type (parameter_declared c p).type) _ e))
+    and_from _ _ (one_sized structs (parameter_declared c p).type (first_so _ _ e))
+    (parameters_sized structs ps (after_parameter c p) (second_so (is_scalar_type (parameter_declared c p).type) _ e))
 
 -- the parameters are among the locals
 pub parameters_declared : (declared places : List ℕ) (ps : List ParameterTree) (c : Context) → locals_fine declared places (parameters_locals ps (parameter_types c ps)) ≡ true
     → list_all (λ (p : ParameterTree). is_one_of p.node.id declared) ps ≡ true
 parameters_declared declared places [] c e = refl
 parameters_declared declared places (p ∷ ps) c e =
-    both _ _ (left _ _ (left _ _ e)) (parameters_declared declared places ps (after_parameter c p)
-    (right (is_fine_local declared places (record { node = p.node.id; type = (parameter_declared c p).type })) _ e))
+    and_from _ _ (first_so _ _ (first_so _ _ e)) (parameters_declared declared places ps (after_parameter c p)
+    (second_so (is_fine_local declared places (record { node = p.node.id; type = (parameter_declared c p).type })) _ e))

@@ -1,5 +1,6 @@
 -- A function that breaks no rule has a typed tree.
 use Rattle.std.proofs.Common.{◌≡◌, ℕ, Bool, true, false, not, ◌||◌, List, [], ◌∷◌, ◌++◌, Option, Some, None, is_some, refl, sym, ap, ◌∙◌, subst, if◌then◌else◌}
+use Rattle.std.specs.Cmp.{second_so}
 use Rattle.qs_syntax.specs.Trees.{FunctionTree, Stmts}
 use Rattle.qs_memory.specs.Partial.{◌>>=◌}
 use Rattle.qs_types.specs.Types.{TypeTree, Structs}
@@ -17,7 +18,7 @@ use Rattle.qs_meaning.specs.Names.{Locals, Scope, within}
 use Rattle.qs_meaning.specs.Statements.{statements_typed}
 use Rattle.qs_meaning.specs.Units.{nodes_of, placed_among, plain_among, variables_among, locals_of, parameters_in, scalars_of, sizes_of, parameters_typed, in_body, function_with, function_typed}
 use Rattle.qs_meaning.specs.TypedLaws.{EntityTyped, AllTyped, IsFileScope, FunctionsTyped}
-use Rattle.qs_meaning.proofs.Options.{never, right, Known, onward}
+use Rattle.qs_meaning.proofs.Options.{never, Known, onward}
 use Rattle.qs_meaning.proofs.FaultlessExpressions.{none_left, none_right, unbroken, first_unbroken, second_unbroken}
 use Rattle.qs_meaning.proofs.Bindings.{EntityFine, AllFine, Sound}
 use Rattle.qs_meaning.proofs.LocalInitialisers.{sites_taken}
@@ -70,7 +71,7 @@ all_of_known : (ts : List (Option TypeTree)) → all_scalar ts ≡ true → Know
 all_of_known [] e = record { value = []; is = refl }
 all_of_known (None ∷ ts) e = never e
 all_of_known (Some t ∷ ts) e =
-    let rest = all_of_known ts (right (is_scalar_type (Some t)) _ e) in
+    let rest = all_of_known ts (second_so (is_scalar_type (Some t)) _ e) in
     record { value = t ∷ rest.value; is = ap (λ o. and_then o (λ ts. Some (t ∷ ts))) rest.is }
 
 pub signature_known : (c : Context) (f : FunctionTree) → all_scalar (parameter_types (inner_scope c) f.parameters) ≡ true → Known (result_type c f) → Known

@@ -1,10 +1,12 @@
 -- The memory in which a run begins is sound.
 use Rattle.std.proofs.Common.{◌≡◌, ◌≤◌, ◌<◌, ℕ, zero, suc, ◌+◌, ◌==◌, Bool, true, false, ◌&&◌, ◌||◌, List, [], ◌∷◌, ◌++◌, length, map, flat_map, take, drop, slice_index_or, Option, Some, None, is_some, refl, sym, ap, ◌∙◌, subst, arith, if◌then◌else◌}
 use Rattle.std.specs.List.{list_all, slice_get}
-use Rattle.std.proofs.lemmas.Bool.{eq-eqb}
+use Rattle.std.proofs.lemmas.Bool.{eq-eqb, and_from, or_left, or_right}
 use Rattle.std.proofs.lemmas.Bool.Decides.{nat_tests}
 use Rattle.std.proofs.lemmas.List.{length-append, length-map}
 use Rattle.std.proofs.lemmas.List.Folds.{list_all-append}
+use Rattle.std.specs.Cmp.{first_so, second_so}
+use Rattle.std.proofs.lemmas.Option.{same_Some}
 use Rattle.qs_base.specs.Bytes.{same_bytes}
 use Rattle.qs_syntax_vocabulary.specs.declared.operators.UnaryOperator.TheVariants as unaries
 use Rattle.qs_syntax.specs.declared.types.Base.{Base}
@@ -15,7 +17,7 @@ use Rattle.qs_memory.specs.Partial.{◌>>=◌}
 use Rattle.qs_memory.specs.Values.{Pointer, null, into, width}
 use Rattle.qs_memory.specs.Memory.{Cell, unset, byte, Memory, block_at, bytes_of, parts_of, blank_cells}
 use Rattle.qs_memory.specs.Soundness.{IsSoundPointer, IsSoundCell, IsSound}
-use Rattle.qs_memory.proofs.Options.{some_same, followed}
+use Rattle.qs_memory.proofs.Options.{followed}
 use Rattle.qs_memory.proofs.CellLaws.{Each}
 use Rattle.qs_memory.proofs.BlockLaws.{live_known}
 use Rattle.qs_memory.proofs.SoundLaws.{sound_bytes, sound_parts, sound_blank, each_append}
@@ -41,21 +43,9 @@ use Rattle.qs_meaning.specs.Initialisers.{part_offset, Piece, pieces, pieces_fro
 use Rattle.qs_meaning.specs.InitialValues.{pointer_width, entity_pointer, named_pointer, address_constant, pointer_constant, constant_cells, text_cells, length_in, piece_cells, written_over, pieces_over, initial_cells, text_block}
 use Rattle.qs_meaning.specs.Units.{file_variable_typed, file_variables_typed, function_typed, declaration_typed, declarations_typed, file_variables_in, start_scope, block_of, initial_memory}
 use Rattle.qs_meaning.specs.InitialLaws.{consists_of_bytes, has_bytes, InitialMemoryIsSound}
-use Rattle.qs_meaning.proofs.Options.{never, left, right, all_left, all_right, nothing}
+use Rattle.qs_meaning.proofs.Options.{never, all_left, all_right, nothing}
 
 -- ---- numbers of nodes
-
-both : (x y : Bool) → x ≡ true → y ≡ true → (x && y) ≡ true
-both true y e f = f
-both false y e f = never e
-
-or_left : (x y : Bool) → x ≡ true → (x || y) ≡ true
-or_left true y e = refl
-or_left false y e = never e
-
-or_right : (x y : Bool) → y ≡ true → (x || y) ≡ true
-or_right true y e = refl
-or_right false y e = e
 
 -- a node that is among others has a place among them
 pub placed_below : (node : ℕ) (nodes : List ℕ) → is_one_of node nodes ≡ true → place_among node nodes < length nodes
@@ -86,13 +76,13 @@ behind n (t ∷ ts) us e = or_right (t.node == n) _ (behind n ts us e)
 -- nodes are among themselves
 among : (nodes all : List ℕ) → ((n : ℕ) → is_one_of n nodes ≡ true → is_one_of n all ≡ true) → list_all (λ n. is_one_of n all) nodes ≡ true
 among [] all h = refl
-among (n ∷ nodes) all h = both _ _ (h n (or_left (n == n) _ (eq-eqb n n refl))) (among nodes all (λ m e. h m (or_right (n == m) _ e)))
+among (n ∷ nodes) all h = and_from _ _ (h n (or_left (n == n) _ (eq-eqb n n refl))) (among nodes all (λ m e. h m (or_right (n == m) _ e)))
 
 texts_among : (ts : List TextBlock) (all : List ℕ) → ((n : ℕ) → is_one_of n (nodes_of ts) ≡ true → is_one_of n all ≡ true)
     → list_all (λ (t : TextBlock). is_one_of t.node all) ts ≡ true
 texts_among [] all h = refl
 texts_among (t ∷ ts) all h =
-    both _ _ (h t.node (or_left (t.node == t.node) _ (eq-eqb t.node t.node refl))) (texts_among ts all (λ m e. h m (or_right (t.node == m) _ e)))
+    and_from _ _ (h t.node (or_left (t.node == t.node) _ (eq-eqb t.node t.node refl))) (texts_among ts all (λ m e. h m (or_right (t.node == m) _ e)))
 
 -- ---- expressions whose texts consist of bytes and have blocks, where they don't only fill an array
 
@@ -106,8 +96,8 @@ fine_sites : (texts : List ℕ) (ss : List Site) → list_all has_bytes ss ≡ t
     → list_all (is_fine texts) ss ≡ true
 fine_sites texts [] e h = refl
 fine_sites texts (s ∷ ss) e h =
-    both _ _ (both _ _ (left (has_bytes s) _ e) (go s.fills_array (λ n f. h n (in_front n (site_texts s) (flat_map site_texts ss) f))))
-    (fine_sites texts ss (right (has_bytes s) _ e) (λ n f. h n (behind n (site_texts s) (flat_map site_texts ss) f)))
+    and_from _ _ (and_from _ _ (first_so (has_bytes s) _ e) (go s.fills_array (λ n f. h n (in_front n (site_texts s) (flat_map site_texts ss) f))))
+    (fine_sites texts ss (second_so (has_bytes s) _ e) (λ n f. h n (behind n (site_texts s) (flat_map site_texts ss) f)))
   where
     go : (b : Bool) → ((n : ℕ) → is_one_of n (nodes_of (if b then [] else expr_texts s.expression)) ≡ true → is_one_of n texts ≡ true)
         → (b || has_blocks texts s.expression) ≡ true
@@ -118,14 +108,14 @@ literal_bytes : (ss : List Site) → list_all has_bytes ss ≡ true → list_all
 literal_bytes [] e = refl
 literal_bytes (s ∷ ss) e =
     list_all-append consists_of_bytes (site_texts s) (flat_map site_texts ss)
-    ∙ both _ _ (go s.fills_array (left (has_bytes s) _ e)) (literal_bytes ss (right (has_bytes s) _ e))
+    ∙ and_from _ _ (go s.fills_array (first_so (has_bytes s) _ e)) (literal_bytes ss (second_so (has_bytes s) _ e))
   where
     go : (b : Bool) → has_bytes s ≡ true → list_all consists_of_bytes (if b then [] else expr_texts s.expression) ≡ true
     go true e = refl
     go false e = e
 
 text_bytes : (e : ExprTree) (bytes : List ℕ) → text_of e ≡ Some bytes → list_all consists_of_bytes (expr_texts e) ≡ true → list_all is_byte bytes ≡ true
-text_bytes (expr node (trees.text bs)) bytes h f = subst (λ z. list_all is_byte z ≡ true) (some_same bs bytes h) (left _ _ f)
+text_bytes (expr node (trees.text bs)) bytes h f = subst (λ z. list_all is_byte z ≡ true) (same_Some bs bytes h) (first_so _ _ f)
 text_bytes (expr node (trees.constant n b)) bytes h f = nothing bytes h
 text_bytes (expr node (trees.name x)) bytes h f = nothing bytes h
 text_bytes (expr node (trees.unary operator a)) bytes h f = nothing bytes h
@@ -169,11 +159,11 @@ AreKnown nodes c = names_known nodes (c.inner ++ c.outer) ≡ true
 looked_up : (nodes : List ℕ) (bs : List Binding) (x : List ℕ) (entity : Entity) → names_known nodes bs ≡ true → lookup x bs ≡ Some entity
     → entity_known nodes entity ≡ true
 looked_up nodes [] x entity h e = nothing entity e
-looked_up nodes (b ∷ bs) x entity h e = go (λ f. looked_up nodes bs x entity (right (entity_known nodes b.entity) _ h) f) (same_bytes b.name x) e
+looked_up nodes (b ∷ bs) x entity h e = go (λ f. looked_up nodes bs x entity (second_so (entity_known nodes b.entity) _ h) f) (same_bytes b.name x) e
   where
     go : (lookup x bs ≡ Some entity → entity_known nodes entity ≡ true) → (c : Bool) → (if c then Some b.entity else lookup x bs) ≡ Some entity
         → entity_known nodes entity ≡ true
-    go later true e = subst (λ z. entity_known nodes z ≡ true) (some_same b.entity entity e) (left _ _ h)
+    go later true e = subst (λ z. entity_known nodes z ≡ true) (same_Some b.entity entity e) (first_so _ _ h)
     go later false e = later e
 
 tag_known : (nodes : List ℕ) (c : Context) (tag : List ℕ) → AreKnown nodes c → AreKnown nodes (with_tag c tag)
@@ -205,15 +195,15 @@ variables_known : (nodes : List ℕ) (vs : List VariableTree) (c : Context) (bas
     → AreKnown nodes (after_variables true c base vs)
 variables_known nodes [] c base l h = h
 variables_known nodes (v ∷ vs) c base l h =
-    variables_known nodes vs (after_variable true c base v) base (right (is_one_of v.declarator.node.id nodes) _ l)
-    (both (is_one_of v.declarator.node.id nodes) _ (left _ _ l) h)
+    variables_known nodes vs (after_variable true c base v) base (second_so (is_one_of v.declarator.node.id nodes) _ l)
+    (and_from (is_one_of v.declarator.node.id nodes) _ (first_so _ _ l) h)
 
 declaration_known : (nodes : List ℕ) (d : DeclTree) (ds : UnitTree) (c : Context) → list_all (λ n. is_one_of n nodes) (file_variables_in (d ∷ ds)) ≡ true → AreKnown nodes c
     → AreKnown nodes (after_declaration c d)
 declaration_known nodes (structure s) ds c l h =
     define_known nodes (with_tag c s.name) (after_members (with_tag c s.name) no_members s.members).members (tag_place (with_tag c s.name) s.name) (tag_known nodes c s.name h)
 declaration_known nodes (forward f) ds c l h = tag_known nodes c f.name h
-declaration_known nodes (function f) ds c l h = both _ _ (function_entity_known nodes _ _ _ _) h
+declaration_known nodes (function f) ds c l h = and_from _ _ (function_entity_known nodes _ _ _ _) h
 declaration_known nodes (variables d) ds c l h =
     variables_known nodes d.variables c d.base
     (all_left (λ n. is_one_of n nodes) (map (λ (v : VariableTree). v.declarator.node.id) d.variables) (file_variables_in ds) l) h
@@ -224,33 +214,33 @@ zero_plus : (n : ℕ) → 0 + n ≡ n
 zero_plus n = omega arith
 
 variables_count : (s : Scope) (vs : List VariableTree) (base : Base) (bs : List StaticBlock) → file_variables_typed s base vs ≡ Some bs → length bs ≡ length vs
-variables_count s [] base bs h = subst (λ z. length z ≡ 0) (some_same [] bs h) refl
+variables_count s [] base bs h = subst (λ z. length z ≡ 0) (same_Some [] bs h) refl
 variables_count s (v ∷ vs) base bs h =
     let a = followed (file_variable_typed s base v) _ bs h in
     let b = followed (file_variables_typed (within s (after_variable true s.context base v)) base vs) _ bs a.then in
-    subst (λ z. length z ≡ suc (length vs)) (some_same (a.value ∷ b.value) bs b.then) (ap suc (variables_count (within s (after_variable true s.context base v)) vs base b.value b.first))
+    subst (λ z. length z ≡ suc (length vs)) (same_Some (a.value ∷ b.value) bs b.then) (ap suc (variables_count (within s (after_variable true s.context base v)) vs base b.value b.first))
 
 pub declarations_count : (s : Scope) (ds : UnitTree) (u : TypedProgram) → declarations_typed s ds ≡ Some u → length u.blocks ≡ length (file_variables_in ds)
-declarations_count s [] u h = subst (λ (z : TypedProgram). length z.blocks ≡ 0) (some_same _ u h) refl
+declarations_count s [] u h = subst (λ (z : TypedProgram). length z.blocks ≡ 0) (same_Some _ u h) refl
 declarations_count s (d ∷ ds) u h =
     let a = followed (declaration_typed s d) _ u h in
     let b = followed (declarations_typed (within s (after_declaration s.context d)) ds) _ u a.then in
-    subst (λ (z : TypedProgram). length z.blocks ≡ length (file_variables_in (d ∷ ds))) (some_same _ u b.then)
+    subst (λ (z : TypedProgram). length z.blocks ≡ length (file_variables_in (d ∷ ds))) (same_Some _ u b.then)
     (length-append a.value.blocks b.value.blocks ∙ counted d a.value b.value a.first
     (declarations_count (within s (after_declaration s.context d)) ds b.value b.first))
   where
     counted : (d : DeclTree) (now rest : TypedProgram) → declaration_typed s d ≡ Some now → length rest.blocks ≡ length (file_variables_in ds)
         → length now.blocks + length rest.blocks ≡ length (file_variables_in (d ∷ ds))
     counted (structure x) now rest h e =
-        subst (λ (z : TypedProgram). length z.blocks + length rest.blocks ≡ length (file_variables_in ds)) (some_same _ now h) (zero_plus (length rest.blocks) ∙ e)
+        subst (λ (z : TypedProgram). length z.blocks + length rest.blocks ≡ length (file_variables_in ds)) (same_Some _ now h) (zero_plus (length rest.blocks) ∙ e)
     counted (forward x) now rest h e =
-        subst (λ (z : TypedProgram). length z.blocks + length rest.blocks ≡ length (file_variables_in ds)) (some_same _ now h) (zero_plus (length rest.blocks) ∙ e)
+        subst (λ (z : TypedProgram). length z.blocks + length rest.blocks ≡ length (file_variables_in ds)) (same_Some _ now h) (zero_plus (length rest.blocks) ∙ e)
     counted (function f) now rest h e =
         let a = followed (function_typed s f f.body) _ now h in
-        subst (λ (z : TypedProgram). length z.blocks + length rest.blocks ≡ length (file_variables_in ds)) (some_same _ now a.then) (zero_plus (length rest.blocks) ∙ e)
+        subst (λ (z : TypedProgram). length z.blocks + length rest.blocks ≡ length (file_variables_in ds)) (same_Some _ now a.then) (zero_plus (length rest.blocks) ∙ e)
     counted (variables d) now rest h e =
         let a = followed (file_variables_typed s d.base d.variables) _ now h in
-        subst (λ (z : TypedProgram). length z.blocks + length rest.blocks ≡ length (file_variables_in (variables d ∷ ds))) (some_same _ now a.then)
+        subst (λ (z : TypedProgram). length z.blocks + length rest.blocks ≡ length (file_variables_in (variables d ∷ ds))) (same_Some _ now a.then)
         (together (length a.value) (length d.variables) (length rest.blocks) (length (file_variables_in ds)) (variables_count s d.variables d.base a.value a.first) e
         ∙ sym (length-append (map (λ (v : VariableTree). v.declarator.node.id) d.variables) (file_variables_in ds)
         ∙ ap (λ n. n + length (file_variables_in ds)) (length-map d.variables (λ (v : VariableTree). v.declarator.node.id))))
@@ -280,7 +270,7 @@ module _ (m : Memory) where
 
   bytes_sound : (bs : List ℕ) → list_all is_byte bs ≡ true → Each (IsSoundCell m) (map byte bs)
   bytes_sound [] e = tt
-  bytes_sound (b ∷ bs) e = (small b (left _ _ e), bytes_sound bs (right (is_byte b) _ e))
+  bytes_sound (b ∷ bs) e = (small b (first_so _ _ e), bytes_sound bs (second_so (is_byte b) _ e))
     where
       small : (b : ℕ) → is_byte b ≡ true → b < 256
       small b e = grind (arith, nat_tests)
@@ -306,7 +296,7 @@ module _ (m : Memory) where
 
   texts_sound : (ts : List TextBlock) → list_all consists_of_bytes ts ≡ true → BlocksSound m (map text_block ts)
   texts_sound [] e = tt
-  texts_sound (t ∷ ts) e = (text_cells_sound t.bytes (left _ _ e), texts_sound ts (right (consists_of_bytes t) _ e))
+  texts_sound (t ∷ ts) e = (text_cells_sound t.bytes (first_so _ _ e), texts_sound ts (second_so (consists_of_bytes t) _ e))
 
   -- ---- the variables and texts of a unit, in a memory that has as many blocks
 
@@ -356,7 +346,7 @@ module _ (m : Memory) where
 
     address_sound : (c : Context) → AreKnown nodes c → (e : ExprTree) → has_blocks texts e ≡ true → PointerSound (address_constant (within s₀ c) e)
     address_sound c k (expr node (trees.text bytes)) h =
-        let l = placed_below node.id texts (left _ _ h) in block_sound (length nodes + place_among node.id texts) (omega arith)
+        let l = placed_below node.id texts (first_so _ _ h) in block_sound (length nodes + place_among node.id texts) (omega arith)
     address_sound c k (expr node (trees.name x)) h = name_sound c k x
     address_sound c k (expr node (trees.unary unaries.Address a)) h = named_sound c k a
     address_sound c k (expr node (trees.unary unaries.Indirect a)) h = tt
@@ -404,11 +394,11 @@ module _ (m : Memory) where
     piece_sound c k p h = go (is_array p.type)
       where
         bytes_fine : list_all consists_of_bytes (expr_texts p.expression) ≡ true
-        bytes_fine = left _ _ h
+        bytes_fine = first_so _ _ h
 
         placed : is_pointer p.type ≡ true → has_blocks texts p.expression ≡ true
         placed i = subst (λ b. (b || has_blocks texts p.expression) ≡ true) (pointer_not_filled p.type p.expression i)
-            (right (list_all consists_of_bytes (expr_texts p.expression)) _ h)
+            (second_so (list_all consists_of_bytes (expr_texts p.expression)) _ h)
 
         go : (b : Bool) → CellsSound (if b then (text_of p.expression >>= λ bytes. Some (take (length_in p.type) (text_cells bytes)))
             else constant_cells (within s₀ c) p.type p.expression)
@@ -434,18 +424,18 @@ module _ (m : Memory) where
     mutual
       pieces_fine : (c : Context) (i : InitialiserTree) (t : TypeTree) (offset : ℕ) (ps : List Piece)
           → list_all (is_fine texts) (initialiser_sites true c (Some t) i) ≡ true → pieces c.structs t offset i ≡ Some ps → PiecesFine c ps
-      pieces_fine c (trees.value e) t offset ps h j = subst (PiecesFine c) (some_same _ ps j) (left _ _ h, tt)
+      pieces_fine c (trees.value e) t offset ps h j = subst (PiecesFine c) (same_Some _ ps j) (first_so _ _ h, tt)
       pieces_fine c (trees.list node is) t offset ps h j = pieces_from_fine c is t offset 0 ps h j
 
       pieces_from_fine : (c : Context) (is : Initialisers) (t : TypeTree) (offset i : ℕ) (ps : List Piece)
           → list_all (is_fine texts) (elements_sites true c (Some t) i is) ≡ true → pieces_from c.structs t offset i is ≡ Some ps → PiecesFine c ps
-      pieces_from_fine c no_initialisers t offset i ps h j = subst (PiecesFine c) (some_same [] ps j) tt
+      pieces_from_fine c no_initialisers t offset i ps h j = subst (PiecesFine c) (same_Some [] ps j) tt
       pieces_from_fine c (initialiser_and first rest) t offset i ps h j =
           let u = followed (part_type c.structs t i) _ ps j in
           let at = followed (part_offset c.structs t i) _ ps u.then in
           let now = followed (pieces c.structs u.value (offset + at.value) first) _ ps at.then in
           let later = followed (pieces_from c.structs t offset (i + 1) rest) _ ps now.then in
-          subst (PiecesFine c) (some_same (now.value ++ later.value) ps later.then)
+          subst (PiecesFine c) (same_Some (now.value ++ later.value) ps later.then)
           (pieces_joined c now.value later.value
           (pieces_fine c first u.value (offset + at.value) now.value
           (subst (λ o. list_all (is_fine texts) (initialiser_sites true c o first) ≡ true) u.first
@@ -466,7 +456,7 @@ module _ (m : Memory) where
     variable_sound c base v k h b j =
         let t = followed (variable_declared c base v).type _ b j in
         let cells = followed (initial_cells (within s₀ (after_variable true c base v)) t.value v.initialiser) _ b t.then in
-        subst (λ (z : StaticBlock). Each (IsSoundCell m) z.cells) (some_same _ b cells.then)
+        subst (λ (z : StaticBlock). Each (IsSoundCell m) z.cells) (same_Some _ b cells.then)
         (subst CellsSound cells.first (initial_sound (after_variable true c base v) k t.value v.initialiser
         (subst (λ o. list_all (is_fine texts) (option_initialiser_sites true (after_variable true c base v) o v.initialiser) ≡ true) t.first
         (all_right (is_fine texts) (declarator_sites c v.declarator)
@@ -475,42 +465,42 @@ module _ (m : Memory) where
     variables_sound : (vs : List VariableTree) (c : Context) (base : Base) → are_listed nodes vs ≡ true → AreKnown nodes c
         → list_all (is_fine texts) (variables_sites true c base vs) ≡ true
         → (bs : List StaticBlock) → file_variables_typed (within s₀ c) base vs ≡ Some bs → BlocksSound m bs
-    variables_sound [] c base l k h bs j = subst (BlocksSound m) (some_same [] bs j) tt
+    variables_sound [] c base l k h bs j = subst (BlocksSound m) (same_Some [] bs j) tt
     variables_sound (v ∷ vs) c base l k h bs j =
         let after = after_variable true c base v in
         let here = variable_sites true c after base v in
         let rest = variables_sites true after base vs in
-        let known : AreKnown nodes after = both (is_one_of v.declarator.node.id nodes) _ (left _ _ l) k in
+        let known : AreKnown nodes after = and_from (is_one_of v.declarator.node.id nodes) _ (first_so _ _ l) k in
         let a = followed (file_variable_typed (within s₀ c) base v) _ bs j in
         let b = followed (file_variables_typed (within s₀ after) base vs) _ bs a.then in
-        subst (BlocksSound m) (some_same (a.value ∷ b.value) bs b.then) (
+        subst (BlocksSound m) (same_Some (a.value ∷ b.value) bs b.then) (
           variable_sound c base v known (all_left (is_fine texts) here rest h) a.value a.first,
-          variables_sound vs after base (right (is_one_of v.declarator.node.id nodes) _ l) known (all_right (is_fine texts) here rest h) b.value b.first,
+          variables_sound vs after base (second_so (is_one_of v.declarator.node.id nodes) _ l) known (all_right (is_fine texts) here rest h) b.value b.first,
         )
 
     declaration_sound : (d : DeclTree) (c : Context) → list_all (λ n. is_one_of n nodes) (file_variables_in (d ∷ [])) ≡ true → AreKnown nodes c
         → list_all (is_fine texts) (declaration_sites c d) ≡ true
         → (u : TypedProgram) → declaration_typed (within s₀ c) d ≡ Some u → BlocksSound m u.blocks
-    declaration_sound (structure x) c l k h u j = subst (λ (z : TypedProgram). BlocksSound m z.blocks) (some_same _ u j) tt
-    declaration_sound (forward x) c l k h u j = subst (λ (z : TypedProgram). BlocksSound m z.blocks) (some_same _ u j) tt
+    declaration_sound (structure x) c l k h u j = subst (λ (z : TypedProgram). BlocksSound m z.blocks) (same_Some _ u j) tt
+    declaration_sound (forward x) c l k h u j = subst (λ (z : TypedProgram). BlocksSound m z.blocks) (same_Some _ u j) tt
     declaration_sound (function f) c l k h u j =
         let a = followed (function_typed (within s₀ c) f f.body) _ u j in
-        subst (λ (z : TypedProgram). BlocksSound m z.blocks) (some_same _ u a.then) tt
+        subst (λ (z : TypedProgram). BlocksSound m z.blocks) (same_Some _ u a.then) tt
     declaration_sound (variables d) c l k h u j =
         let a = followed (file_variables_typed (within s₀ c) d.base d.variables) _ u j in
-        subst (λ (z : TypedProgram). BlocksSound m z.blocks) (some_same _ u a.then)
+        subst (λ (z : TypedProgram). BlocksSound m z.blocks) (same_Some _ u a.then)
         (variables_sound d.variables c d.base (all_left (λ n. is_one_of n nodes) (map (λ (v : VariableTree). v.declarator.node.id) d.variables) [] l) k h a.value a.first)
 
     declarations_sound : (ds : UnitTree) (c : Context) → list_all (λ n. is_one_of n nodes) (file_variables_in ds) ≡ true → AreKnown nodes c
         → list_all (is_fine texts) (declarations_sites c ds) ≡ true
         → (u : TypedProgram) → declarations_typed (within s₀ c) ds ≡ Some u → BlocksSound m u.blocks
-    declarations_sound [] c l k h u j = subst (λ (z : TypedProgram). BlocksSound m z.blocks) (some_same _ u j) tt
+    declarations_sound [] c l k h u j = subst (λ (z : TypedProgram). BlocksSound m z.blocks) (same_Some _ u j) tt
     declarations_sound (d ∷ ds) c l k h u j =
         let after = after_declaration c d in
         let a = followed (declaration_typed (within s₀ c) d) _ u j in
         let b = followed (declarations_typed (within s₀ after) ds) _ u a.then in
         let parts = split d l in
-        subst (λ (z : TypedProgram). BlocksSound m z.blocks) (some_same _ u b.then)
+        subst (λ (z : TypedProgram). BlocksSound m z.blocks) (same_Some _ u b.then)
         (blocks_joined m a.value.blocks b.value.blocks
         (declaration_sound d c parts.0 k (all_left (is_fine texts) (declaration_sites c d) (declarations_sites after ds) h) a.value a.first)
         (declarations_sound ds after parts.1 (declaration_known nodes d ds c l k)
@@ -525,7 +515,7 @@ module _ (m : Memory) where
         split (function f) l = (refl, l)
         split (variables d) l =
             let ns = map (λ (v : VariableTree). v.declarator.node.id) d.variables in (
-              list_all-append (λ n. is_one_of n nodes) ns [] ∙ both _ _ (all_left (λ n. is_one_of n nodes) ns (file_variables_in ds) l) refl,
+              list_all-append (λ n. is_one_of n nodes) ns [] ∙ and_from _ _ (all_left (λ n. is_one_of n nodes) ns (file_variables_in ds) l) refl,
               all_right (λ n. is_one_of n nodes) ns (file_variables_in ds) l,
             )
 
@@ -545,7 +535,7 @@ blocks_at m (x ∷ xs) h (suc b) offset l o = blocks_at m xs h.1 b offset (omega
 pub initial_memory_is_sound : InitialMemoryIsSound
 initial_memory_is_sound unit u bytes typed =
     let d = followed (declarations_typed (start_scope unit) unit) _ u typed in
-    subst (λ (z : TypedProgram). IsSound (initial_memory z)) (some_same _ u d.then) (sound d.value d.first)
+    subst (λ (z : TypedProgram). IsSound (initial_memory z)) (same_Some _ u d.then) (sound d.value d.first)
   where
     sound : (d : TypedProgram) → declarations_typed (start_scope unit) unit ≡ Some d → IsSound (map block_of (d.blocks ++ map text_block (literal_blocks unit)))
     sound d e = record {

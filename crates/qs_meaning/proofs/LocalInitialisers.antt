@@ -1,6 +1,7 @@
 -- Where an initialiser of a local breaks no rule, it has a typed tree.
 use Rattle.std.proofs.Common.{◌≡◌, ◌≤◌, ℕ, suc, ◌+◌, Bool, true, false, ◌&&◌, ◌||◌, List, [], ◌∷◌, ◌++◌, Option, Some, None, is_some, refl, sym, ap, subst, arith, if◌then◌else◌}
 use Rattle.std.specs.List.{list_all}
+use Rattle.std.specs.Cmp.{first_so, second_so}
 use Rattle.qs_syntax.specs.Trees.{ExprTree, expr, InitialiserTree, Initialisers, no_initialisers, initialiser_and}
 use Rattle.qs_syntax.specs.Trees as trees
 use Rattle.qs_types.specs.Types.{TypeTree, int, unsigned, char, void, pointer, array, struct, is_array, is_struct, is_scalar, same_type, Structs}
@@ -20,7 +21,7 @@ use Rattle.qs_meaning.specs.Names.{Scope}
 use Rattle.qs_meaning.specs.Expressions.{typed, plain_form}
 use Rattle.qs_meaning.specs.Blanks.{blank_of}
 use Rattle.qs_meaning.specs.Initialisers.{part_offset, Piece, pieces, pieces_from, text_set, assigned_set, piece_set, pieces_set, object_set, local_set}
-use Rattle.qs_meaning.proofs.Options.{never, left, right, all_left, all_right, Known, known, onward, goes}
+use Rattle.qs_meaning.proofs.Options.{never, all_left, all_right, Known, known, onward, goes}
 use Rattle.qs_meaning.proofs.CompleteTypes.{part_known, part_there, fits_takes, fits_count, blank_known}
 use Rattle.qs_meaning.proofs.FaultlessExpressions.{none_left, none_right, unbroken, type_of_known}
 use Rattle.qs_meaning.proofs.TypedExpressions.{TypedBy, address_known, assigned_known}
@@ -161,7 +162,7 @@ module _ (s : Scope) (declared : List ℕ) (sound : Sound s declared) where
         → initialiser_faults false s.context (Some u) i ≡ [] → sites_taken declared s.locals.placed (initialiser_sites false s.context (Some u) i) ≡ true
         → Pieced base (pieces structs u offset i)
     initialiser_pieced (trees.value e) base u offset complete fits h taken =
-        let x = expressed s declared sound e whole h (left _ _ taken) in
+        let x = expressed s declared sound e whole h (first_so _ _ taken) in
         record { list = _; is = refl; set = (piece_known base offset u complete e x (fitting u e x fits), tt) }
     initialiser_pieced (trees.list node is) base u offset complete fits h taken =
         let inner = none_right (faults_of node.id (list_tests false s.context u is)) (elements_faults false s.context (Some u) 0 is) h in
@@ -177,7 +178,7 @@ module _ (s : Scope) (declared : List ℕ) (sound : Sound s declared) where
         → Pieced base (pieces_from structs u offset i is)
     elements_pieced no_initialisers base u offset i complete room fits h taken = record { list = []; is = refl; set = tt }
     elements_pieced (initialiser_and first is) base u offset i complete room fits h taken =
-        let fits_first : element_fits false s.context (part_type structs u i) first ≡ true = left _ _ fits in
+        let fits_first : element_fits false s.context (part_type structs u i) first ≡ true = first_so _ _ fits in
         let r : i + suc (initialisers_count is) ≤ count_of_parts structs u = room in
         let p = part_known structs sound.laid_out sound.members u i complete (part_there structs u i (omega arith)) in
         let now = initialiser_pieced first base p.type (offset + p.offset.value) p.complete
@@ -186,7 +187,7 @@ module _ (s : Scope) (declared : List ℕ) (sound : Sound s declared) where
         (subst (λ o. sites_taken declared s.locals.placed (initialiser_sites false s.context o first) ≡ true) p.is
         (sites_left declared s.locals.placed (initialiser_sites false s.context (part_type structs u i) first)
         (elements_sites false s.context (Some u) (i + 1) is) taken)) in
-        let later = elements_pieced is base u offset (i + 1) complete (omega arith) (right (element_fits false s.context (part_type structs u i) first) _ fits)
+        let later = elements_pieced is base u offset (i + 1) complete (omega arith) (second_so (element_fits false s.context (part_type structs u i) first) _ fits)
         (none_right (initialiser_faults false s.context (part_type structs u i) first) _ h)
         (sites_right declared s.locals.placed (initialiser_sites false s.context (part_type structs u i) first)
         (elements_sites false s.context (Some u) (i + 1) is) taken) in
@@ -231,14 +232,14 @@ module _ (s : Scope) (declared : List ℕ) (sound : Sound s declared) where
           → expr_faults s.context whole e ≡ [] → sites_taken declared s.locals.placed (initialiser_sites false s.context (Some t) (trees.value e)) ≡ true
           → Known (local_set s (record { type = t; form = lvalue l }) (trees.value e))
       go (array t n) complete large fits h taken = object_known (array t n) l (trees.value e) complete (large refl) fits h taken
-      go int complete large fits h taken = let x = expressed s declared sound e whole h (left _ _ taken) in not_array_known int complete l large e x
+      go int complete large fits h taken = let x = expressed s declared sound e whole h (first_so _ _ taken) in not_array_known int complete l large e x
           (fitting int e x fits) refl
-      go unsigned complete large fits h taken = let x = expressed s declared sound e whole h (left _ _ taken) in not_array_known unsigned complete l large e x
+      go unsigned complete large fits h taken = let x = expressed s declared sound e whole h (first_so _ _ taken) in not_array_known unsigned complete l large e x
           (fitting unsigned e x fits) refl
-      go char complete large fits h taken = let x = expressed s declared sound e whole h (left _ _ taken) in not_array_known char complete l large e x
+      go char complete large fits h taken = let x = expressed s declared sound e whole h (first_so _ _ taken) in not_array_known char complete l large e x
           (fitting char e x fits) refl
       go void complete large fits h taken = never complete
-      go (pointer t) complete large fits h taken = let x = expressed s declared sound e whole h (left _ _ taken) in not_array_known (pointer t) complete l large e x
+      go (pointer t) complete large fits h taken = let x = expressed s declared sound e whole h (first_so _ _ taken) in not_array_known (pointer t) complete l large e x
           (fitting (pointer t) e x fits) refl
-      go (struct k) complete large fits h taken = let x = expressed s declared sound e whole h (left _ _ taken) in not_array_known (struct k) complete l large e x
+      go (struct k) complete large fits h taken = let x = expressed s declared sound e whole h (first_so _ _ taken) in not_array_known (struct k) complete l large e x
           (fitting (struct k) e x fits) refl

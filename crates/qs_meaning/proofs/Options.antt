@@ -1,9 +1,13 @@
 -- Bool tests, and options that follow one another.
-use Rattle.std.proofs.Common.{◌≡◌, ◌⊎◌, inl, inr, Bool, true, false, ◌&&◌, ◌||◌, List, ◌++◌, Option, Some, None, is_some, refl, sym, ap, ◌∙◌}
+use Rattle.std.proofs.Common.{◌≡◌, Bool, true, false, List, ◌++◌, Option, Some, None, is_some, refl, sym, ap, ◌∙◌}
 use Rattle.std.specs.List.{list_all}
 use Rattle.std.proofs.lemmas.List.Folds.{list_all-append}
+use Rattle.std.specs.Cmp.{first_so, second_so}
 use Rattle.qs_memory.specs.Partial.{◌>>=◌}
 use Rattle.qs_types.specs.Layout.{and_then}
+pub use Rattle.std.specs.Cmp.{first_so as left, second_so as right}
+pub use Rattle.std.proofs.lemmas.Bool.{or_cases as either}
+pub use Rattle.std.proofs.lemmas.Option.{same_Some as same}
 
 pub never : {A : Type 0} → false ≡ true → A
 never e = absurd (go e)
@@ -11,32 +15,17 @@ never e = absurd (go e)
     go : false ≡ true → ⊥
     go e = cc
 
-pub left : (x y : Bool) → (x && y) ≡ true → x ≡ true
-left true y e = refl
-left false y e = e
-
-pub right : (x y : Bool) → (x && y) ≡ true → y ≡ true
-right true y e = e
-right false y e = never e
-
-pub either : (x y : Bool) → (x || y) ≡ true → (x ≡ true) ⊎ (y ≡ true)
-either true y e = inl refl
-either false y e = inr e
-
 pub all_left : {A : Type 0} (p : A → Bool) (xs ys : List A) → list_all p (xs ++ ys) ≡ true → list_all p xs ≡ true
-all_left p xs ys e = left _ _ (sym (list_all-append p xs ys) ∙ e)
+all_left p xs ys e = first_so _ _ (sym (list_all-append p xs ys) ∙ e)
 
 pub all_right : {A : Type 0} (p : A → Bool) (xs ys : List A) → list_all p (xs ++ ys) ≡ true → list_all p ys ≡ true
-all_right p xs ys e = right (list_all p xs) _ (sym (list_all-append p xs ys) ∙ e)
+all_right p xs ys e = second_so (list_all p xs) _ (sym (list_all-append p xs ys) ∙ e)
 
 pub nothing : {A B : Type 0} (x : A) → None ≡ Some x → B
 nothing x e = absurd (no x e)
   where
     no : {A : Type 0} (x : A) → None ≡ Some x → ⊥
     no x e = cc
-
-pub same : {A : Type 0} (x y : A) → Some x ≡ Some y → x ≡ y
-same x y e = cc
 
 -- what an option that goes on had
 pub record Went {A B : Type 0} (o : Option A) (go : A → Option B) (y : B) : Type 0 where

@@ -5,7 +5,8 @@ use Rattle.std.specs.List.{slice_get, list_all}
 use Rattle.std.proofs.lemmas.Bool.Decides.{nat_tests}
 use Rattle.std.proofs.lemmas.List.{length-map}
 use Rattle.std.proofs.lemmas.List.Elements.{All-head, All-tail}
-use Rattle.std.proofs.lemmas.Option.{slice_get-map}
+use Rattle.std.proofs.lemmas.Option.{slice_get-map, same_Some}
+use Rattle.std.proofs.lemmas.Bool.{and_parts}
 use Rattle.qs_memory.specs.Partial.{◌>>=◌}
 use Rattle.qs_memory.specs.Values.{into, Value, integer, address, as_pointer}
 use Rattle.qs_memory.specs.Memory.{Memory, block_at, make, release}
@@ -18,7 +19,7 @@ use Rattle.qs_memory.specs.Operands.{binary_takes}
 use Rattle.qs_memory.proofs.ScalarLaws.{scalar_same, type_is}
 use Rattle.qs_memory.specs.declared.scalar.Scalar.{Scalar}
 use Rattle.qs_memory.specs.declared.scalar.Scalar.TheVariants as scalars
-use Rattle.qs_memory.proofs.Options.{some_same, followed}
+use Rattle.qs_memory.proofs.Options.{followed}
 use Rattle.qs_memory.proofs.BlockLaws.{after_make, after_release, after_same, after_next, blocks_are_fresh}
 use Rattle.qs_memory.proofs.StepLaws.{memory_goes_on}
 use Rattle.qs_memory.proofs.SoundLaws.{soundness_is_kept}
@@ -42,7 +43,7 @@ use Rattle.qs_meaning.specs.Runs.{result_at_end, calls_within}
 use Rattle.qs_meaning.specs.Ranges.{VariablesAreOf, IsMoment, NextInRange, ValueInRange, ReturnsInRange, TargetsInRange, result_at, CallsInRange, ExpressionsHaveTypes, CallsStayInRange, BodiesStayInRange, RunsLeaveSound, InitialMemoryIsReady}
 use Rattle.qs_meaning.specs.Units.{block_of}
 use Rattle.qs_meaning.proofs.InitialMemory.{initial_memory_is_sound}
-use Rattle.qs_meaning.proofs.TypedValues.{both_hold, all_at, number_is_of, converted_is_of, unary_is_of, operation_is_of, updated_is_of, variables_later, no_values_are_of, with_value_are_of, moment_later, moment_stepped, moment_assigned, now, onward_from, PlaceIsOf, read_is_of}
+use Rattle.qs_meaning.proofs.TypedValues.{all_at, number_is_of, converted_is_of, unary_is_of, operation_is_of, updated_is_of, variables_later, no_values_are_of, with_value_are_of, moment_later, moment_stepped, moment_assigned, now, onward_from, PlaceIsOf, read_is_of}
 
 module _ (R : Relation) (keeps : Keeps R) (shorts : R short short) (i : Interface) where
   given_in_range : {A : Type 0} (o : Option A) (f g : A → RootRun) → ((a : A) → o ≡ Some a → R (f a) (g a)) → R (given o f) (given o g)
@@ -151,7 +152,7 @@ module _ (R : Relation) (keeps : Keeps R) (shorts : R short short) (i : Interfac
 
     becomes_is_of : (n : Memory) (a : Expr) (e : Conversion) (s : Scalar) (x y : Value) → becomes e a s ≡ true → IsOf n (type_of a) x → convert_by e x ≡ Some y → IsOf n s y
     becomes_is_of n a e s x y fit of h =
-        subst (λ (t : Scalar). IsOf n t y) (scalar_same _ s (both_hold (conversion_fits e (type_of a) (is_null a)) _ fit).1) (converted_is_of e (type_of a) n x y of h)
+        subst (λ (t : Scalar). IsOf n t y) (scalar_same _ s (and_parts (conversion_fits e (type_of a) (is_null a)) _ fit).1) (converted_is_of e (type_of a) n x y of h)
 
     mutual
       expression_in_range : (a : Expr) → expr_fits i g a ≡ true → (start : Memory) (k j : Value → Next) → Values start (type_of a) k j
@@ -163,12 +164,12 @@ module _ (R : Relation) (keeps : Keeps R) (shorts : R short short) (i : Interfac
       expression_in_range (pointer_to o) fit start k j h v w is =
           h (address (pointer_at o first)) v w is (record { typed = refl; sound = object_sound start v w is o fit })
       expression_in_range (member offset a) fit start k j h v w is =
-          let two = both_hold (expr_fits i g a) _ fit in
+          let two = and_parts (expr_fits i g a) _ fit in
           expression_in_range a two.0 start _ _ (λ x v w is of. given_in_range (as_pointer x >>= λ p. member_of w.memory p offset) _ _ (λ q e.
           let f = followed (as_pointer x) _ q e in
           h (address q) v w is (record { typed = refl; sound = values_are_sound.member w.memory f.value q offset f.then }))) v w is
       expression_in_range (called s f es) fit start k j h v w is =
-          let two = both_hold (arguments_fit i g (taken (signature_of i f)) es) _ fit in
+          let two = and_parts (arguments_fit i g (taken (signature_of i f)) es) _ fit in
           let result = result_there (signature_of i f) s two.1 in
           arguments_in_range (taken (signature_of i f)) es two.0 start _ _ (λ xs v w is are.
           invoke_in_range f xs _ _ w result.0 are is.range.ready (λ o x r. given_in_range o _ _ (λ y e.
@@ -176,26 +177,26 @@ module _ (R : Relation) (keeps : Keeps R) (shorts : R short short) (i : Interfac
           (used_result x.memory (result_type_of (signature_of i f)) s y result.1
           (subst (λ (z : Option Value). ResultIsOf x.memory (result_type_of (signature_of i f)) z) e r.typed))))) v w is
       expression_in_range (stepped_after s l op left back) fit start k j h v w is =
-          let two = both_hold (lvalue_fits i g s l) _ fit in
-          let three = both_hold (conversion_fits left s false) _ two.1 in
-          let four = both_hold (binary_takes op (type_after left s) (amount_type op)) _ three.1 in
-          let five = both_hold (conversion_fits back _ false) _ four.1 in
+          let two = and_parts (lvalue_fits i g s l) _ fit in
+          let three = and_parts (conversion_fits left s false) _ two.1 in
+          let four = and_parts (binary_takes op (type_after left s) (amount_type op)) _ three.1 in
+          let five = and_parts (conversion_fits back _ false) _ four.1 in
           lvalue_in_range l s two.0 start _ _ (λ p v w is place. given_in_range (read s p v w) _ _ (λ x e.
           let of = read_is_of i g first s p start v w x place is e in
           given_in_range (updated_value op left unchanged back w.memory x step_amount) _ _ (λ y f.
           let new = subst (λ (t : Scalar). IsOf w.memory t y) (scalar_same _ s five.1) (updated_is_of op left unchanged back w.memory x step_amount y of.sound (omega arith) f) in
           write_in_range s p y _ _ start v w place new is (λ v' w' is' after. h x v' w' is' (is_of_later w.memory w'.memory s x after of))))) v w is
       expression_in_range (unary op e a) fit start k j h v w is =
-          let two = both_hold (expr_fits i g a) _ fit in
+          let two = and_parts (expr_fits i g a) _ fit in
           expression_in_range a two.0 start _ _ (λ x v w is of. given_in_range (convert_by e x >>= λ x. apply_unary op w.memory x) _ _ (λ y f.
           h y v w is (unary_is_of op e w.memory x y of.sound f))) v w is
       expression_in_range (cast e a) fit start k j h v w is =
-          let two = both_hold (expr_fits i g a) _ fit in
+          let two = and_parts (expr_fits i g a) _ fit in
           expression_in_range a two.0 start _ _ (λ x v w is of. given_in_range (convert_by e x) _ _ (λ y f.
           h y v w is (converted_is_of e (type_of a) w.memory x y of f))) v w is
       expression_in_range (binary op order left right a b) fit start k j h v w is =
-          let two = both_hold (expr_fits i g a && expr_fits i g b) _ fit in
-          let parts = both_hold (expr_fits i g a) _ two.0 in
+          let two = and_parts (expr_fits i g a && expr_fits i g b) _ fit in
+          let parts = and_parts (expr_fits i g a) _ two.0 in
           expression_in_range a parts.0 start _ _ (λ x v w is of.
           expression_in_range b parts.1 w.memory _ _ (λ y v' w' is' of'.
           given_in_range (operation_value op order left right w'.memory x y) _ _ (λ z e.
@@ -203,22 +204,22 @@ module _ (R : Relation) (keeps : Keeps R) (shorts : R short short) (i : Interfac
           (operation_is_of op order left right w'.memory x y z (is_of_later w.memory w'.memory (type_of a) x is'.after of).sound of'.sound e)))
           v w (now i g first start v w is)) v w is
       expression_in_range (logical_and a b) fit start k j h v w is =
-          let two = both_hold (expr_fits i g a) _ fit in
+          let two = and_parts (expr_fits i g a) _ fit in
           expression_in_range a two.0 start _ _ (λ x v w is of. test_in_range x _ _ _ _ v w
           (expression_in_range b two.1 start _ _ (λ y v w is of. test_in_range y _ _ _ _ v w
           (h (integer 1) v w is (truth_number w.memory 1 (omega arith))) (h (integer 0) v w is (truth_number w.memory 0 (omega arith)))) v w is)
           (h (integer 0) v w is (truth_number w.memory 0 (omega arith)))) v w is
       expression_in_range (logical_or a b) fit start k j h v w is =
-          let two = both_hold (expr_fits i g a) _ fit in
+          let two = and_parts (expr_fits i g a) _ fit in
           expression_in_range a two.0 start _ _ (λ x v w is of. test_in_range x _ _ _ _ v w
           (h (integer 1) v w is (truth_number w.memory 1 (omega arith)))
           (expression_in_range b two.1 start _ _ (λ y v w is of. test_in_range y _ _ _ _ v w
           (h (integer 1) v w is (truth_number w.memory 1 (omega arith))) (h (integer 0) v w is (truth_number w.memory 0 (omega arith)))) v w is)) v w is
       expression_in_range (conditional s a second third b e) fit start k j h v w is =
-          let two = both_hold (expr_fits i g a) _ fit in
-          let branches = both_hold (expr_fits i g b && becomes second b s) _ two.1 in
-          let one = both_hold (expr_fits i g b) _ branches.0 in
-          let other = both_hold (expr_fits i g e) _ branches.1 in
+          let two = and_parts (expr_fits i g a) _ fit in
+          let branches = and_parts (expr_fits i g b && becomes second b s) _ two.1 in
+          let one = and_parts (expr_fits i g b) _ branches.0 in
+          let other = and_parts (expr_fits i g e) _ branches.1 in
           expression_in_range a two.0 start _ _ (λ x v w is of. test_in_range x _ _ _ _ v w
           (expression_in_range b one.0 start _ _ (λ y v w is of. given_in_range (convert_by second y) _ _ (λ z f.
           h z v w is (becomes_is_of w.memory b second s y z one.1 of f))) v w is)
@@ -226,7 +227,7 @@ module _ (R : Relation) (keeps : Keeps R) (shorts : R short short) (i : Interfac
           h z v w is (becomes_is_of w.memory e third s y z other.1 of f))) v w is)) v w is
       expression_in_range (assigned a) fit start k j h v w is = assignment_in_range a fit start k j h v w is
       expression_in_range (sequence a b) fit start k j h v w is =
-          let two = both_hold (effect_fits i g a) _ fit in
+          let two = and_parts (effect_fits i g a) _ fit in
           effect_in_range a two.0 start _ _ (expression_in_range b two.1 start k j h) v w is
 
       lvalue_in_range : (l : Lvalue) (s : Scalar) → lvalue_fits i g s l ≡ true → (start : Memory) (k j : Place → Next)
@@ -234,7 +235,7 @@ module _ (R : Relation) (keeps : Keeps R) (shorts : R short short) (i : Interfac
           → Nexts start (lvalue l here k) (lvalue l there j)
       lvalue_in_range (variable x) s fit start k j h v w is = h (in_variable x) v w is (type_is (slice_get g.variables x) s fit)
       lvalue_in_range (object a) s fit start k j h v w is =
-          let two = both_hold (expr_fits i g a) _ fit in
+          let two = and_parts (expr_fits i g a) _ fit in
           expression_in_range a two.0 start _ _ (λ x v w is of. h (in_object x) v w is tt) v w is
 
       arguments_in_range : (types : List Scalar) (es : Arguments) → arguments_fit i g types es ≡ true → (start : Memory) (k j : List Value → Next)
@@ -244,8 +245,8 @@ module _ (R : Relation) (keeps : Keeps R) (shorts : R short short) (i : Interfac
       arguments_in_range [] (argument_and e a es) fit start k j h v w is = cc
       arguments_in_range (s ∷ types) no_arguments fit start k j h v w is = cc
       arguments_in_range (s ∷ types) (argument_and e a es) fit start k j h v w is =
-          let two = both_hold (expr_fits i g a && becomes e a s) _ fit in
-          let one = both_hold (expr_fits i g a) _ two.0 in
+          let two = and_parts (expr_fits i g a && becomes e a s) _ fit in
+          let one = and_parts (expr_fits i g a) _ two.0 in
           expression_in_range a one.0 start _ _ (λ x v w is of.
           arguments_in_range types es two.1 w.memory _ _ (λ ys v' w' is' are. given_in_range (convert_by e x) _ _ (λ y f.
           h (y ∷ ys) v' w' (onward_from i g first start w.memory v' w' is.after is')
@@ -255,18 +256,18 @@ module _ (R : Relation) (keeps : Keeps R) (shorts : R short short) (i : Interfac
       assignment_in_range : (a : Assignment) → assignment_fits i g a ≡ true → (start : Memory) (k j : Value → Next) → Values start (assigned_type a) k j
           → Nexts start (assignment a here k) (assignment a there j)
       assignment_in_range (set s l e a) fit start k j h v w is =
-          let two = both_hold (lvalue_fits i g s l) _ fit in
-          let one = both_hold (expr_fits i g a) _ two.1 in
+          let two = and_parts (lvalue_fits i g s l) _ fit in
+          let one = and_parts (expr_fits i g a) _ two.1 in
           lvalue_in_range l s two.0 start _ _ (λ p v w is place.
           expression_in_range a one.0 start _ _ (λ x v w is of. given_in_range (convert_by e x) _ _ (λ y f.
           let new = becomes_is_of w.memory a e s x y one.1 of f in
           write_in_range s p y _ _ start v w place new is (λ v' w' is' after. h y v' w' is' (is_of_later w.memory w'.memory s y after new)))) v w is) v w is
       assignment_in_range (update s l op left right back a) fit start k j h v w is =
-          let two = both_hold (lvalue_fits i g s l && expr_fits i g a) _ fit in
-          let one = both_hold (lvalue_fits i g s l) _ two.0 in
-          let three = both_hold (conversion_fits left s false && conversion_fits right (type_of a) (is_null a)) _ two.1 in
-          let four = both_hold (binary_takes op (type_after left s) (type_after right (type_of a))) _ three.1 in
-          let five = both_hold (conversion_fits back _ false) _ four.1 in
+          let two = and_parts (lvalue_fits i g s l && expr_fits i g a) _ fit in
+          let one = and_parts (lvalue_fits i g s l) _ two.0 in
+          let three = and_parts (conversion_fits left s false && conversion_fits right (type_of a) (is_null a)) _ two.1 in
+          let four = and_parts (binary_takes op (type_after left s) (type_after right (type_of a))) _ three.1 in
+          let five = and_parts (conversion_fits back _ false) _ four.1 in
           lvalue_in_range l s one.0 start _ _ (λ p v w is place. given_in_range (read s p v w) _ _ (λ x e.
           let old = read_is_of i g first s p start v w x place is e in
           expression_in_range a one.1 w.memory _ _ (λ y v' w' is' of. given_in_range (updated_value op left right back w'.memory x y) _ _ (λ z f.
@@ -281,13 +282,13 @@ module _ (R : Relation) (keeps : Keeps R) (shorts : R short short) (i : Interfac
       effect_in_range (discard a) fit start k j h v w is = expression_in_range a fit start _ _ (λ x v w is of. h v w is) v w is
       effect_in_range (assign a) fit start k j h v w is = assignment_in_range a fit start _ _ (λ x v w is of. h v w is) v w is
       effect_in_range (perform f es) fit start k j h v w is =
-          let two = both_hold (is_some (signature_of i f)) _ fit in
+          let two = and_parts (is_some (signature_of i f)) _ fit in
           arguments_in_range (taken (signature_of i f)) es two.1 start _ _ (λ xs v w is are.
           invoke_in_range f xs _ _ w two.0 are is.range.ready (λ o x r. h v x (returned_moment start v w x (result_type_of (signature_of i f)) o is r))) v w is
       effect_in_range (copy size alignment a b) fit start k j h v w is =
-          let two = both_hold (expr_fits i g a && is_pointer (type_of a)) _ fit in
-          let one = both_hold (expr_fits i g a) _ two.0 in
-          let other = both_hold (expr_fits i g b) _ (both_hold (expr_fits i g b && is_pointer (type_of b)) _ two.1).0 in
+          let two = and_parts (expr_fits i g a && is_pointer (type_of a)) _ fit in
+          let one = and_parts (expr_fits i g a) _ two.0 in
+          let other = and_parts (expr_fits i g b) _ (and_parts (expr_fits i g b && is_pointer (type_of b)) _ two.1).0 in
           expression_in_range a one.0 start _ _ (λ x v w is of. expression_in_range b other.0 start _ _ (λ y v w is of.
           given_in_range (as_pointer x >>= λ to. as_pointer y >>= λ from. blocks.copy size alignment w.memory to from) _ _ (λ n e.
           let to = followed (as_pointer x) _ n e in
@@ -295,13 +296,13 @@ module _ (R : Relation) (keeps : Keeps R) (shorts : R short short) (i : Interfac
           h v (with_memory w n) (moment_stepped i g first start v w n is (memory_goes_on.copy size alignment w.memory n to.value from.value from.then)
           (soundness_is_kept.copy size alignment w.memory n to.value from.value is.range.ready.sound from.then)))) v w is) v w is
       effect_in_range (fill blank a) fit start k j h v w is =
-          let two = both_hold (expr_fits i g a) _ fit in
+          let two = and_parts (expr_fits i g a) _ fit in
           expression_in_range a two.0 start _ _ (λ x v w is of. given_in_range (as_pointer x >>= λ p. blocks.fill blank w.memory p) _ _ (λ n e.
           let p = followed (as_pointer x) _ n e in
           h v (with_memory w n) (moment_stepped i g first start v w n is (memory_goes_on.fill blank w.memory n p.value p.then)
           (soundness_is_kept.fill blank w.memory n p.value is.range.ready.sound p.then)))) v w is
       effect_in_range (in_order a b) fit start k j h v w is =
-          let two = both_hold (effect_fits i g a) _ fit in
+          let two = and_parts (effect_fits i g a) _ fit in
           effect_in_range a two.0 start _ _ (effect_in_range b two.1 start k j h) v w is
 
     -- ---- statements
@@ -330,7 +331,7 @@ module _ (R : Relation) (keeps : Keeps R) (shorts : R short short) (i : Interfac
         → Nexts start (expression a here (λ x v w. given (convert_by e x) (λ y. k (Some y) w))) (expression a there (λ x v w. given (convert_by e x) (λ y. j (Some y) w)))
     returned_in_range e a None fit start k j h v w is = cc
     returned_in_range e a (Some s) fit start k j h v w is =
-        let two = both_hold (expr_fits i g a) _ fit in
+        let two = and_parts (expr_fits i g a) _ fit in
         expression_in_range a two.0 start _ _ (λ x v w is of. given_in_range (convert_by e x) _ _ (λ y f.
         h (Some y) w (record { typed = becomes_is_of w.memory a e s x y two.1 of f; ready = is.range.ready; after = is.after }))) v w is
 
@@ -340,21 +341,21 @@ module _ (R : Relation) (keeps : Keeps R) (shorts : R short short) (i : Interfac
       statement_in_range b (evaluate a) fit start t u h v w is = effect_in_range a fit start _ _ h.behind v w is
       statement_in_range b (block ss) fit start t u h v w is = statements_in_range b ss fit start t u h v w is
       statement_in_range b (branch e p q) fit start t u h v w is =
-          let two = both_hold (expr_fits i g e) _ fit in
-          let parts = both_hold (stmt_fits i g b p) _ two.1 in
+          let two = and_parts (expr_fits i g e) _ fit in
+          let parts = and_parts (stmt_fits i g b p) _ two.1 in
           condition_in_range e two.0 start _ _ _ _ (statement_in_range b p parts.0 start t u h) (statement_in_range b q parts.1 start t u h) v w is
       statement_in_range b (while_loop e p) fit start t u h v w is =
-          let two = both_hold (expr_fits i g e) _ fit in
+          let two = and_parts (expr_fits i g e) _ fit in
           turns_in_range m start _ _ (λ k l f. condition_in_range e two.0 start _ _ _ _
           (statement_in_range true p two.1 start _ _ (loop_in_range start t u h k l f)) h.behind) v w is
       statement_in_range b (do_loop p e) fit start t u h v w is =
-          let two = both_hold (stmt_fits i g true p) _ fit in
+          let two = and_parts (stmt_fits i g true p) _ fit in
           turns_in_range m start _ _ (λ k l f. statement_in_range true p two.0 start _ _
           (loop_in_range start t u h _ _ (condition_in_range e two.1 start _ _ _ _ f h.behind))) v w is
       statement_in_range b (for_loop begin e step p) fit start t u h v w is =
-          let two = both_hold (effect_fits i g begin) _ fit in
-          let three = both_hold (option_fits i g e) _ two.1 in
-          let four = both_hold (effect_fits i g step) _ three.1 in
+          let two = and_parts (effect_fits i g begin) _ fit in
+          let three = and_parts (option_fits i g e) _ two.1 in
+          let four = and_parts (effect_fits i g step) _ three.1 in
           effect_in_range begin two.0 start _ _ (turns_in_range m start _ _ (λ k l f.
           for_condition_in_range e three.0 start _ _ _ _
           (statement_in_range true p four.1 start _ _ (loop_in_range start t u h _ _ (effect_in_range step four.0 start k l f))) h.behind)) v w is
@@ -367,7 +368,7 @@ module _ (R : Relation) (keeps : Keeps R) (shorts : R short short) (i : Interfac
           → Nexts start (statements ss here t) (statements ss there u)
       statements_in_range b no_stmts fit start t u h v w is = h.behind v w is
       statements_in_range b (stmt_and s ss) fit start t u h v w is =
-          let two = both_hold (stmt_fits i g b s) _ fit in
+          let two = and_parts (stmt_fits i g b s) _ fit in
           statement_in_range b s two.0 start _ _
           (record { behind = statements_in_range b ss two.1 start t u h; at_break = h.at_break; at_continue = h.at_continue; at_return = h.at_return }) v w is
 
@@ -425,7 +426,7 @@ module _ (R : Relation) (keeps : Keeps R) (shorts : R short short) (i : Interfac
     pass_in_range n (p ∷ ps) [] ys v w k j from fit are is h = cc
     pass_in_range n (p ∷ ps) (s ∷ vs) [] v w k j from fit are is h = absurd are
     pass_in_range n (p ∷ ps) (s ∷ vs) (y ∷ ys) v w k j from fit are is h =
-        let two = both_hold (place_fits g.blocks n s p) _ fit in
+        let two = and_parts (place_fits g.blocks n s p) _ fit in
         one_passed n s p ps y ys v w k j two.0 (type_from n s vs from) are.0 is (λ v x on passed.
         pass_in_range (n + 1) ps vs ys v x k j (next_from n s vs from) two.1 (are_of_later w.memory x.memory (types_of ps vs) ys on are.1) passed h)
 
@@ -452,8 +453,8 @@ module _ (R : Relation) (keeps : Keeps R) (shorts : R short short) (i : Interfac
   calls_in_range fs same all m (suc depth) f xs k j w may h = given_in_range (slice_get fs f) _ _ (λ g is.
       let known : slice_get i.functions f ≡ Some (signature g) = ap (λ z. slice_get z f) same ∙ (slice_get-map signature fs f ∙ ap (option_map signature) is) in
       let fit = all_at (function_fits i) fs f g all is in
-      let two = both_hold (parameters_placed g.blocks 0 g.parameters g.variables) _ fit in
-      let body = both_hold (end_fits g) _ two.1 in
+      let two = and_parts (parameters_placed g.blocks 0 g.parameters g.variables) _ fit in
+      let body = and_parts (end_fits g) _ two.1 in
       let first : ℕ = length w.memory in
       let n : Memory = make g.blocks w.memory in
       let on = after_make g.blocks w.memory in
@@ -469,7 +470,7 @@ module _ (R : Relation) (keeps : Keeps R) (shorts : R short short) (i : Interfac
         blocks = omega (arith, count);
       })
       (λ v x passed.
-      statements_in_range m _ _ (calls_in_range fs same all m depth) g first false g.body (both_hold (stmts_fit i g false g.body) _ body.1).0 w.memory _ _
+      statements_in_range m _ _ (calls_in_range fs same all m depth) g first false g.body (and_parts (stmts_fit i g false g.body) _ body.1).0 w.memory _ _
       (record {
         behind = λ v x moment. keeps.emit _ _ _ (returns (result_at_end g.is_main) _ (returned_later g.result w.memory first (result_at_end g.is_main) x
             (record { typed = end_is_of x.memory g.is_main g.result body.0; ready = moment.range.ready; after = moment.after })));
@@ -521,7 +522,7 @@ runs_leave_sound u root xs w n left fits may is =
 extents_there : (bs : List StaticBlock) (b : ℕ) (d : DataExtent) → slice_get (map data_extent bs) b ≡ Some d → IsDataExtent (map block_of bs) b d
 extents_there [] b d h = cc
 extents_there (x ∷ xs) zero d h =
-    let same = some_same (data_extent x) d h in
+    let same = same_Some (data_extent x) d h in
     subst (λ (z : DataExtent). IsDataExtent (map block_of (x ∷ xs)) zero z) same (record { size = refl; writable = refl })
 extents_there (x ∷ xs) (suc b) d h = let r = extents_there xs b d h in record { size = r.size; writable = r.writable }
 

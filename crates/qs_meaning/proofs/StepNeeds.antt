@@ -1,6 +1,6 @@
 -- Steps on values of the types that they take are defined exactly where nothing of the nine cases is met.
 use Rattle.std.proofs.Common.{◌≡◌, ◌↔◌, ℕ, ◌==◌, ◌&&◌, ◌||◌, not, nat_lt, nat_le, Bool, true, false, ℤ, pos, ◌-ℤ◌, ◌*ℤ◌, Option, Some, IsSome, refl, sym, ap, subst, arith}
-use Rattle.std.proofs.lemmas.Bool.{eq-eqb}
+use Rattle.std.proofs.lemmas.Bool.{eq-eqb, and_parts}
 use Rattle.std.proofs.lemmas.Bool.Decides.{nat_tests}
 use Rattle.qs_memory.specs.declared.scalar.Scalar.{Scalar}
 use Rattle.qs_memory.specs.declared.scalar.Scalar.TheVariants as scalars
@@ -34,7 +34,6 @@ use Rattle.qs_meaning.specs.Typed.{Conversion, unchanged, converted}
 use Rattle.qs_meaning.specs.Fits.{conversion_fits}
 use Rattle.qs_meaning.specs.States.{convert_by}
 use Rattle.qs_meaning.specs.StepLaws.{calculates, IsTested, AreCompared, AreSubtracted, MovesTo, UnaryNeeds, BinaryNeeds, StepsOnTypesAreDefined}
-use Rattle.qs_meaning.proofs.TypedValues.{both_hold}
 
 -- ---- values of types
 
@@ -72,9 +71,9 @@ neither false false e = (refl, refl)
 conversion_defined : (c : Conversion) (s : Scalar) (m : Memory) (x : Value) → conversion_fits c s false ≡ true → IsOf m s x → IsSome (convert_by c x)
 conversion_defined unchanged s m x fit of = refl
 conversion_defined (converted from to) s m (integer n) fit of =
-    let two = both_hold (same_scalar from s) _ fit in converts_integer to n (neither (is_pointer from) (is_pointer to) two.1).1
+    let two = and_parts (same_scalar from s) _ fit in converts_integer to n (neither (is_pointer from) (is_pointer to) two.1).1
 conversion_defined (converted from to) s m (address p) fit of =
-    let two = both_hold (same_scalar from s) _ fit in
+    let two = and_parts (same_scalar from s) _ fit in
     let none = is_integer_at m from p (neither (is_pointer from) (is_pointer to) two.1).0
     (subst (λ (t : Scalar). has_type t (address p) ≡ true) (sym (scalar_same from s two.0)) of.typed) in
     cc
@@ -236,25 +235,25 @@ binary_defined : (op : BinaryOperation) (s t : Scalar) (m : Memory) (x y : Value
     → IsSome (apply_binary op m x y) ↔ BinaryNeeds op m x y
 binary_defined (binaries.Arithmetic op n) s t m (integer x) (integer y) fit of og = arithmetic_defined op n m x y
 binary_defined (binaries.Arithmetic op n) s t m (integer x) (address q) fit of og =
-    let e = second_no_address op m n t q (both_hold (same_scalar s (integer_type n)) _ fit).1 og.typed in cc
+    let e = second_no_address op m n t q (and_parts (same_scalar s (integer_type n)) _ fit).1 og.typed in cc
 binary_defined (binaries.Arithmetic op n) s t m (address p) y fit of og =
-    let e = no_address m s (integer_type n) p (word_is_integer n) (both_hold (same_scalar s (integer_type n)) _ fit).0 of.typed in cc
+    let e = no_address m s (integer_type n) p (word_is_integer n) (and_parts (same_scalar s (integer_type n)) _ fit).0 of.typed in cc
 binary_defined (binaries.Compare op n) s t m (integer x) (integer y) fit of og = (λ h. tt, λ h. refl)
 binary_defined (binaries.Compare op n) s t m (integer x) (address q) fit of og =
-    let e = no_address m t (integer_type n) q (word_is_integer n) (both_hold (same_scalar s (integer_type n)) _ fit).1 og.typed in cc
+    let e = no_address m t (integer_type n) q (word_is_integer n) (and_parts (same_scalar s (integer_type n)) _ fit).1 og.typed in cc
 binary_defined (binaries.Compare op n) s t m (address p) y fit of og =
-    let e = no_address m s (integer_type n) p (word_is_integer n) (both_hold (same_scalar s (integer_type n)) _ fit).0 of.typed in cc
+    let e = no_address m s (integer_type n) p (word_is_integer n) (and_parts (same_scalar s (integer_type n)) _ fit).0 of.typed in cc
 binary_defined (binaries.Move direction n element) s t m (integer x) y fit of og =
-    let e = no_integer s x (both_hold (is_pointer s) _ (both_hold (is_pointer s && same_scalar t (integer_type n)) _ fit).0).0 of.typed in cc
+    let e = no_integer s x (and_parts (is_pointer s) _ (and_parts (is_pointer s && same_scalar t (integer_type n)) _ fit).0).0 of.typed in cc
 binary_defined (binaries.Move direction n element) s t m (address p) (integer y) fit of og = move_defined m p (directed direction (reading n y *ℤ pos element))
 binary_defined (binaries.Move direction n element) s t m (address p) (address q) fit of og =
-    let e = no_address m t (integer_type n) q (word_is_integer n) (both_hold (is_pointer s) _ (both_hold (is_pointer s && same_scalar t (integer_type n)) _ fit).0).1 og.typed in cc
-binary_defined (binaries.Difference element) s t m (integer x) y fit of og = let e = no_integer s x (both_hold (is_pointer s) _ (both_hold (is_pointer s && is_pointer t) _ fit).0).0 of.typed in cc
+    let e = no_address m t (integer_type n) q (word_is_integer n) (and_parts (is_pointer s) _ (and_parts (is_pointer s && same_scalar t (integer_type n)) _ fit).0).1 og.typed in cc
+binary_defined (binaries.Difference element) s t m (integer x) y fit of og = let e = no_integer s x (and_parts (is_pointer s) _ (and_parts (is_pointer s && is_pointer t) _ fit).0).0 of.typed in cc
 binary_defined (binaries.Difference element) s t m (address p) (integer y) fit of og =
-    let e = no_integer t y (both_hold (is_pointer s) _ (both_hold (is_pointer s && is_pointer t) _ fit).0).1 og.typed in cc
+    let e = no_integer t y (and_parts (is_pointer s) _ (and_parts (is_pointer s && is_pointer t) _ fit).0).1 og.typed in cc
 binary_defined (binaries.Difference element) s t m (address p) (address q) fit of og = difference_defined element m p q
-binary_defined (binaries.ComparePointers op) s t m (integer x) y fit of og = let e = no_integer s x (both_hold (is_pointer s) _ fit).0 of.typed in cc
-binary_defined (binaries.ComparePointers op) s t m (address p) (integer y) fit of og = let e = no_integer t y (both_hold (is_pointer s) _ fit).1 og.typed in cc
+binary_defined (binaries.ComparePointers op) s t m (integer x) y fit of og = let e = no_integer s x (and_parts (is_pointer s) _ fit).0 of.typed in cc
+binary_defined (binaries.ComparePointers op) s t m (address p) (integer y) fit of og = let e = no_integer t y (and_parts (is_pointer s) _ fit).1 og.typed in cc
 binary_defined (binaries.ComparePointers op) s t m (address p) (address q) fit of og = comparison_defined op m p q
 
 pub steps_on_types_are_defined : StepsOnTypesAreDefined

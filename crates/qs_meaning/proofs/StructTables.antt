@@ -1,6 +1,8 @@
 -- What is known at file scope goes on holding where structs are declared and defined.
 use Rattle.std.proofs.Common.{◌≡◌, ◌≤◌, ◌⊎◌, inl, inr, ℕ, zero, suc, Bool, true, false, ◌&&◌, List, [], ◌∷◌, ◌++◌, Option, Some, None, is_some, slice_set, refl, sym, ap, ◌∙◌, subst, arith, if◌then◌else◌}
 use Rattle.std.specs.List.{list_all, slice_get}
+use Rattle.std.specs.Cmp.{first_so, second_so}
+use Rattle.std.proofs.lemmas.Option.{same_Some}
 use Rattle.qs_syntax.specs.Trees.{StructTree}
 use Rattle.qs_types.specs.declared.extent.Extent.{Extent}
 use Rattle.qs_types.specs.Types.{TypeTree, int, unsigned, char, void, pointer, array, struct, MemberTree, Structs}
@@ -9,7 +11,7 @@ use Rattle.qs_types.specs.Layout.{and_then, StructLayout, Layouts, array_extent,
 use Rattle.qs_types.specs.Contexts.{Entity, local_variable, file_variable, function, given, Binding, Context, tag_place}
 use Rattle.qs_types.specs.UnitRules.{with_tag, no_members, after_members, has_no_members, define_at, after_struct}
 use Rattle.qs_meaning.specs.TypedLaws.{EntityTyped, AllTyped, IsFileScope}
-use Rattle.qs_meaning.proofs.Options.{never, nothing, same, left, right, known, went}
+use Rattle.qs_meaning.proofs.Options.{never, nothing, known, went}
 use Rattle.qs_meaning.proofs.Bodies.{sized_extent}
 
 -- ---- a table that goes on: structs that have members keep them
@@ -66,7 +68,7 @@ complete_grows structs more g t e =
 members_grow : (structs more : Structs) → GoesOn structs more → (ms : List MemberTree) → list_all (λ m. is_complete structs m.type) ms ≡ true → list_all
     (λ m. is_complete more m.type) ms ≡ true
 members_grow structs more g [] e = refl
-members_grow structs more g (m ∷ ms) e = both _ _ (complete_grows structs more g m.type (left _ _ e)) (members_grow structs more g ms (right (is_complete structs m.type) _ e))
+members_grow structs more g (m ∷ ms) e = both _ _ (complete_grows structs more g m.type (first_so _ _ e)) (members_grow structs more g ms (second_so (is_complete structs m.type) _ e))
   where
     both : (x y : Bool) → x ≡ true → y ≡ true → (x && y) ≡ true
     both true y e f = f
@@ -150,7 +152,7 @@ pub set_back : (structs : Structs) (k : ℕ) (new : List MemberTree) → struct_
     (slice_set structs k (Some new)) j ≡ Some ms
     → (struct_of structs j ≡ Some ms) ⊎ IsNew structs k new ms
 set_back [] k new n j ms e = nothing ms e
-set_back (x ∷ xs) zero new n zero ms e = inr (record { is = same new ms e; count = first_count x xs new n })
+set_back (x ∷ xs) zero new n zero ms e = inr (record { is = same_Some new ms e; count = first_count x xs new n })
 set_back (x ∷ xs) zero new n (suc j) ms e = inl e
 set_back (x ∷ xs) (suc k) new n zero ms e = inl e
 set_back (x ∷ xs) (suc k) new n (suc j) ms e = go (set_back xs k new n j ms e)

@@ -1,6 +1,8 @@
 -- Where an expression has a type, it has a typed tree.
 use Rattle.std.proofs.Common.{◌≡◌, ◌⊎◌, inl, inr, ℕ, suc, ◌==◌, Bool, true, false, not, ◌&&◌, ◌||◌, List, [], ◌∷◌, Option, Some, None, is_some, length, refl, sym, ap, ◌∙◌, subst, arith, if◌then◌else◌}
-use Rattle.std.proofs.lemmas.Bool.{eqb-true}
+use Rattle.std.proofs.lemmas.Bool.{eqb-true, or_cases, not-false, or_left, or_right, and_from}
+use Rattle.std.specs.Cmp.{first_so, second_so}
+use Rattle.std.proofs.lemmas.Option.{same_Some}
 use Rattle.qs_syntax.specs.declared.nodes.Node.{Node}
 use Rattle.qs_syntax_vocabulary.specs.declared.operators.UnaryOperator.{UnaryOperator}
 use Rattle.qs_syntax_vocabulary.specs.declared.operators.UnaryOperator.TheVariants as unaries
@@ -31,7 +33,7 @@ use Rattle.qs_meaning.specs.Forms.{Form, lvalue, TypedExpr, lvalue_of, address_i
 use Rattle.qs_meaning.specs.Names.{Scope, place_among, local_lvalue, entity_lvalue, Designator, entity_designated}
 use Rattle.qs_meaning.specs.Expressions.{object_at, operated, operator_value, arguments_of, call_form, member_offset, member_form, set_form, struct_form, plain_form, compound_form, assign_form, one, step_after_form, step_form, unary_form, size_form, operator_form, binary_form, typed, form_of, all_typed}
 use Rattle.qs_meaning.specs.TypedLaws.{IsReady, are_placed, TypedWhereTypes}
-use Rattle.qs_meaning.proofs.Options.{never, left, right, either, all_left, all_right, nothing, same, went, goes, Known, known, onward}
+use Rattle.qs_meaning.proofs.Options.{never, all_left, all_right, nothing, went, goes, Known, known, onward}
 use Rattle.qs_meaning.proofs.CompleteTypes.{struct_is_large, same_is_struct, summed_known, subtracted_known, member_offset_known, member_complete, has_members_is_large}
 
 -- ---- tests that aren't broken
@@ -48,10 +50,6 @@ pub unbroken_right : (x y : Bool) → (x || y) ≡ false → y ≡ false
 unbroken_right true y e = never (sym e)
 unbroken_right false y e = e
 
-pub not_true : (b : Bool) → not b ≡ false → b ≡ true
-not_true true e = refl
-not_true false e = never (sym e)
-
 pub record Unless (ts : List Test) (t u : TypeTree) : Type 0 where
   pub unbroken : breaks_one ts ≡ false
   pub type : t ≡ u
@@ -61,7 +59,7 @@ unless ts t u e = go (breaks_one ts) refl e
   where
     go : (b : Bool) → breaks_one ts ≡ b → (if b then None else Some t) ≡ Some u → Unless ts t u
     go true h e = nothing u e
-    go false h e = record { unbroken = h; type = same t u e }
+    go false h e = record { unbroken = h; type = same_Some t u e }
 
 -- ---- forms
 
@@ -120,9 +118,9 @@ name_stands : (s : Scope) (o : Option Entity) (j : Judged)
     → ((node : ℕ) (t : TypeTree) → o ≡ Some (local_variable node (Some t)) → is_complete s.context.structs t ≡ true)
     → ((node : ℕ) (t : TypeTree) → o ≡ Some (file_variable node (Some t)) → is_complete s.context.structs t ≡ true)
     → name_judged o ≡ Some j → breaks_one j.tests ≡ false → Stands s ((o >>= entity_lvalue s) >>= λ l. Some (lvalue l)) true (local_node o) j.type
-name_stands s None j placed complete file e h = by_judged j _ (same _ _ e) h (λ h. never (sym h))
+name_stands s None j placed complete file e h = by_judged j _ (same_Some _ _ e) h (λ h. never (sym h))
 name_stands s (Some (local_variable node None)) j placed complete file e h = nothing j e
-name_stands s (Some (local_variable node (Some t))) j placed complete file e h = by_judged j _ (same _ _ e) h (λ h. record {
+name_stands s (Some (local_variable node (Some t))) j placed complete file e h = by_judged j _ (same_Some _ _ e) h (λ h. record {
   form = lvalue (local_lvalue s.locals node);
   is = refl;
   place = λ _. record {
@@ -130,13 +128,13 @@ name_stands s (Some (local_variable node (Some t))) j placed complete file e h =
     is = refl;
     complete = complete node t refl;
     large = λ f. local_address (is_one_of node s.locals.placed) (place_among node s.locals.placed) (place_among node s.locals.variables) (placed node t refl f);
-    taken = λ f. local_address (is_one_of node s.locals.placed) (place_among node s.locals.placed) (place_among node s.locals.variables) (left _ _ f);
+    taken = λ f. local_address (is_one_of node s.locals.placed) (place_among node s.locals.placed) (place_among node s.locals.variables) (first_so _ _ f);
   };
 })
 name_stands s (Some (file_variable node None)) j placed complete file e h = nothing j e
-name_stands s (Some (file_variable node (Some t))) j placed complete file e h = by_judged j _ (same _ _ e) h (λ h. object_stands _ _ refl (file node t refl))
-name_stands s (Some (function node signature body)) j placed complete file e h = by_judged j _ (same _ _ e) h (λ h. never (sym h))
-name_stands s (Some (given signature)) j placed complete file e h = by_judged j _ (same _ _ e) h (λ h. never (sym h))
+name_stands s (Some (file_variable node (Some t))) j placed complete file e h = by_judged j _ (same_Some _ _ e) h (λ h. object_stands _ _ refl (file node t refl))
+name_stands s (Some (function node signature body)) j placed complete file e h = by_judged j _ (same_Some _ _ e) h (λ h. never (sym h))
+name_stands s (Some (given signature)) j placed complete file e h = by_judged j _ (same_Some _ _ e) h (λ h. never (sym h))
 
 -- ---- unary operators
 
@@ -157,7 +155,7 @@ module _ (s : Scope) where
       let k = address_known form p.at p.is (p.taken (all_left _ (named_local s.context a) _ ready)) in
       value_stands _ (onward (address_of form) _ k (record { value = _; is = refl }))
   unary_stands unaries.Indirect node a t form place ready h =
-      object_stands _ _ refl (right (is_pointer (decayed t)) _ (kept _ h))
+      object_stands _ _ refl (second_so (is_pointer (decayed t)) _ (kept _ h))
   unary_stands unaries.Plus node a t form place ready h = value_stands _ (record { value = _; is = refl })
   unary_stands unaries.Minus node a t form place ready h = value_stands _ (record { value = _; is = refl })
   unary_stands unaries.Complement node a t form place ready h = value_stands _ (record { value = _; is = refl })
@@ -195,35 +193,23 @@ module _ (s : Scope) where
 
   -- ---- assignments and steps
 
-  or_left : (x y : Bool) → x ≡ true → (x || y) ≡ true
-  or_left true y e = refl
-  or_left false y e = never e
-
-  or_right : (x y : Bool) → y ≡ true → (x || y) ≡ true
-  or_right true y e = refl
-  or_right false y e = e
-
-  both : (x y : Bool) → x ≡ true → y ≡ true → (x && y) ≡ true
-  both true y e f = f
-  both false y e f = e
-
   -- an integer or a pointer to an object, and an integer
   adds : (t u : TypeTree) → ((is_integer t || is_object_pointer structs t) && is_integer u) ≡ true → may_add structs t u ≡ true
-  adds t u e = go (either (is_integer t) _ (left _ _ e))
+  adds t u e = go (or_cases (is_integer t) _ (first_so _ _ e))
     where
       go : (is_integer t ≡ true) ⊎ (is_object_pointer structs t ≡ true) → may_add structs t u ≡ true
-      go (inl h) = or_left _ _ (both _ _ h (right (is_integer t || is_object_pointer structs t) _ e))
-      go (inr h) = or_right (both_integers t u) _ (or_left _ _ (both _ _ h (right (is_integer t || is_object_pointer structs t) _ e)))
+      go (inl h) = or_left _ _ (and_from _ _ h (second_so (is_integer t || is_object_pointer structs t) _ e))
+      go (inr h) = or_right (both_integers t u) _ (or_left _ _ (and_from _ _ h (second_so (is_integer t || is_object_pointer structs t) _ e)))
 
   subtracts : (t u : TypeTree) → ((is_integer t || is_object_pointer structs t) && is_integer u) ≡ true → Known (operation_of structs binaries.Subtract t u)
-  subtracts t u e = go (either (is_integer t) _ (left _ _ e))
+  subtracts t u e = go (or_cases (is_integer t) _ (first_so _ _ e))
     where
       integer : is_integer u ≡ true
-      integer = right (is_integer t || is_object_pointer structs t) _ e
+      integer = second_so (is_integer t || is_object_pointer structs t) _ e
 
       go : (is_integer t ≡ true) ⊎ (is_object_pointer structs t ≡ true) → Known (operation_of structs binaries.Subtract t u)
-      go (inl h) = subtracted_known structs t u (or_left _ _ (both _ _ h integer))
-      go (inr h) = subtracted_known structs t u (or_right (both_integers t u) _ (both _ _ h (or_left _ _ integer)))
+      go (inl h) = subtracted_known structs t u (or_left _ _ (and_from _ _ h integer))
+      go (inr h) = subtracted_known structs t u (or_right (both_integers t u) _ (and_from _ _ h (or_left _ _ integer)))
 
   compound_known : (operator : BinaryOperator) (a b : TypedExpr) → Known (lvalue_of a.form) → Known (operation_of structs operator a.type (type_in_use b)) → Known
       (compound_form structs operator a b)
@@ -239,13 +225,13 @@ module _ (s : Scope) where
   step_known operator a t form place h = go operator
     where
       may : ((is_integer t || is_object_pointer structs t) && is_integer int) ≡ true
-      may = both _ _ (right (is_lvalue a) _ (kept _ h)) refl
+      may = and_from _ _ (second_so (is_lvalue a) _ (kept _ h)) refl
 
       typed_a : TypedExpr
       typed_a = record { type = t; form = form }
 
       at : Known (lvalue_of form)
-      at = let p = place (left _ _ (kept _ h)) in lvalue_known form p.at p.is
+      at = let p = place (first_so _ _ (kept _ h)) in lvalue_known form p.at p.is
 
       go : (operator : StepOperator) → Known (step_form structs operator (record { type = t; form = form }))
       go steps.IncrementBefore = compound_known binaries.Add typed_a one at (summed_known structs t int (adds t int may))
@@ -267,9 +253,9 @@ module _ (s : Scope) where
       → (is_assignable t y (decayed u) || (is_struct t && (same_type t u && is_lvalue y))) ≡ true
       → Known (plain_form structs (record { type = t; form = f }) (record { type = u; form = g }))
   assigned_known y (struct k) u f g at large complete other h =
-      let q = other (right (same_type (struct k) u) _ h) in
+      let q = other (second_so (same_type (struct k) u) _ h) in
       struct_known (record { type = struct k; form = f }) (record { type = u; form = g }) complete (large refl)
-      (address_known g q.at q.is (q.large (struct_is_large u (same_is_struct (struct k) u refl (left _ _ h)))))
+      (address_known g q.at q.is (q.large (struct_is_large u (same_is_struct (struct k) u refl (first_so _ _ h)))))
   assigned_known y int u f g at large complete other h = set_known (record { type = int; form = f }) (record { type = u; form = g }) at
   assigned_known y unsigned u f g at large complete other h = set_known (record { type = unsigned; form = f }) (record { type = u; form = g }) at
   assigned_known y char u f g at large complete other h = set_known (record { type = char; form = f }) (record { type = u; form = g }) at
@@ -280,8 +266,8 @@ module _ (s : Scope) where
   plain_known : (x y : ExprTree) (t u : TypeTree) (f g : Form) → Place x t f → Place y u g → may_assign x t y u ≡ true
       → Known (plain_form structs (record { type = t; form = f }) (record { type = u; form = g }))
   plain_known x y t u f g place other h =
-      let p = place (left _ _ (left _ _ h)) in
-      assigned_known y t u f g (lvalue_known f p.at p.is) (λ l. address_known f p.at p.is (p.large l)) p.complete other (right (is_lvalue x && not (is_array t)) _ h)
+      let p = place (first_so _ _ (first_so _ _ h)) in
+      assigned_known y t u f g (lvalue_known f p.at p.is) (λ l. address_known f p.at p.is (p.large l)) p.complete other (second_so (is_lvalue x && not (is_array t)) _ h)
 
   assign_known : (operator : AssignmentOperator) (x y : ExprTree) (t u : TypeTree) (f g : Form) → Place x t f → Place y u g
       → breaks_one (assign_judged structs operator x t y u).tests ≡ false
@@ -299,7 +285,7 @@ module _ (s : Scope) where
 
       combines : (operator : BinaryOperator) → (not (may_combine x t (decayed u)) || false) ≡ false → Known (operation_of structs operator t (decayed u)) → Known
           (compound_form structs operator a b)
-      combines operator h o = compound_known operator a b (at (left _ _ (kept _ h))) o
+      combines operator h o = compound_known operator a b (at (first_so _ _ (kept _ h))) o
 
       go : (operator : AssignmentOperator) → breaks_one (assign_judged structs operator x t y u).tests ≡ false → Known (assign_form structs operator a b)
       go assigns.Plain h = plain_known x y t u f g place other (kept _ h)
@@ -307,8 +293,8 @@ module _ (s : Scope) where
       go assigns.Divide h = combines binaries.Divide h (record { value = _; is = refl })
       go assigns.Remainder h = combines binaries.Remainder h (record { value = _; is = refl })
       go assigns.Add h =
-          compound_known binaries.Add a b (at (left _ _ (kept _ h))) (summed_known structs t (decayed u) (adds t (decayed u) (right (is_lvalue x) _ (kept _ h))))
-      go assigns.Subtract h = compound_known binaries.Subtract a b (at (left _ _ (kept _ h))) (subtracts t (decayed u) (right (is_lvalue x) _ (kept _ h)))
+          compound_known binaries.Add a b (at (first_so _ _ (kept _ h))) (summed_known structs t (decayed u) (adds t (decayed u) (second_so (is_lvalue x) _ (kept _ h))))
+      go assigns.Subtract h = compound_known binaries.Subtract a b (at (first_so _ _ (kept _ h))) (subtracts t (decayed u) (second_so (is_lvalue x) _ (kept _ h)))
       go assigns.ShiftLeft h = combines binaries.ShiftLeft h (record { value = _; is = refl })
       go assigns.ShiftRight h = combines binaries.ShiftRight h (record { value = _; is = refl })
       go assigns.BitAnd h = combines binaries.BitAnd h (record { value = _; is = refl })
@@ -327,8 +313,8 @@ module _ (s : Scope) where
       → Stands s (member_form structs access (record { type = t; form = form }) x) (is_lvalue_shape (trees.member access a x))
       (named_local s.context (expr node (trees.member access a x))) (member_judged structs access a t x).type
   member_stands ready accesses.Dot node a t form x place h =
-      let found = right (is_lvalue a) _ (kept _ h) in
-      let p = place (left _ _ (kept _ h)) in
+      let found = second_so (is_lvalue a) _ (kept _ h) in
+      let p = place (first_so _ _ (kept _ h)) in
       let base = address_known form p.at p.is (p.large (has_members_is_large structs t x found)) in
       let m : Known (member_type structs t x) = known _ found in
       let offset = member_offset_known structs ready.laid_out t x found in
@@ -336,7 +322,7 @@ module _ (s : Scope) where
       (goes (address_of form) base.value _ _ base.is (goes (member_offset structs t x) offset.value _ _ offset.is refl))
       (subst (λ o. is_complete structs (type_or_void o) ≡ true) (sym m.is) (member_complete structs ready.members t m.value x m.is))
   member_stands ready accesses.Arrow node a t form x place h =
-      let found = right (is_pointer (decayed t)) _ (kept _ h) in
+      let found = second_so (is_pointer (decayed t)) _ (kept _ h) in
       let m : Known (member_type structs (referenced (decayed t)) x) = known _ found in
       let offset = member_offset_known structs ready.laid_out (referenced (decayed t)) x found in
       object_stands _ (typed_trees.member offset.value (value_in_use (record { type = t; form = form })))
@@ -359,19 +345,19 @@ module _ (s : Scope) where
       onward (arguments_of ts list) _ (arguments_known ts list shorter) (record { value = _; is = refl })
 
   counted : (ts us : List TypeTree) (rest : Bool) → (not (length ts == length us) || rest) ≡ false → length ts ≡ length us
-  counted ts us rest e = eqb-true (length ts) (length us) (not_true _ (unbroken_left _ rest e))
+  counted ts us rest e = eqb-true (length ts) (length us) (not-false _ (unbroken_left _ rest e))
 
   call_stands : (f : List ℕ) (o : Option Entity) (es : Exprs) (us : List TypeTree) (list : List TypedExpr) (j : Judged) {names : List ℕ} → length list ≡ length us
       → call_judged o es us ≡ Some j → breaks_one j.tests ≡ false
       → Stands s ((o >>= entity_designated s f) >>= λ (d : Designator). arguments_of d.parameters list >>= λ converted. Some (Form.call d.callee converted)) false names j.type
-  call_stands f None es us list j count e h = by_judged j _ (same _ _ e) h (λ h. never (sym h))
-  call_stands f (Some (local_variable node t)) es us list j count e h = by_judged j _ (same _ _ e) h (λ h. never (sym h))
-  call_stands f (Some (file_variable node t)) es us list j count e h = by_judged j _ (same _ _ e) h (λ h. never (sym h))
+  call_stands f None es us list j count e h = by_judged j _ (same_Some _ _ e) h (λ h. never (sym h))
+  call_stands f (Some (local_variable node t)) es us list j count e h = by_judged j _ (same_Some _ _ e) h (λ h. never (sym h))
+  call_stands f (Some (file_variable node t)) es us list j count e h = by_judged j _ (same_Some _ _ e) h (λ h. never (sym h))
   call_stands f (Some (function node None body)) es us list j count e h = nothing j e
-  call_stands f (Some (function node (Some signature) body)) es us list j count e h = by_judged j _ (same _ _ e) h (λ h.
+  call_stands f (Some (function node (Some signature) body)) es us list j count e h = by_judged j _ (same_Some _ _ e) h (λ h.
       let arguments = arguments_known signature.parameters list (counted signature.parameters us _ h ∙ sym count) in
       value_stands _ (onward (arguments_of signature.parameters list) _ arguments (record { value = _; is = refl })))
-  call_stands f (Some (given signature)) es us list j count e h = by_judged j _ (same _ _ e) h (λ h.
+  call_stands f (Some (given signature)) es us list j count e h = by_judged j _ (same_Some _ _ e) h (λ h.
       let arguments = arguments_known signature.parameters list (counted signature.parameters us _ h ∙ sym count) in
       value_stands _ (onward (arguments_of signature.parameters list) _ arguments (record { value = _; is = refl })))
 
@@ -383,11 +369,11 @@ module _ (s : Scope) where
   behind o x go e f = record { form = f.form; is = goes o x go _ e f.is; place = f.place }
 
   named_known : (o : Option TypeTree) (rest : Bool) → (not (is_some o) || rest) ≡ false → Known o
-  named_known o rest e = known o (not_true _ (unbroken_left _ rest e))
+  named_known o rest e = known o (not-false _ (unbroken_left _ rest e))
 
   sized : (o : Option TypeTree) (v : TypeTree) → o ≡ Some v → ((is_some o && not (is_complete structs (type_or_void o))) || false) ≡ false → is_complete structs v ≡ true
   sized None v e h = nothing v e
-  sized (Some x) v e h = subst (λ z. is_complete structs z ≡ true) (same _ _ e) (kept _ h)
+  sized (Some x) v e h = subst (λ z. is_complete structs z ≡ true) (same_Some _ _ e) (kept _ h)
 
   object_kept : (may b : Bool) → may ≡ true → ((may && not b) || false) ≡ false → b ≡ true
   object_kept true b e h = kept b h
@@ -409,8 +395,8 @@ module _ (s : Scope) where
       shape_stands : (shape : ShapeTree) (node : Node) (j : Judged) → are_placed s (shape_addressed s.context shape) ≡ true
           → shape_judged s.context shape ≡ Some j → breaks_one j.tests ≡ false
           → Stands s (form_of s node shape) (is_lvalue_shape shape) (named_local s.context (expr node shape)) j.type
-      shape_stands (trees.constant n u) node j placed e h = by_judged j _ (same _ _ e) h (λ h. value_stands _ (record { value = _; is = refl }))
-      shape_stands (trees.text bytes) node j placed e h = by_judged j _ (same _ _ e) h (λ h. object_stands _ _ refl refl)
+      shape_stands (trees.constant n u) node j placed e h = by_judged j _ (same_Some _ _ e) h (λ h. value_stands _ (record { value = _; is = refl }))
+      shape_stands (trees.text bytes) node j placed e h = by_judged j _ (same_Some _ _ e) h (λ h. object_stands _ _ refl refl)
       shape_stands (trees.name x) node j placed e h =
           name_stands s (entity_of s.context x) j (ready.placed x) (ready.local_complete x) (ready.file_complete x) e h
       shape_stands (trees.subscript a b) node j placed e h =
@@ -418,14 +404,14 @@ module _ (s : Scope) where
           let y = went (type_of s.context b) (λ u. Some (subscript_judged structs (decayed x.value) (decayed u))) j x.gave in
           let f = expression_typed a x.value (all_left _ (addressed s.context a) _ placed) x.had in
           let g = expression_typed b y.value (all_right _ (addressed s.context a) _ placed) y.had in
-          by_judged j _ (same _ _ y.gave) h (λ h.
-          let may = not_true _ (unbroken_left _ _ h) in
+          by_judged j _ (same_Some _ _ y.gave) h (λ h.
+          let may = not-false _ (unbroken_left _ _ h) in
           let o = summed_known structs (decayed x.value) (decayed y.value) may in
           behind (typed s a) _ _ f.is (behind (typed s b) _ _ g.is
           (object_stands _ _ (goes (operation_of structs binaries.Add (decayed x.value) (decayed y.value) >>= λ (o : Operated). Some
           (operated o (record { type = x.value; form = f.form }) (record { type = y.value; form = g.form })))
           _ _ _ (goes (operation_of structs binaries.Add (decayed x.value) (decayed y.value)) o.value _ _ o.is refl) refl)
-          (right (is_pointer (sum_type (decayed x.value) (decayed y.value))) _
+          (second_so (is_pointer (sum_type (decayed x.value) (decayed y.value))) _
           (object_kept (may_add structs (decayed x.value) (decayed y.value)) _ may (unbroken_right (not (may_add structs (decayed x.value) (decayed y.value))) _ h))))))
       shape_stands (trees.call f es) node j placed e h =
           let w = went (types_of s.context es) (λ us. call_judged (entity_of s.context f) es us) j e in
@@ -434,19 +420,19 @@ module _ (s : Scope) where
       shape_stands (trees.member access a x) node j placed e h =
           let w = went (type_of s.context a) (λ t. Some (member_judged structs access a t x)) j e in
           let f = expression_typed a w.value placed w.had in
-          by_judged j _ (same _ _ w.gave) h (λ h. behind (typed s a) _ _ f.is (member_stands ready access node a w.value f.form x f.place h))
+          by_judged j _ (same_Some _ _ w.gave) h (λ h. behind (typed s a) _ _ f.is (member_stands ready access node a w.value f.form x f.place h))
       shape_stands (trees.step operator a) node j placed e h =
           let w = went (type_of s.context a) (λ t. Some (step_judged structs a t)) j e in
           let f = expression_typed a w.value placed w.had in
-          by_judged j _ (same _ _ w.gave) h (λ h. behind (typed s a) _ _ f.is (value_stands _ (step_known operator a w.value f.form f.place h)))
+          by_judged j _ (same_Some _ _ w.gave) h (λ h. behind (typed s a) _ _ f.is (value_stands _ (step_known operator a w.value f.form f.place h)))
       shape_stands (trees.unary operator a) node j placed e h =
           let w = went (type_of s.context a) (λ t. Some (unary_judged structs operator a t (decayed t))) j e in
           let f = expression_typed a w.value (all_right _ (operand_of operator (named_local s.context a)) _ placed) w.had in
-          by_judged j _ (same _ _ w.gave) h (λ h. behind (typed s a) _ _ f.is (unary_stands operator node a w.value f.form f.place placed h))
+          by_judged j _ (same_Some _ _ w.gave) h (λ h. behind (typed s a) _ _ f.is (unary_stands operator node a w.value f.form f.place placed h))
       shape_stands (trees.sizeof_expr a) node j placed e h =
           let w = went (type_of s.context a) (λ t. Some (judged (keeps rules.IncompleteType (is_complete structs t)) unsigned)) j e in
-          by_judged j _ (same _ _ w.gave) h (λ h. behind (type_of s.context a) w.value (size_form structs) w.had (value_stands _ (size_form_known w.value (kept _ h))))
-      shape_stands (trees.sizeof_type name) node j placed e h = by_judged j _ (same _ _ e) h (λ h.
+          by_judged j _ (same_Some _ _ w.gave) h (λ h. behind (type_of s.context a) w.value (size_form structs) w.had (value_stands _ (size_form_known w.value (kept _ h))))
+      shape_stands (trees.sizeof_type name) node j placed e h = by_judged j _ (same_Some _ _ e) h (λ h.
           let n = named_known (named_type s.context name) _ h in
           behind (named_type s.context name) n.value (size_form structs) n.is
           (value_stands _ (size_form_known n.value (sized (named_type s.context name) n.value n.is
@@ -454,7 +440,7 @@ module _ (s : Scope) where
       shape_stands (trees.cast name a) node j placed e h =
           let w = went (type_of s.context a) (λ t. Some (cast_judged s.context name a (decayed t))) j e in
           let f = expression_typed a w.value placed w.had in
-          by_judged j _ (same _ _ w.gave) h (λ h.
+          by_judged j _ (same_Some _ _ w.gave) h (λ h.
           let n = named_known (named_type s.context name) _ h in
           behind (named_type s.context name) n.value _ n.is (behind (typed s a) _ _ f.is (value_stands _ (record { value = _; is = refl }))))
       shape_stands (trees.binary operator a b) node j placed e h =
@@ -462,7 +448,7 @@ module _ (s : Scope) where
           let y = went (type_of s.context b) (λ u. Some (binary_judged structs operator a (decayed x.value) b (decayed u))) j x.gave in
           let f = expression_typed a x.value (all_left _ (addressed s.context a) _ placed) x.had in
           let g = expression_typed b y.value (all_right _ (addressed s.context a) _ placed) y.had in
-          by_judged j _ (same _ _ y.gave) h (λ h. behind (typed s a) _ _ f.is (behind (typed s b) _ _ g.is
+          by_judged j _ (same_Some _ _ y.gave) h (λ h. behind (typed s a) _ _ f.is (behind (typed s b) _ _ g.is
           (value_stands _ (binary_known operator a b (record { type = x.value; form = f.form }) (record { type = y.value; form = g.form }) h))))
       shape_stands (trees.conditional c a b) node j placed e h =
           let z = went (type_of s.context c) (λ r. and_then (type_of s.context a)
@@ -472,24 +458,24 @@ module _ (s : Scope) where
           let k = expression_typed c z.value (all_left _ (addressed s.context c) _ placed) z.had in
           let f = expression_typed a x.value (all_left _ (addressed s.context a) _ (all_right _ (addressed s.context c) _ placed)) x.had in
           let g = expression_typed b y.value (all_right _ (addressed s.context a) _ (all_right _ (addressed s.context c) _ placed)) y.had in
-          by_judged j _ (same _ _ y.gave) h (λ h. behind (typed s c) _ _ k.is
+          by_judged j _ (same_Some _ _ y.gave) h (λ h. behind (typed s c) _ _ k.is
           (behind (typed s a) _ _ f.is (behind (typed s b) _ _ g.is (value_stands _ (record { value = _; is = refl })))))
       shape_stands (trees.assign operator a b) node j placed e h =
           let x = went (type_of s.context a) (λ t. and_then (type_of s.context b) (λ u. Some (assign_judged structs operator a t b u))) j e in
           let y = went (type_of s.context b) (λ u. Some (assign_judged structs operator a x.value b u)) j x.gave in
           let f = expression_typed a x.value (all_left _ (addressed s.context a) _ placed) x.had in
           let g = expression_typed b y.value (all_right _ (addressed s.context a) _ placed) y.had in
-          by_judged j _ (same _ _ y.gave) h (λ h. behind (typed s a) _ _ f.is (behind (typed s b) _ _ g.is
+          by_judged j _ (same_Some _ _ y.gave) h (λ h. behind (typed s a) _ _ f.is (behind (typed s b) _ _ g.is
           (value_stands _ (assign_known operator a b x.value y.value f.form g.form f.place g.place h))))
       shape_stands (trees.comma a b) node j placed e h =
           let x = went (type_of s.context a) (λ t. and_then (type_of s.context b) (λ u. Some (judged [] (decayed u)))) j e in
           let y = went (type_of s.context b) (λ u. Some (judged [] (decayed u))) j x.gave in
           let f = expression_typed a x.value (all_left _ (addressed s.context a) _ placed) x.had in
           let g = expression_typed b y.value (all_right _ (addressed s.context a) _ placed) y.had in
-          by_judged j _ (same _ _ y.gave) h (λ h. behind (typed s a) _ _ f.is (behind (typed s b) _ _ g.is (value_stands _ (record { value = _; is = refl }))))
+          by_judged j _ (same_Some _ _ y.gave) h (λ h. behind (typed s a) _ _ f.is (behind (typed s b) _ _ g.is (value_stands _ (record { value = _; is = refl }))))
 
       all_typed_by : (es : Exprs) (us : List TypeTree) → are_placed s (all_addressed s.context es) ≡ true → types_of s.context es ≡ Some us → AllTyped es us
-      all_typed_by no_exprs us placed e = record { list = []; is = refl; count = ap length (same _ _ e) }
+      all_typed_by no_exprs us placed e = record { list = []; is = refl; count = ap length (same_Some _ _ e) }
       all_typed_by (expr_and a es) us placed e =
           let x = went (type_of s.context a) (λ t. and_then (types_of s.context es) (λ ts. Some (t ∷ ts))) us e in
           let y = went (types_of s.context es) (λ ts. Some (x.value ∷ ts)) us x.gave in
@@ -498,7 +484,7 @@ module _ (s : Scope) where
           record {
             list = record { type = x.value; form = f.form } ∷ rest.list;
             is = goes (typed s a) _ _ _ f.is (goes (all_typed s es) rest.list _ _ rest.is refl);
-            count = ap suc rest.count ∙ ap length (same _ _ y.gave);
+            count = ap suc rest.count ∙ ap length (same_Some _ _ y.gave);
           }
 
 pub typed_where_types : TypedWhereTypes

@@ -1,7 +1,9 @@
 -- Values that are read, converted and computed are of their types, and variables and blocks keep such values.
-use Rattle.std.proofs.Common.{◌≡◌, ℕ, zero, suc, ◌==◌, ◌&&◌, Bool, true, false, if◌then◌else◌, List, [], ◌∷◌, Some, refl, sym, ap, ◌∙◌, subst, arith}
+use Rattle.std.proofs.Common.{◌≡◌, ℕ, zero, suc, ◌==◌, Bool, true, false, if◌then◌else◌, List, [], ◌∷◌, Some, refl, sym, ap, ◌∙◌, subst, arith}
 use Rattle.std.specs.List.{slice_get, list_all}
 use Rattle.std.proofs.lemmas.Bool.Decides.{nat_tests}
+use Rattle.std.proofs.lemmas.Bool.{and_parts}
+use Rattle.std.proofs.lemmas.Option.{same_Some}
 use Rattle.qs_memory.specs.Partial.{◌>>=◌}
 use Rattle.qs_memory.specs.Values.{Value, integer, as_pointer, has_type}
 use Rattle.qs_memory.specs.Memory.{Memory, load}
@@ -11,7 +13,7 @@ use Rattle.qs_memory.specs.declared.scalar.Scalar.{Scalar}
 use Rattle.qs_memory.specs.declared.scalar.Scalar.TheVariants as scalars
 use Rattle.qs_memory.specs.declared.operation.UnaryOperation.{UnaryOperation}
 use Rattle.qs_memory.specs.declared.operation.BinaryOperation.{BinaryOperation}
-use Rattle.qs_memory.proofs.Options.{some_same, followed}
+use Rattle.qs_memory.proofs.Options.{followed}
 use Rattle.qs_memory.proofs.BlockLaws.{after_same, after_next}
 use Rattle.qs_memory.proofs.TypeLaws.{values_have_types}
 use Rattle.qs_memory.proofs.ValueLaws.{values_are_sound}
@@ -26,15 +28,10 @@ use Rattle.qs_meaning.specs.Ranges.{VariablesAreOf, IsMoment}
 
 -- ---- tests
 
-pub both_hold : (a b : Bool) → (a && b) ≡ true → (a ≡ true) × (b ≡ true)
-both_hold true true h = (refl, refl)
-both_hold true false h = cc
-both_hold false b h = cc
-
 pub all_at : {A : Type 0} (p : A → Bool) (xs : List A) (k : ℕ) (x : A) → list_all p xs ≡ true → slice_get xs k ≡ Some x → p x ≡ true
 all_at p [] k x all is = cc
-all_at p (y ∷ xs) zero x all is = subst (λ z. p z ≡ true) (some_same y x is) (both_hold (p y) (list_all p xs) all).0
-all_at p (y ∷ xs) (suc k) x all is = all_at p xs k x (both_hold (p y) (list_all p xs) all).1 is
+all_at p (y ∷ xs) zero x all is = subst (λ z. p z ≡ true) (same_Some y x is) (and_parts (p y) (list_all p xs) all).0
+all_at p (y ∷ xs) (suc k) x all is = all_at p xs k x (and_parts (p y) (list_all p xs) all).1 is
 
 -- ---- values
 
@@ -45,12 +42,12 @@ number_is_of m scalars.Unsigned n h = record { typed = h; sound = grind (arith, 
 number_is_of m scalars.Pointer n h = cc
 
 pub converted_is_of : (c : Conversion) (s : Scalar) (m : Memory) (x y : Value) → IsOf m s x → convert_by c x ≡ Some y → IsOf m (type_after c s) y
-converted_is_of unchanged s m x y h e = subst (λ z. IsOf m s z) (some_same x y e) h
+converted_is_of unchanged s m x y h e = subst (λ z. IsOf m s z) (same_Some x y e) h
 converted_is_of (converted from to) s m x y h e =
     record { typed = values_have_types.converted to m x y h.sound e; sound = values_are_sound.converted to m x y h.sound e }
 
 converted_sound : (c : Conversion) (m : Memory) (x y : Value) → IsSoundValue m x → convert_by c x ≡ Some y → IsSoundValue m y
-converted_sound unchanged m x y h e = subst (λ z. IsSoundValue m z) (some_same x y e) h
+converted_sound unchanged m x y h e = subst (λ z. IsSoundValue m z) (same_Some x y e) h
 converted_sound (converted from to) m x y h e = values_are_sound.converted to m x y h e
 
 pub unary_is_of : (op : UnaryOperation) (c : Conversion) (m : Memory) (x z : Value) → IsSoundValue m x → (convert_by c x >>= λ x. apply_unary op m x) ≡ Some z
@@ -95,8 +92,8 @@ with_value_are_of m types v x s y h is of = record { each = λ z t w tz i. at z 
     at : (z : ℕ) (t : Scalar) (w : Value) → slice_get types z ≡ Some t → (b : Bool) → (z == x) ≡ b → (if b then Some y else v z) ≡ Some w → IsOf m t w
     at z t w tz true same i =
         let here : x ≡ z = grind (arith, nat_tests, same) in
-        let type : s ≡ t = some_same s t (sym is ∙ ap (slice_get types) here ∙ tz) in
-        subst (λ (u : Value). IsOf m t u) (some_same y w i) (subst (λ (u : Scalar). IsOf m u y) type of)
+        let type : s ≡ t = same_Some s t (sym is ∙ ap (slice_get types) here ∙ tz) in
+        subst (λ (u : Value). IsOf m t u) (same_Some y w i) (subst (λ (u : Scalar). IsOf m u y) type of)
     at z t w tz false same i = h.each z t w tz i
 
 module _ (i : Interface) (g : Function) (first : ℕ) where

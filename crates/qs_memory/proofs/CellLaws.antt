@@ -3,12 +3,13 @@ use Rattle.std.proofs.Common.{◌≡◌, ◌⊎◌, inl, inr, ⊎_elim, ℕ, zer
 use Rattle.std.proofs.Common.{if◌then◌else◌, List, [], ◌∷◌, length, slice_index_or, Option, Some, refl, sym, ap, ap₂, ◌∙◌, arith}
 use Rattle.std.proofs.lemmas.Bool.{cases_lt}
 use Rattle.std.proofs.lemmas.Bool.Decides.{nat_tests}
+use Rattle.std.proofs.lemmas.Option.{same_Some}
 use Rattle.qs_memory.specs.Partial.{◌>>=◌, only_if}
 use Rattle.qs_memory.specs.Values.{Pointer, null, into, same_pointer, Value, integer, address, width}
 use Rattle.qs_memory.specs.Memory.{Cell, unset, cells_from, overlaid, bytes_of, parts_of, cells_of, number_of, are_parts, pointer_of, value_of}
 use Rattle.qs_memory.specs.declared.scalar.Scalar.{Scalar}
 use Rattle.qs_memory.specs.declared.scalar.Scalar.TheVariants as scalars
-use Rattle.qs_memory.proofs.Options.{some_same, only_if_value}
+use Rattle.qs_memory.proofs.Options.{only_if_value}
 
 -- ---- cells that are laid over others
 
@@ -198,7 +199,7 @@ cells_are scalars.Char (address p) cells h = cc
 cells_are scalars.Int (address p) cells h = cc
 cells_are scalars.Unsigned (address p) cells h = cc
 cells_are scalars.Pointer (address p) cells h =
-    let is = some_same _ _ h in
+    let is = same_Some _ _ h in
     record {
       long = ap length (sym is);
       back = ap (λ c. pointer_of c >>= λ q. Some (address q)) (sym is) ∙ ap (λ o. o >>= λ q. Some (address q)) (pointer_back p);

@@ -1,9 +1,8 @@
 -- What a defined answer says of the steps that led to it.
 use Rattle.std.proofs.Common.{◌≡◌, Bool, true, false, Option, Some, None, is_some, IsSome, refl, sym, ap}
+use Rattle.std.proofs.lemmas.Option.{same_Some}
 use Rattle.qs_memory.specs.Partial.{◌>>=◌, only_if}
-
-pub some_same : {A : Type 0} → (x y : A) → Some x ≡ Some y → x ≡ y
-some_same x y h = cc
+pub use Rattle.std.proofs.lemmas.Option.{same_Some as some_same}
 
 pub record Followed {A B : Type 0} (o : Option A) (next : A → Option B) (y : B) : Type 0 where
   pub value : A
@@ -19,7 +18,7 @@ only_if_some true o y h = (refl, h)
 only_if_some false o y h = cc
 
 pub only_if_value : {A : Type 0} → (test : Bool) (x y : A) → only_if test (Some x) ≡ Some y → (test ≡ true) × (x ≡ y)
-only_if_value true x y h = (refl, some_same x y h)
+only_if_value true x y h = (refl, same_Some x y h)
 only_if_value false x y h = cc
 
 -- a step behind a test

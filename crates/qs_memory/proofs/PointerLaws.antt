@@ -3,6 +3,7 @@ use Rattle.std.proofs.Common.{◌≡◌, ◌⊎◌, ◌↔◌, inl, inr, ⊎_eli
 use Rattle.std.proofs.Common.{Option, Some, IsSome, ℤ, pos, negsuc, ◌+ℤ◌, refl, sym, ap, ap₂, ◌∙◌, subst, arith}
 use Rattle.std.proofs.lemmas.Bool.{cases_eq}
 use Rattle.std.proofs.lemmas.Bool.Decides.{nat_tests}
+use Rattle.std.proofs.lemmas.Option.{same_Some}
 use Rattle.qs_memory.specs.Partial.{◌>>=◌, only_if}
 use Rattle.qs_memory.specs.Values.{Pointer, null, into}
 use Rattle.qs_memory.specs.Memory.{Memory, block_at, Target, target}
@@ -10,7 +11,7 @@ use Rattle.qs_memory.specs.Soundness.{IsLive}
 use Rattle.qs_memory.specs.Pointers.{within, moved, in_one_block, same_target, equal}
 use Rattle.qs_memory.specs.Accesses.{IsMoved, AreInOneBlock, AreComparable}
 use Rattle.qs_memory.specs.Laws.{PointersAreDefined}
-use Rattle.qs_memory.proofs.Options.{some_same, followed, only_if_some, only_if_value, answer_of, some_is}
+use Rattle.qs_memory.proofs.Options.{followed, only_if_some, only_if_value, answer_of, some_is}
 use Rattle.qs_memory.proofs.BlockLaws.{target_is}
 
 target_live : (m : Memory) (b o : ℕ) → IsLive m b → target m (into b o) ≡ Some (record { block = b; offset = o })
@@ -49,7 +50,7 @@ move_needs m p q bytes h =
       old = t.offset;
       new = b.value;
       begins = is.is;
-      gives = sym (some_same _ q b.then);
+      gives = sym (same_Some _ q b.then);
       live = is.live;
       inside = w.inside;
       distance = w.is;
@@ -182,11 +183,11 @@ null_differs b o e = let no_way : false ≡ true = ap is_into e in cc
 never : (o : Option Target) (answer : Bool) → (o >>= λ t. Some false) ≡ Some answer → answer ≡ true → ⊥
 never o answer h e =
     let a = followed o (λ t. Some false) answer h in
-    let no_way : false ≡ true = some_same false answer a.then ∙ e in
+    let no_way : false ≡ true = same_Some false answer a.then ∙ e in
     cc
 
 pub equal_same : (m : Memory) (p q : Pointer) (answer : Bool) → equal m p q ≡ Some answer → (answer ≡ true) ↔ (p ≡ q)
-equal_same m null null answer h = (λ e. refl, λ e. sym (some_same true answer h))
+equal_same m null null answer h = (λ e. refl, λ e. sym (same_Some true answer h))
 equal_same m null (into c j) answer h = (λ e. absurd (never (target m (into c j)) answer h e), λ e. absurd (null_differs c j e))
 equal_same m (into b i) null answer h = (λ e. absurd (never (target m (into b i)) answer h e), λ e. absurd (null_differs b i (sym e)))
 equal_same m (into b i) (into c j) answer h =
@@ -195,7 +196,7 @@ equal_same m (into b i) (into c j) answer h =
   where
     in_one : b ≡ c → pair m b i c j ≡ Some answer → (answer ≡ true) ↔ (into b i ≡ into c j)
     in_one same gives =
-        let test : (i == j) ≡ answer = some_same (i == j) answer (sym (pair_same m b i c j same) ∙ gives) in (
+        let test : (i == j) ≡ answer = same_Some (i == j) answer (sym (pair_same m b i c j same) ∙ gives) in (
           λ e.
               let there : (i == j) ≡ true = test ∙ e in
               let offsets : i ≡ j = grind (arith, nat_tests, there) in

@@ -1,6 +1,6 @@
 -- Values that are loaded, converted or computed are of their types.
-use Rattle.std.proofs.Common.{◌≡◌, refl, ℕ, zero, suc, ◌%◌, ◌^◌, ◌<◌, ◌==◌, nat_lt, not, Bool, true, List, length, Option, Some, subst, arith}
-use Rattle.std.proofs.lemmas.Bool.Decides.{nat_tests}
+use Rattle.std.proofs.Common.{◌≡◌, refl, ℕ, zero, suc, ◌%◌, ◌^◌, ◌<◌, ◌==◌, not, Bool, true, List, length, Option, Some, subst, arith, lt-ltb}
+use Rattle.std.proofs.lemmas.Option.{same_Some}
 use Rattle.qs_memory.specs.Partial.{◌>>=◌}
 use Rattle.qs_memory.specs.Values.{Pointer, null, Value, integer, address, as_integer, width, has_type, pointer_of_integer, convert}
 use Rattle.qs_memory.specs.Integers.{calculate, compares, minus, complement}
@@ -17,7 +17,7 @@ use Rattle.qs_memory.specs.declared.operation.UnaryOperation.{UnaryOperation}
 use Rattle.qs_memory.specs.declared.operation.UnaryOperation.TheVariants as unaries
 use Rattle.qs_memory.specs.declared.operation.BinaryOperation.{BinaryOperation}
 use Rattle.qs_memory.specs.declared.operation.BinaryOperation.TheVariants as binaries
-use Rattle.qs_memory.proofs.Options.{some_same, followed, only_if_some, only_if_value}
+use Rattle.qs_memory.proofs.Options.{followed, only_if_some, only_if_value}
 use Rattle.qs_memory.proofs.CellLaws.{Each, length-cells_from}
 use Rattle.qs_memory.proofs.BlockLaws.{range_is}
 use Rattle.qs_memory.proofs.SoundLaws.{sound_read}
@@ -25,26 +25,23 @@ use Rattle.qs_memory.proofs.ValueLaws.{number_small, unary_sound, binary_sound}
 
 -- ---- loads
 
-fits : (n bound : ℕ) → n < bound → nat_lt n bound ≡ true
-fits n bound h = grind (arith, nat_tests, h)
-
 number_typed :
     (s : Scalar) (m : Memory) (cells : List Cell) (v : Value) → length cells ≡ width s → Each (IsSoundCell m) cells
     → ((n : ℕ) → n < 256 ^ width s → has_type s (integer n) ≡ true) → (number_of cells >>= λ n. Some (integer n)) ≡ Some v → has_type s v ≡ true
 number_typed s m cells v long each small h =
     let a = followed (number_of cells) (λ n. Some (integer n)) v h in
-    subst (λ (w : Value). has_type s w ≡ true) (some_same (integer a.value) v a.then)
+    subst (λ (w : Value). has_type s w ≡ true) (same_Some (integer a.value) v a.then)
     (small a.value (subst (λ (k : ℕ). a.value < 256 ^ k) long (number_small m cells a.value each a.first)))
 
 pub value_typed :
     (s : Scalar) (m : Memory) (cells : List Cell) (v : Value) → length cells ≡ width s → Each (IsSoundCell m) cells → value_of s cells ≡ Some v
     → has_type s v ≡ true
-value_typed scalars.Char m cells v long each h = number_typed scalars.Char m cells v long each (λ n small. fits n 256 small) h
-value_typed scalars.Int m cells v long each h = number_typed scalars.Int m cells v long each (λ n small. fits n 4294967296 small) h
-value_typed scalars.Unsigned m cells v long each h = number_typed scalars.Unsigned m cells v long each (λ n small. fits n 4294967296 small) h
+value_typed scalars.Char m cells v long each h = number_typed scalars.Char m cells v long each (λ n small. lt-ltb n 256 small) h
+value_typed scalars.Int m cells v long each h = number_typed scalars.Int m cells v long each (λ n small. lt-ltb n 4294967296 small) h
+value_typed scalars.Unsigned m cells v long each h = number_typed scalars.Unsigned m cells v long each (λ n small. lt-ltb n 4294967296 small) h
 value_typed scalars.Pointer m cells v long each h =
     let a = followed (pointer_of cells) (λ p. Some (address p)) v h in
-    subst (λ (w : Value). has_type scalars.Pointer w ≡ true) (some_same (address a.value) v a.then) refl
+    subst (λ (w : Value). has_type scalars.Pointer w ≡ true) (same_Some (address a.value) v a.then) refl
 
 pub loaded_typed : (s : Scalar) (m : Memory) (p : Pointer) (v : Value) → IsSound m → load s m p ≡ Some v → has_type s v ≡ true
 loaded_typed s m p v sound h =
@@ -55,22 +52,22 @@ loaded_typed s m p v sound h =
 -- ---- conversions
 
 null_typed : (n : ℕ) (w : Value) → pointer_of_integer n ≡ Some w → has_type scalars.Pointer w ≡ true
-null_typed zero w h = subst (λ (x : Value). has_type scalars.Pointer x ≡ true) (some_same (address null) w h) refl
+null_typed zero w h = subst (λ (x : Value). has_type scalars.Pointer x ≡ true) (same_Some (address null) w h) refl
 null_typed (suc n) w h = cc
 
 pub converted_typed : (s : Scalar) (m : Memory) (v w : Value) → IsSoundValue m v → convert s v ≡ Some w → has_type s w ≡ true
 converted_typed scalars.Char m (integer n) w sound h =
-    subst (λ (x : Value). has_type scalars.Char x ≡ true) (some_same (integer (n % 256)) w h) (fits (n % 256) 256 (omega arith))
+    subst (λ (x : Value). has_type scalars.Char x ≡ true) (same_Some (integer (n % 256)) w h) (lt-ltb (n % 256) 256 (omega arith))
 converted_typed scalars.Int m (integer n) w sound h =
-    subst (λ (x : Value). has_type scalars.Int x ≡ true) (some_same (integer n) w h) (fits n 4294967296 sound)
+    subst (λ (x : Value). has_type scalars.Int x ≡ true) (same_Some (integer n) w h) (lt-ltb n 4294967296 sound)
 converted_typed scalars.Unsigned m (integer n) w sound h =
-    subst (λ (x : Value). has_type scalars.Unsigned x ≡ true) (some_same (integer n) w h) (fits n 4294967296 sound)
+    subst (λ (x : Value). has_type scalars.Unsigned x ≡ true) (same_Some (integer n) w h) (lt-ltb n 4294967296 sound)
 converted_typed scalars.Pointer m (integer n) w sound h = null_typed n w h
 converted_typed scalars.Char m (address p) w sound h = cc
 converted_typed scalars.Int m (address p) w sound h = cc
 converted_typed scalars.Unsigned m (address p) w sound h = cc
 converted_typed scalars.Pointer m (address p) w sound h =
-    subst (λ (x : Value). has_type scalars.Pointer x ≡ true) (some_same (address p) w h) refl
+    subst (λ (x : Value). has_type scalars.Pointer x ≡ true) (same_Some (address p) w h) refl
 
 -- ---- operations
 
@@ -80,17 +77,17 @@ IsInteger (integer n) = Unit {0}
 IsInteger (address p) = ⊥
 
 pub integer_typed : (s : Signedness) (m : Memory) (v : Value) → IsSoundValue m v → IsInteger v → has_type (integer_type s) v ≡ true
-integer_typed Signed m (integer n) sound is = fits n 4294967296 sound
-integer_typed Unsigned m (integer n) sound is = fits n 4294967296 sound
+integer_typed Signed m (integer n) sound is = lt-ltb n 4294967296 sound
+integer_typed Unsigned m (integer n) sound is = lt-ltb n 4294967296 sound
 integer_typed s m (address p) sound is = absurd is
 
 truth_kind : (o : Option Bool) (f : Bool → Bool) (w : Value) → (o >>= λ b. Some (of_truth (f b))) ≡ Some w → IsInteger w
 truth_kind o f w h =
     let a = followed o (λ b. Some (of_truth (f b))) w h in
-    subst IsInteger (some_same _ w a.then) tt
+    subst IsInteger (same_Some _ w a.then) tt
 
 integer_kind : (f : ℕ → ℕ) (v w : Value) → (as_integer v >>= λ x. Some (integer (f x))) ≡ Some w → IsInteger w
-integer_kind f (integer x) w h = subst IsInteger (some_same (integer (f x)) w h) tt
+integer_kind f (integer x) w h = subst IsInteger (same_Some (integer (f x)) w h) tt
 integer_kind f (address p) w h = cc
 
 pub unary_typed : (op : UnaryOperation) (m : Memory) (v w : Value) → IsSoundValue m v → apply_unary op m v ≡ Some w → has_type (unary_type op) w ≡ true
@@ -113,17 +110,17 @@ pub binary_typed :
     → has_type (binary_type op) x ≡ true
 binary_typed (binaries.Arithmetic op s) m (integer a) (integer b) x sa sb h =
     let c = followed (calculate op s a b) _ x h in
-    integer_typed s m x (binary_sound (binaries.Arithmetic op s) m (integer a) (integer b) x sa sb h) (subst IsInteger (some_same (integer c.value) x c.then) tt)
+    integer_typed s m x (binary_sound (binaries.Arithmetic op s) m (integer a) (integer b) x sa sb h) (subst IsInteger (same_Some (integer c.value) x c.then) tt)
 binary_typed (binaries.Arithmetic op s) m (integer a) (address q) x sa sb h = cc
 binary_typed (binaries.Arithmetic op s) m (address p) w x sa sb h = cc
 binary_typed (binaries.Compare op s) m (integer a) (integer b) x sa sb h =
     integer_typed Signed m x (binary_sound (binaries.Compare op s) m (integer a) (integer b) x sa sb h)
-    (subst IsInteger (some_same (of_truth (compares op s a b)) x h) tt)
+    (subst IsInteger (same_Some (of_truth (compares op s a b)) x h) tt)
 binary_typed (binaries.Compare op s) m (integer a) (address q) x sa sb h = cc
 binary_typed (binaries.Compare op s) m (address p) w x sa sb h = cc
 binary_typed (binaries.Move direction s element) m (address p) (integer n) x sa sb h =
     let c = followed (moved_by direction s element m p n) _ x h in
-    subst (λ (y : Value). has_type scalars.Pointer y ≡ true) (some_same (address c.value) x c.then) refl
+    subst (λ (y : Value). has_type scalars.Pointer y ≡ true) (same_Some (address c.value) x c.then) refl
 binary_typed (binaries.Move direction s element) m (address p) (address q) x sa sb h = cc
 binary_typed (binaries.Move direction s element) m (integer a) w x sa sb h = cc
 binary_typed (binaries.Difference element) m (address p) (address q) x sa sb h =

@@ -1,6 +1,7 @@
 -- What a write leaves, cell by cell, and the loads that follow it.
 use Rattle.std.proofs.Common.{◌≡◌, ℕ, ◌+◌, ◌%◌, ◌<◌, ◌≤◌, ◌==◌, ◌&&◌, nat_le, true, List, length, Some, refl, sym, ap, ◌∙◌, subst, arith}
 use Rattle.std.proofs.lemmas.Bool.Decides.{nat_tests}
+use Rattle.std.proofs.lemmas.Option.{same_Some}
 use Rattle.qs_memory.specs.Partial.{only_if}
 use Rattle.qs_memory.specs.Values.{Pointer, into, width}
 use Rattle.qs_memory.specs.Memory.{Cell, Block, Memory, block_at, Target, cells_from, cells_at, with_cells, value_of, blank_cells, load, copy}
@@ -8,7 +9,6 @@ use Rattle.qs_memory.specs.Soundness.{IsLive}
 use Rattle.qs_memory.specs.Accesses.{IsAccess, AreWritten, Writes, cells_behind}
 use Rattle.qs_memory.specs.Laws.{WritesAreExact, LoadsAfterWrites}
 use Rattle.qs_memory.specs.declared.scalar.Scalar.{Scalar}
-use Rattle.qs_memory.proofs.Options.{some_same}
 use Rattle.qs_memory.proofs.CellLaws.{overlaid-apart, overlaid-inside, length-cells_from, cells_from-each, cells_from-moved}
 use Rattle.qs_memory.proofs.BlockLaws.{written, not_written, size_kept, liveness_kept, writability_kept, length-with_cells, range_access}
 use Rattle.qs_memory.proofs.StoreLaws.{Wrote, stored, load-into, wrote_elsewhere}
@@ -35,7 +35,7 @@ pub writes_are_exact : WritesAreExact
 writes_are_exact = record {
   store = λ s m after p v new h cells.
       let st = stored s m p v after h in
-      subst (λ (l : List Cell). Writes m p l after) (some_same st.new new (sym st.cells ∙ cells)) (wrote_cells m p (width s) (width s) st.new after st.wrote);
+      subst (λ (l : List Cell). Writes m p l after) (same_Some st.new new (sym st.cells ∙ cells)) (wrote_cells m p (width s) (width s) st.new after st.wrote);
   copy = λ size alignment m after to from h.
       let c = copied size alignment m to from after h in
       subst (λ (l : List Cell). Writes m to l after) (sym (ap (λ (q : Pointer). cells_behind m q size) c.is.is))

@@ -2,12 +2,12 @@
 use Rattle.std.proofs.Common.{◌≡◌, ℕ, zero, suc, ◌+◌, ◌-◌, ◌<◌, ◌≤◌, true, false, cond, List, [], ◌∷◌, ◌++◌, length, Ok, refl, ap, ◌∙◌, arith}
 use Rattle.std.specs.Prelude.{max}
 use Rattle.std.proofs.lemmas.Bool.{ne_eqb}
+use Rattle.std.proofs.lemmas.List.{map_push}
 use Rattle.qs_syntax_vocabulary.specs.declared.terminal.Terminal.{Terminal}
 use Rattle.qs_syntax_vocabulary.specs.declared.punctuator.Punctuator.TheVariants as punctuators
 use Rattle.qs_syntax.specs.Trees.{unnumbered, ExprTree, InitialiserTree, value, list, initialisers_of, VariableTree, DeclaratorTree, MembersTree, ParameterTree}
 use Rattle.qs_syntax.specs.Reads.{Conditional, Assignment, place}
 use Rattle.qs_parser_grammar.specs.Heads.{starts}
-use Rattle.qs_parser_expressions.proofs.CodeExpressions.{map_more}
 use Rattle.qs_parser_grammar.specs.Parse.{Parse, read_on, unexpected, deep, deeper, expect, part}
 use Rattle.qs_parser_grammar.specs.ParseDeclarations.{given_lengths, after_initialiser, initialisers, begins_initialiser, initialiser, after_variable, variable, variables, declaration, declaration_within, declarator, after_member, declarators, members, groups, after_parameter, parameter, parameters}
 
@@ -115,18 +115,18 @@ pub parameters_end : (m n i : ℕ) (done : List ParameterTree) (h : ℕ) (ts : L
 unfolding parameters
 parameters_end m n i done h ts le = ap (λ k. parameters m k done h ts) (no_turns n i le)
 
-pub ruleset length_steps = (given_more, given_end, map_more)
+pub ruleset length_steps = (given_more, given_end, map_push)
 
-pub ruleset initialiser_steps = (initialisers_more, initialisers_end, map_more)
+pub ruleset initialiser_steps = (initialisers_more, initialisers_end, map_push)
 
 pub ruleset initialiser_cases = (initialiser_none, initialiser_value, initialiser_deep, initialiser_list)
 
-pub ruleset variable_steps = (variables_more, variables_end, map_more)
+pub ruleset variable_steps = (variables_more, variables_end, map_push)
 
 pub ruleset declaration_cases = (within_none, within_more)
 
-pub ruleset declarator_steps = (declarators_more, declarators_end, map_more)
+pub ruleset declarator_steps = (declarators_more, declarators_end, map_push)
 
-pub ruleset group_steps = (groups_more, groups_end, map_more)
+pub ruleset group_steps = (groups_more, groups_end, map_push)
 
-pub ruleset parameter_steps = (parameters_more, parameters_end, map_more)
+pub ruleset parameter_steps = (parameters_more, parameters_end, map_push)

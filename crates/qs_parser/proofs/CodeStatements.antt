@@ -1,6 +1,7 @@
 -- Turns of the loops that read statements and units.
 use Rattle.std.proofs.Common.{◌≡◌, ℕ, zero, suc, ◌+◌, ◌-◌, ◌<◌, ◌≤◌, cond, List, [], ◌∷◌, ◌++◌, Result, Ok, Err, Option, refl, ap, ◌∙◌, arith, Some, None, Box, Global, sym}
 use Rattle.std.specs.Prelude.{max}
+use Rattle.std.proofs.lemmas.List.{map_push}
 use Rattle.qs_syntax_vocabulary.specs.declared.terminal.Terminal.{Terminal}
 use Rattle.qs_syntax_vocabulary.specs.declared.punctuator.Punctuator.TheVariants as punctuators
 use Rattle.qs_syntax.specs.Trees.{unnumbered, ExprTree, StartTree, StmtTree, for_loop, DeclTree, branch, no_else, else_by}
@@ -9,7 +10,6 @@ use Rattle.qs_parser_expressions.specs.View.{Fails}
 use Rattle.qs_parser.specs.Turns.{TurnTree, step_and_body, turn_of}
 use Rattle.qs_parser_expressions.specs.declared.halt.Halt.{Halt}
 use Rattle.qs_parser_expressions.specs.declared.halt.Halt.TheVariants as halts
-use Rattle.qs_parser_expressions.proofs.CodeExpressions.{map_more}
 use Rattle.qs_parser_grammar.specs.Parse.{Parse, Stop, read_on, unexpected, deep, expect}
 use Rattle.qs_parser_grammar.specs.ParseStatements.{S, optional, start_of, begins_statement, after_for, item, items, statement_at, statement, external, is_empty, externals}
 use Rattle.qs_syntax.specs.TreeOf.{expr_tree, stmt_tree, else_tree, stmt_step}
@@ -96,9 +96,9 @@ for_ends m inner at ts us vs ws a t node h p q r is high = for_goes m inner at t
 
 pub ruleset statement_cases = (statement_none, statement_more)
 
-pub ruleset item_steps = (items_more, items_end, map_more)
+pub ruleset item_steps = (items_more, items_end, map_push)
 
-pub ruleset external_steps = (externals_more, externals_end, map_more)
+pub ruleset external_steps = (externals_more, externals_end, map_push)
 
 -- ---- the tree of an `if`
 

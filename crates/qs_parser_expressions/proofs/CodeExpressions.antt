@@ -1,6 +1,7 @@
 -- Turns of the loops that read expressions.
-use Rattle.std.proofs.Common.{◌≡◌, ℕ, zero, suc, ◌+◌, ◌-◌, ◌<◌, ◌≤◌, cond, List, [], ◌∷◌, ◌++◌, length, map, Ok, Err, refl, ap, arith}
+use Rattle.std.proofs.Common.{◌≡◌, ℕ, zero, suc, ◌+◌, ◌-◌, ◌<◌, ◌≤◌, cond, List, [], ◌∷◌, ◌++◌, length, Ok, Err, refl, ap, arith}
 use Rattle.std.specs.Prelude.{max}
+use Rattle.std.proofs.lemmas.List.{map_push}
 use Rattle.qs_syntax_vocabulary.specs.declared.terminal.Terminal.{Terminal}
 use Rattle.qs_syntax_vocabulary.specs.declared.punctuator.Punctuator.TheVariants as punctuators
 use Rattle.qs_syntax.specs.Trees.{unnumbered, ExprTree, expr, comma}
@@ -8,6 +9,7 @@ use Rattle.qs_syntax.specs.Reads.{Form, Assignment}
 use Rattle.qs_syntax_vocabulary.specs.Operators.{binary_of}
 use Rattle.qs_parser_grammar.specs.Heads.{starts, operator_at}
 use Rattle.qs_parser_grammar.specs.Parse.{Parse, Unexpected, Deep, read_on, E, unexpected, above, expect, begins_one, starts_suffix, operator_of_level, after_argument, arguments, suffix, suffixes, operation_at, operations, commas, expression, part}
+pub use Rattle.std.proofs.lemmas.List.{map_push as map_more}
 
 pub part_more : (n : ℕ) (form : Form) (ts : List Terminal) → 0 < n → part n form ts ≡ expression (n - 1) (part (n - 1)) form ts
 unfolding part
@@ -62,12 +64,7 @@ module _ (m : ℕ) (p : Form → Parse E) where
   unfolding commas
   commas_end n i start a ts le = let e : n - i ≡ 0 = omega arith in ap (λ k. commas m p k start a ts) e
 
--- an item more, each as its tree
-pub map_more : {X Y : Type 0} (f : X → Y) (items : List X) (item : X) → map f (items ++ item ∷ []) ≡ map f items ++ f item ∷ []
-map_more f [] item = refl
-map_more f (x ∷ items) item = ap (λ l. f x ∷ l) (map_more f items item)
-
-pub ruleset argument_steps = (arguments_more, arguments_end, map_more)
+pub ruleset argument_steps = (arguments_more, arguments_end, map_push)
 
 pub ruleset suffix_steps = (suffixes_more, suffixes_end)
 

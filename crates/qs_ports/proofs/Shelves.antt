@@ -1,12 +1,12 @@
 -- Files that lie one after the other in a list of bytes.
-use Rattle.std.proofs.Common.{◌≡◌, ◌≢◌, ℕ, ◌+◌, ◌-◌, ◌<◌, ◌≤◌, List, [], ◌∷◌, ◌++◌, length, take, drop, Bool, true, false, bytes_eq, cond, sym, ◌∙◌, ap, refl, arith, Option, Some, None, slice_range, slice_index_or, slice_set, length-append, length-drop, fold}
+use Rattle.std.proofs.Common.{◌≡◌, ◌≢◌, ℕ, ◌+◌, ◌-◌, ◌≤◌, List, [], ◌∷◌, ◌++◌, length, take, drop, Bool, true, false, bytes_eq, cond, sym, ◌∙◌, ap, refl, arith, Option, Some, None, slice_range, length-append, length-drop, fold}
 use Rattle.std.proofs.lemmas.Grind.{common_steps}
 use Rattle.std.proofs.lemmas.List.{drop-append-le}
 use Rattle.std.proofs.lemmas.List.Sums.{fold-append}
-use Rattle.std.proofs.Math.Seq.{drop-append_seam, set-append_seam}
+use Rattle.std.proofs.Math.Seq.{drop-append_seam}
 use Rattle.std.proofs.lemmas.Slice.Eq.{bytes_eq-Decides}
 use Rattle.qs_ports.specs.declared.memory.span.Span.{Span}
-use Rattle.qs_ports.specs.Shelf.{name_at, content_at, named_or, find, content_of, files_of, name_of, newest_name, newest_end, IsWithin, AreWithin, OptionWithin}
+use Rattle.qs_ports.specs.Shelf.{name_at, content_at, named_or, find, content_of, files_of, name_of, newest_name, IsWithin, AreWithin, OptionWithin}
 
 -- ranges of bytes
 
@@ -41,14 +41,6 @@ pub are_within_more : (spans : List Span) (n k : ℕ) → n ≤ k → AreWithin 
 are_within_more [] n k h w = tt
 are_within_more (s ∷ ss) n k h (a, b) = (within_more s n k h a, are_within_more ss n k h b)
 
-pub option_within_more : (o : Option Span) (n k : ℕ) → n ≤ k → OptionWithin o n → OptionWithin o k
-option_within_more None n k h w = tt
-option_within_more (Some s) n k h w = within_more s n k h w
-
-pub within_push : (ss : List Span) (s : Span) (n : ℕ) → AreWithin ss n → IsWithin s n → AreWithin (ss ++ s ∷ []) n
-within_push [] s n w x = (x, tt)
-within_push (t ∷ ts) s n (a, b) x = (a, within_push ts s n b x)
-
 pub within_front : (ss : List Span) (s : Span) (n : ℕ) → AreWithin (ss ++ s ∷ []) n → AreWithin ss n
 within_front [] s n w = tt
 within_front (t ∷ ts) s n (a, b) = (a, within_front ts s n b)
@@ -59,20 +51,20 @@ within_last (t ∷ ts) s n (a, b) = within_last ts s n b
 
 -- looking up a name
 
-same_bytes : (a : List ℕ) → bytes_eq a a ≡ true
+pub same_bytes : (a : List ℕ) → bytes_eq a a ≡ true
 same_bytes a = (bytes_eq-Decides a a).1 refl
 
-other_bytes : (a b : List ℕ) → a ≢ b → bytes_eq a b ≡ false
+pub other_bytes : (a b : List ℕ) → a ≢ b → bytes_eq a b ≡ false
 other_bytes a b h = grind (arith, bytes_eq-Decides a b)
 
 -- a name stays where bytes are added
-name_more : (bytes p : List ℕ) (s : Span) → IsWithin s (length bytes) → name_at (bytes ++ p) s ≡ name_at bytes s
+pub name_more : (bytes p : List ℕ) (s : Span) → IsWithin s (length bytes) → name_at (bytes ++ p) s ≡ name_at bytes s
 name_more bytes p s w = range_append bytes p s.name s.content w.named (let a = w.started in let b = w.ended in omega arith)
 
 content_more : (bytes p : List ℕ) (s : Span) → IsWithin s (length bytes) → content_at (bytes ++ p) s ≡ content_at bytes s
 content_more bytes p s w = range_append bytes p s.content s.end w.started w.ended
 
-found_more : (bytes p name : List ℕ) (ss : List Span) (a : Option Span) → AreWithin ss (length bytes) → fold (named_or (bytes ++ p) name) a ss ≡ fold (named_or bytes name) a ss
+pub found_more : (bytes p name : List ℕ) (ss : List Span) (a : Option Span) → AreWithin ss (length bytes) → fold (named_or (bytes ++ p) name) a ss ≡ fold (named_or bytes name) a ss
 found_more bytes p name [] a w = refl
 found_more bytes p name (s ∷ ss) a (x, w) =
     let e : named_or (bytes ++ p) name a s ≡ named_or bytes name a s = ap (λ n. cond (bytes_eq n name) (Some s) a) (name_more bytes p s x) in
@@ -149,26 +141,3 @@ newest_skipped bytes ss s name e =
 
 pub newest_name_push : (bytes : List ℕ) (ss : List Span) (s : Span) → newest_name bytes (ss ++ s ∷ []) ≡ name_at bytes s
 newest_name_push bytes ss s = fold-append (λ _ (x : Span). name_at bytes x) [] ss (s ∷ [])
-
-pub newest_end_push : (ss : List Span) (s : Span) → newest_end (ss ++ s ∷ []) ≡ s.end
-newest_end_push ss s = fold-append (λ _ (x : Span). x.end) 0 ss (s ∷ [])
-
--- a list with elements has a last one
-pub record HasLast (xs : List Span) : Type 0 where
-  pub front : List Span
-  pub last : Span
-  pub is : xs ≡ front ++ last ∷ []
-
-pub has_last : (xs : List Span) → 0 < length xs → HasLast xs
-has_last [] h = absurd (omega arith)
-has_last (x ∷ []) h = record { front = []; last = x; is = refl }
-has_last (x ∷ y ∷ ys) h =
-    let r : HasLast (y ∷ ys) = has_last (y ∷ ys) (omega arith) in
-    record { front = x ∷ r.front; last = r.last; is = ap (λ zs. x ∷ zs) r.is }
-
--- the element at the last place
-pub last_read : (ss : List Span) (s d : Span) (n : ℕ) → n ≡ length ss → slice_index_or (ss ++ s ∷ []) n d ≡ s
-last_read ss s d n e = grind (arith, common_steps)
-
-pub last_set : (ss : List Span) (s t : Span) (n : ℕ) → n ≡ length ss → slice_set (ss ++ s ∷ []) n t ≡ ss ++ t ∷ []
-last_set ss s t n e = rw e (set-append_seam ss s [] t)

@@ -6,6 +6,7 @@ pub mod Memory
 pub mod Room
 pub mod CleanSink
 pub mod MemSink
+pub mod Cells
 pub mod Shelf
 pub mod ShelfProps
 pub mod ShelfView

@@ -1,7 +1,9 @@
 -- Files in memory: one list of bytes that only grows, and where each file lies in it, the oldest first. A file hides the
 -- older ones of its name.
-use Rattle.std.specs.Prelude.{ℕ, ◌≤◌, List, [], ◌∷◌, length, Bool, true, false, bytes_eq, if◌then◌else◌, slice_range, Option, Some, None, fold}
+use Rattle.std.specs.Prelude.{◌≡◌, ℕ, ◌≤◌, ◌<◌, List, [], ◌∷◌, length, Bool, true, false, bytes_eq, nat_eq, if◌then◌else◌, slice_range, Option, Some, None, fold}
+use Rattle.qs_ports.specs.Cells.{spans_of}
 use Rattle.qs_ports.specs.StoreView.{Files}
+use Rattle.qs_ports.specs.declared.memory.cells.Cells.{Cells}
 use Rattle.qs_ports.specs.declared.memory.span.Span.{Span}
 
 -- the name of a file, and its content
@@ -37,10 +39,6 @@ name_of bytes (Some s) = Some (name_at bytes s)
 abbrev pub newest_name : List ℕ → List Span → List ℕ
 newest_name bytes spans = fold (λ _ s. name_at bytes s) [] spans
 
--- where the newest file ends
-abbrev pub newest_end : List Span → ℕ
-newest_end spans = fold (λ _ s. s.end) 0 spans
-
 -- the name of the newest file, where it is open for writing
 abbrev pub writing_name : List ℕ → List Span → Bool → Option (List ℕ)
 writing_name bytes spans false = None
@@ -62,10 +60,29 @@ abbrev pub OptionWithin : Option Span → ℕ → Type 0
 OptionWithin None n = Unit {0}
 OptionWithin (Some s) n = IsWithin s n
 
--- all files lie in these bytes
-abbrev pub AreIn : List Span → List ℕ → Type 0
-AreIn spans bytes = AreWithin spans (length bytes)
+-- there is a file
+abbrev pub HasFiles : Cells → Type 0
+HasFiles c = 0 < length (spans_of c.parts.items)
 
--- a file does that may be there
-abbrev pub OptionIn : Option Span → List ℕ → Type 0
-OptionIn o bytes = OptionWithin o (length bytes)
+-- a file that may be there is the newest of its name
+abbrev pub IsNewest : Option Span → List ℕ → List Span → Type 0
+IsNewest None bytes spans = Unit {0}
+IsNewest (Some s) bytes spans = find bytes spans (name_at bytes s) ≡ Some s
+
+-- the same of files in cells
+abbrev pub IsCurrent : Option Span → Cells → Type 0
+IsCurrent reading c = IsNewest reading c.bytes.items (spans_of c.parts.items)
+
+-- the file that was created, where it has the name of this one
+abbrev pub newer_of : List ℕ → Span → Span → Span
+newer_of bytes s created = if bytes_eq (name_at bytes s) (name_at bytes created) then created else s
+
+-- the same of a file that may be there
+abbrev pub renewed : List ℕ → Option Span → Span → Option Span
+renewed bytes None created = None
+renewed bytes (Some s) created = Some (newer_of bytes s created)
+
+-- a file that may be there: if it ended at the first place, it ends at the second
+abbrev pub extended : Option Span → ℕ → ℕ → Option Span
+extended None end to = None
+extended (Some s) end to = Some (if nat_eq s.end end then record s { end = to } else s)

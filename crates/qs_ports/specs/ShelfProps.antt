@@ -1,19 +1,14 @@
 -- Each fact that a shelf keeps has at most one proof.
-use Rattle.std.proofs.Common.{ℕ, List, [], ◌∷◌, length, Option, Some, None}
+use Rattle.std.proofs.Common.{List, ℕ, Option, Some, None}
 use Rattle.std.proofs.Props.{props}
+use Rattle.qs_ports.specs.declared.memory.cells.Cells.{Cells}
 use Rattle.qs_ports.specs.declared.memory.span.Span.{Span}
-use Rattle.qs_ports.specs.Shelf.{AreWithin, OptionWithin, AreIn, OptionIn}
+use Rattle.qs_ports.specs.Cells.{spans_of}
+use Rattle.qs_ports.specs.Shelf.{IsNewest, IsCurrent}
 
-are_within_prop : (spans : List Span) (n : ℕ) → IsProp (AreWithin spans n)
-are_within_prop [] n = hlevel props
-are_within_prop (s ∷ ss) n = hlevel (props, are_within_prop ss n)
+is_newest_prop : (o : Option Span) (bytes : List ℕ) (spans : List Span) → IsProp (IsNewest o bytes spans)
+is_newest_prop None bytes spans = hlevel props
+is_newest_prop (Some s) bytes spans = hlevel props
 
-option_within_prop : (o : Option Span) (n : ℕ) → IsProp (OptionWithin o n)
-option_within_prop None n = hlevel props
-option_within_prop (Some s) n = hlevel props
-
-pub are_in_prop : (spans : List Span) (bytes : List ℕ) → IsProp (AreIn spans bytes)
-are_in_prop spans bytes = are_within_prop spans (length bytes)
-
-pub option_in_prop : (o : Option Span) (bytes : List ℕ) → IsProp (OptionIn o bytes)
-option_in_prop o bytes = option_within_prop o (length bytes)
+pub is_current_prop : (o : Option Span) (c : Cells) → IsProp (IsCurrent o c)
+is_current_prop o c = is_newest_prop o c.bytes.items (spans_of c.parts.items)

@@ -2,21 +2,22 @@
 use Rattle.std.specs.Prelude.{◌≡◌, ℕ, ◌+◌, List, length, not, Bool, Option, Some, None, if◌then◌else◌}
 use Rattle.qs_ports.specs.StoreView.{StoreView, Files, IsCreated, IsAppended, KeepsReading}
 use Rattle.qs_ports.specs.Memory.{StoreTellsOn}
+use Rattle.qs_ports.specs.Cells.{spans_of}
 use Rattle.qs_ports.specs.Shelf.{files_of, name_of, writing_name}
 use Rattle.qs_ports.specs.declared.memory.shelf.Shelf.{Shelf}
 
 -- its files, by their names
 abbrev pub shelf_files : Shelf → Files
-shelf_files s = files_of s.bytes.items s.files.items
+shelf_files s = files_of s.cells.bytes.items (spans_of s.cells.parts.items)
 
 -- it tells its files until it is full
 abbrev pub shelf_view : Shelf → ℕ → ℕ → StoreView
 shelf_view s faults misses = record {
   told = not s.full;
-  files = files_of s.bytes.items s.files.items;
-  reading = name_of s.bytes.items s.reading;
+  files = shelf_files s;
+  reading = name_of s.cells.bytes.items s.reading;
   place = s.place;
-  writing = writing_name s.bytes.items s.files.items s.writing;
+  writing = writing_name s.cells.bytes.items (spans_of s.cells.parts.items) s.writing;
   spare = s.spare;
   faults = faults;
   misses = misses;

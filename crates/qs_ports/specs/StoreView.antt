@@ -29,7 +29,7 @@ pub record StoreView : Type 0 where
 
 -- what a file takes of the room beside its name and its content, in bytes; to make one counts as moving them
 abbrev pub file_room : ℕ
-file_room = 24
+file_room = 1
 
 -- A call that moves at most `spare` bytes lowers `spare` by as many, and a store that tells its files goes on telling
 -- them. A call that moves nothing always does so, and leaves `spare` as it is.

@@ -23,13 +23,16 @@ pub record IsContent (file : Option (List ℕ)) (limit : ℕ) (bytes : List ℕ)
 abbrev pub TakesUpTo : StoreView → ℕ → Type 0
 TakesUpTo w limit = IsTrue w.told → IsSome w.reading → w.place ≤ limit + 1
 
--- the file was read, and no more than these bytes were taken: no file changed or was opened for writing, and nothing failed
+-- the file was read to its end, or to one byte past the limit, and no more than these bytes were taken: no file changed or
+-- was opened for writing, and nothing failed
 pub record IsWhole (v w : StoreView) (name : List ℕ) (limit : ℕ) (bytes : List ℕ) : Type 0 where
   pub only_reads : OnlyReads v w
   pub counts : HasSameCounts v w
   pub content : IsTrue w.told → IsContent (v.files name) limit bytes
   pub len : length bytes ≤ limit + 1
+  pub reading : IsTrue w.told → w.reading ≡ Some name
   pub place : IsTrue w.told → w.place ≡ length bytes
+  pub at_end : IsTrue w.told → length bytes ≤ limit → left_of w ≡ []
 
 -- the answer of `read_whole`; none of them changes a file, or opens one for writing
 abbrev pub ReadsWhole : StoreView → StoreView → List ℕ → ℕ → Result (Vec ℕ Global) ReadFault → Type 0
@@ -43,6 +46,7 @@ pub record IsMore (v w : StoreView) (old new : List ℕ) (most n : ℕ) : Type 0
   pub only_reads : OnlyReads v w
   pub counts : HasSameCounts v w
   pub open_still : IsSome w.reading
+  pub reading : w.reading ≡ v.reading
   pub at_most : n ≤ most
   pub len : length new ≡ length old + n
   pub place : IsTrue w.told → w.place ≡ v.place + n

@@ -78,9 +78,9 @@ fn read_more<S: Store>(store: &mut S, bytes: &mut Vec<u8>, most: usize) -> Resul
     Ok(count)
 }
 
-/// The bytes of a file, up to one past the limit, so that a file that is longer than the limit
-/// shows; no more are taken from it. `Missing` and `Failed` come only where the store counted them
-/// in this call.
+/// The bytes of a file, to its end or up to one past the limit, so that a file that is longer than
+/// the limit shows; no more are taken from it. `Missing` and `Failed` come only where the store
+/// counted them in this call.
 pub fn read_whole<S: Store>(
     alloc: Global,
     store: &mut S,

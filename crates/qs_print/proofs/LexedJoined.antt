@@ -2,6 +2,7 @@
 use Rattle.std.proofs.Common.{◌≡◌, ℕ, ◌+◌, Bool, true, false, List, [], ◌∷◌, ◌++◌, length, refl, ap, sym, subst, arith}
 use Rattle.std.proofs.lemmas.Bool.Decides.{nat_tests}
 use Rattle.std.specs.List.{list_all}
+use Rattle.std.proofs.lemmas.Bool.{and_parts}
 use Rattle.qs_lexer.specs.Bytes.{is_space}
 use Rattle.qs_lexer.specs.Terminals.{terminal_of}
 use Rattle.qs_lexer.specs.Pieces.{Next, still_fresh}
@@ -17,7 +18,7 @@ use Rattle.qs_print.specs.Spelling.{joined, spelling}
 use Rattle.qs_print.proofs.LexedPunctuators.{punctuator_next}
 use Rattle.qs_print.proofs.LexedNumbers.{constant_next}
 use Rattle.qs_print.proofs.LexedTexts.{text_back, text_next}
-use Rattle.qs_print.proofs.LexedWords.{both, is_gap, keyword_next, name_next}
+use Rattle.qs_print.proofs.LexedWords.{is_gap, keyword_next, name_next}
 
 -- ---- one terminal
 
@@ -69,7 +70,7 @@ gap_is (l ∷ ls) = refl
 all_lexed : (fresh : Bool) (number : ℕ) (ls : List Terminal) → list_all is_well_formed ls ≡ true → LexesAs fresh (others_joined ls) number (renumbered number ls)
 all_lexed fresh number [] h = nothing_left fresh number
 all_lexed fresh number (l ∷ ls) h =
-    let hs : (is_well_formed l ≡ true) × (list_all is_well_formed ls ≡ true) = both (is_well_formed l) (list_all is_well_formed ls) h in
+    let hs : (is_well_formed l ≡ true) × (list_all is_well_formed ls ≡ true) = and_parts (is_well_formed l) (list_all is_well_formed ls) h in
     let still : Bool = still_fresh false (gap_before ls ∷ []) in
     let others : LexesAs still (others_joined ls) (number + 1) (renumbered (number + 1) ls) = all_lexed still (number + 1) ls hs.1 in
     let gap : LexesAs false (gap_before ls ∷ others_joined ls) (number + 1) (renumbered (number + 1) ls) = white_then false still (gap_before ls) (gap_space (gap_before ls) (gap_is ls)) refl others in

@@ -6,6 +6,7 @@ use Rattle.std.proofs.lemmas.Fmt.{decimal_by_steps, first_decimal}
 use Rattle.std.proofs.lemmas.Bool.Decides.{nat_tests}
 use Rattle.std.specs.Fmt.{decimal}
 use Rattle.std.specs.List.{list_all}
+use Rattle.std.proofs.lemmas.Bool.{and_right, and_parts, and_from}
 use Rattle.qs_base.specs.Bytes.{is_digit}
 use Rattle.qs_lexer.specs.Bytes.{is_number_byte, starts, starts_with}
 use Rattle.qs_lexer.specs.Numbers.{are_digits, base_of, digit_value, digits_of, has_suffix, is_hexadecimal, number_of, number_without_suffix, typed, value_from, value_of, without_suffix}
@@ -15,10 +16,9 @@ use Rattle.qs_lexer.specs.declared.fault.FaultKind.TheVariants as faults
 use Rattle.qs_lexer.specs.declared.pieces.Piece.TheVariants as pieces
 use Rattle.qs_syntax_vocabulary.specs.declared.tokens.TokenKind.{TokenKind}
 use Rattle.qs_syntax_vocabulary.specs.declared.tokens.TokenKind.TheVariants as kinds
-use Rattle.qs_lexer.proofs.Conjunctions.{and_false}
 use Rattle.qs_lexer.proofs.TokenEnds.{number_next}
 use Rattle.qs_print.specs.Spelling.{suffix}
-use Rattle.qs_print.proofs.LexedWords.{and_true, both, is_gap}
+use Rattle.qs_print.proofs.LexedWords.{is_gap}
 
 -- ---- the last byte
 
@@ -55,7 +55,7 @@ value_append base v (y ∷ ys) x = value_append base (v * base + digit_value y) 
 all_append : (p : ℕ → Bool) (xs : List ℕ) (x : ℕ) → list_all p xs ≡ true → p x ≡ true → list_all p (xs ++ x ∷ []) ≡ true
 all_append p [] x h e = rw e refl
 all_append p (y ∷ ys) x h e =
-    let b : (p y ≡ true) × (list_all p ys ≡ true) = both (p y) (list_all p ys) h in
+    let b : (p y ≡ true) × (list_all p ys ≡ true) = and_parts (p y) (list_all p ys) h in
     rw (b.0) (all_append p ys x b.1 e)
 
 record Digits (n : ℕ) (ds : List ℕ) : Type 0 where
@@ -95,11 +95,11 @@ digits_of_number n h = decimal_by_steps Digits one_digit more_digits n h
 
 no_hexadecimal : (ds : List ℕ) → list_all is_digit ds ≡ true → is_hexadecimal ds ≡ false
 no_hexadecimal [] h = refl
-no_hexadecimal (a ∷ []) h = and_false (a == 48) false refl
+no_hexadecimal (a ∷ []) h = and_right (a == 48) false refl
 no_hexadecimal (a ∷ b ∷ bs) h =
-    let p : (is_digit a ≡ true) × (list_all is_digit (b ∷ bs) ≡ true) = both (is_digit a) (list_all is_digit (b ∷ bs)) h in
-    let q : (is_digit b ≡ true) × (list_all is_digit bs ≡ true) = both (is_digit b) (list_all is_digit bs) p.1 in
-    and_false (a == 48) (b == 120 || b == 88) (no_x b q.0)
+    let p : (is_digit a ≡ true) × (list_all is_digit (b ∷ bs) ≡ true) = and_parts (is_digit a) (list_all is_digit (b ∷ bs)) h in
+    let q : (is_digit b ≡ true) × (list_all is_digit bs ≡ true) = and_parts (is_digit b) (list_all is_digit bs) p.1 in
+    and_right (a == 48) (b == 120 || b == 88) (no_x b q.0)
   where
     no_x : (b : ℕ) → is_digit b ≡ true → (b == 120 || b == 88) ≡ false
     no_x b h = grind (arith, nat_tests)
@@ -107,8 +107,8 @@ no_hexadecimal (a ∷ b ∷ bs) h =
 all_below : (base : ℕ) (ds : List ℕ) → list_all is_digit ds ≡ true → 10 ≤ base → are_digits base ds ≡ true
 all_below base [] h l = refl
 all_below base (x ∷ xs) h l =
-    let b : (is_digit x ≡ true) × (list_all is_digit xs ≡ true) = both (is_digit x) (list_all is_digit xs) h in
-    and_true (nat_lt (digit_value x) base) (are_digits base xs) (digit_below base x b.0 l) (all_below base xs b.1 l)
+    let b : (is_digit x ≡ true) × (list_all is_digit xs ≡ true) = and_parts (is_digit x) (list_all is_digit xs) h in
+    and_from (nat_lt (digit_value x) base) (are_digits base xs) (digit_below base x b.0 l) (all_below base xs b.1 l)
 
 when_true : (b : Bool) (x y : Result TokenKind FaultKind) → b ≡ true → cond b x y ≡ x
 when_true true x y h = refl
@@ -140,7 +140,7 @@ plain_number n ds unsigned d nonzero h =
     let base : base_of ds ≡ 10 = rw (x, nonzero) refl in
     let digits : digits_of ds ≡ ds = rw x refl in
     let some : nat_lt 0 (length ds) ≡ true = let l : 0 < length ds = d.some in grind (arith, nat_tests) in
-    let good : (nat_lt 0 (length ds) && are_digits 10 ds) ≡ true = and_true (nat_lt 0 (length ds)) (are_digits 10 ds) some (all_below 10 ds d.all (omega arith)) in
+    let good : (nat_lt 0 (length ds) && are_digits 10 ds) ≡ true = and_from (nat_lt 0 (length ds)) (are_digits 10 ds) some (all_below 10 ds d.all (omega arith)) in
     ap (λ b. judged b (digits_of ds) unsigned) base ∙ ap (λ xs. judged 10 xs unsigned) digits
     ∙ when_true (nat_lt 0 (length ds) && are_digits 10 ds) (typed 10 unsigned (value_of 10 ds)) (Err faults.BadLiteral) good
     ∙ ap (typed 10 unsigned) d.value ∙ typed_back n unsigned h
@@ -181,8 +181,8 @@ digit_number x h = grind (arith, nat_tests)
 number_bytes : (ds : List ℕ) → list_all is_digit ds ≡ true → list_all is_number_byte ds ≡ true
 number_bytes [] h = refl
 number_bytes (x ∷ xs) h =
-    let b : (is_digit x ≡ true) × (list_all is_digit xs ≡ true) = both (is_digit x) (list_all is_digit xs) h in
-    and_true (is_number_byte x) (list_all is_number_byte xs) (digit_number x b.0) (number_bytes xs b.1)
+    let b : (is_digit x ≡ true) × (list_all is_digit xs ≡ true) = and_parts (is_digit x) (list_all is_digit xs) h in
+    and_from (is_number_byte x) (list_all is_number_byte xs) (digit_number x b.0) (number_bytes xs b.1)
 
 literal_bytes : (ds : List ℕ) (unsigned : Bool) → list_all is_digit ds ≡ true → list_all is_number_byte (ds ++ suffix unsigned) ≡ true
 literal_bytes ds true h = all_append is_number_byte ds 117 (number_bytes ds h) refl
@@ -193,7 +193,7 @@ gap_no_number gap h = grind (arith, nat_tests)
 
 number_starts : (ds rest : List ℕ) → 0 < length ds → list_all is_digit ds ≡ true → starts is_digit (ds ++ rest) ≡ true
 number_starts [] rest l h = absurd (omega arith)
-number_starts (x ∷ xs) rest l h = (both (is_digit x) (list_all is_digit xs) h).0
+number_starts (x ∷ xs) rest l h = (and_parts (is_digit x) (list_all is_digit xs) h).0
 
 pub constant_next : (fresh : Bool) (n : ℕ) (unsigned : Bool) (gap : ℕ) (rest : List ℕ) → is_value n unsigned ≡ true → is_gap gap ≡ true
     → Next fresh ((decimal n ++ suffix unsigned) ++ gap ∷ rest) (pieces.Token (length (decimal n ++ suffix unsigned)) (kinds.Number n unsigned))

@@ -4,6 +4,7 @@ use Rattle.std.proofs.Math.Seq.{take-append_seam}
 use Rattle.std.proofs.lemmas.List.{length-append, length-take-le}
 use Rattle.std.proofs.lemmas.Bool.Decides.{nat_tests}
 use Rattle.std.specs.List.{list_any}
+use Rattle.std.proofs.lemmas.Bool.{and_right, or_parts, or_right, and_parts, not-true}
 use Rattle.qs_base.specs.Bytes.{is_digit, is_letter}
 use Rattle.qs_lexer.specs.Bytes.{is_space, starts_with}
 use Rattle.qs_lexer.specs.Pieces.{Next, Stands, class_of, class_with, token_or_fault}
@@ -14,28 +15,19 @@ use Rattle.qs_lexer.specs.declared.pieces.Piece.TheVariants as pieces
 use Rattle.qs_syntax_vocabulary.specs.declared.punctuator.Punctuator.{Punctuator}
 use Rattle.qs_syntax_vocabulary.specs.declared.tokens.TokenKind.TheVariants as kinds
 use Rattle.qs_lexer.proofs.PieceClasses.{next_is}
-use Rattle.qs_lexer.proofs.Conjunctions.{and_false}
 use Rattle.qs_syntax_vocabulary.proofs.PunctuatorLaws.{each_punctuator, no_punctuator, punctuator_of-spelling}
-use Rattle.qs_print.proofs.LexedWords.{both, is_gap, not_true}
+use Rattle.qs_print.proofs.LexedWords.{is_gap}
 
 -- ---- no punctuator has a gap within
 
-or_parts : (b c : Bool) → (b || c) ≡ false → (b ≡ false) × (c ≡ false)
-or_parts true c h = cc
-or_parts false c h = (refl, h)
-
 no_gap_within : (bytes : List ℕ) → list_any is_gap bytes ≡ true → punctuator_of bytes ≡ None
 no_gap_within bytes h = no_punctuator (λ spelling. not (list_any is_gap spelling)) refl bytes (ap not h)
-
-or_second : (b c : Bool) → c ≡ true → (b || c) ≡ true
-or_second true c h = refl
-or_second false c h = h
 
 -- more bytes than the word's take the gap with them
 gap_within : (word : List ℕ) (gap : ℕ) (rest : List ℕ) (m : ℕ) → is_gap gap ≡ true → length word < m → list_any is_gap (take m (word ++ gap ∷ rest)) ≡ true
 gap_within word gap rest zero g h = absurd (omega arith)
 gap_within [] gap rest (suc m) g h = rw g refl
-gap_within (x ∷ xs) gap rest (suc m) g h = or_second (is_gap x) (list_any is_gap (take m (xs ++ gap ∷ rest))) (gap_within xs gap rest m g (omega arith))
+gap_within (x ∷ xs) gap rest (suc m) g h = or_right (is_gap x) (list_any is_gap (take m (xs ++ gap ∷ rest))) (gap_within xs gap rest m g (omega arith))
 
 -- ---- the class of a punctuator
 
@@ -65,7 +57,7 @@ plain a h =
     record { space = p.0; marker = q.0; letter = r.0; digit = s.0; character = t.0; text = t.1 }
 
 plain_class : (fresh : Bool) (a : ℕ) (others : List ℕ) → Plain a → (a == 47 && starts_with 47 others) ≡ false → (a == 47 && starts_with 42 others) ≡ false → class_with fresh a others ≡ Other
-plain_class fresh a others p l b = rw (p.space, l, b, and_false fresh (a == 35) p.marker, p.letter, p.digit, p.character, p.text) refl
+plain_class fresh a others p l b = rw (p.space, l, b, and_right fresh (a == 35) p.marker, p.letter, p.digit, p.character, p.text) refl
 
 gap_no : (gap x : ℕ) → is_gap gap ≡ true → 33 ≤ x → (gap == x) ≡ false
 gap_no gap x g h = grind (arith, nat_tests)
@@ -79,11 +71,11 @@ no_comment false y z h = (refl, refl)
 punctuator_class : (fresh : Bool) (word : List ℕ) (gap : ℕ) (rest : List ℕ) → is_plain word ≡ true → is_gap gap ≡ true → class_of fresh (word ++ gap ∷ rest) ≡ Other
 punctuator_class fresh [] gap rest h g = cc
 punctuator_class fresh (a ∷ []) gap rest h g =
-    plain_class fresh a (gap ∷ rest) (plain a (not_true (begins_other a) h)) (and_false (a == 47) (gap == 47) (gap_no gap 47 g (omega arith))) (and_false (a == 47) (gap == 42) (gap_no gap 42 g (omega arith)))
+    plain_class fresh a (gap ∷ rest) (plain a (not-true (begins_other a) h)) (and_right (a == 47) (gap == 47) (gap_no gap 47 g (omega arith))) (and_right (a == 47) (gap == 42) (gap_no gap 42 g (omega arith)))
 punctuator_class fresh (a ∷ b ∷ bytes) gap rest h g =
-    let p : (not (begins_other a) ≡ true) × (not (a == 47 && (b == 47 || b == 42)) ≡ true) = both (not (begins_other a)) (not (a == 47 && (b == 47 || b == 42))) h in
+    let p : (not (begins_other a) ≡ true) × (not (a == 47 && (b == 47 || b == 42)) ≡ true) = and_parts (not (begins_other a)) (not (a == 47 && (b == 47 || b == 42))) h in
     let n : ((a == 47 && b == 47) ≡ false) × ((a == 47 && b == 42) ≡ false) = no_comment (a == 47) (b == 47) (b == 42) p.1 in
-    plain_class fresh a (b ∷ (bytes ++ gap ∷ rest)) (plain a (not_true (begins_other a) p.0)) n.0 n.1
+    plain_class fresh a (b ∷ (bytes ++ gap ∷ rest)) (plain a (not-true (begins_other a) p.0)) n.0 n.1
 
 -- ---- the punctuators
 

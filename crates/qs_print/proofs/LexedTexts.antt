@@ -5,6 +5,7 @@ use Rattle.std.proofs.lemmas.List.{append_assoc, length-append}
 use Rattle.std.proofs.lemmas.List.Concat.{flat_map-cons}
 use Rattle.std.proofs.lemmas.Bool.Decides.{nat_tests}
 use Rattle.std.specs.List.{list_all, list_any}
+use Rattle.std.proofs.lemmas.Bool.{and_parts}
 use Rattle.qs_lexer.specs.Ends.{Goes, Ends, Fails, end_of, quote_turn}
 use Rattle.qs_lexer.specs.Literals.{byte_values, element_length, elements, elements_behind, elements_of, first_element, inside, is_bad, is_wide, octal_count, octal_escape, text_of, text_with, valued}
 use Rattle.qs_lexer.specs.Numbers.{digit_value, value_of}
@@ -19,7 +20,6 @@ use Rattle.qs_lexer.proofs.PieceClasses.{next_is}
 use Rattle.qs_lexer.proofs.LiteralElements.{first_and_others}
 use Rattle.qs_lexer.proofs.ScanTokens.{text_ends}
 use Rattle.qs_print.specs.Spelling.{octal}
-use Rattle.qs_print.proofs.LexedWords.{both}
 
 -- ---- the bytes of a text in octal
 
@@ -68,7 +68,7 @@ end_octal byte n rest h e =
 end_octals : (bytes rest : List ℕ) → list_all is_byte bytes ≡ true → end_of (quote_turn 34) false (octals bytes ++ 34 ∷ rest) ≡ Some (length (octals bytes) + 1)
 end_octals [] rest h = refl
 end_octals (b ∷ bs) rest h =
-    let p : (is_byte b ≡ true) × (list_all is_byte bs ≡ true) = both (is_byte b) (list_all is_byte bs) h in
+    let p : (is_byte b ≡ true) × (list_all is_byte bs ≡ true) = and_parts (is_byte b) (list_all is_byte bs) h in
     let split : octals (b ∷ bs) ≡ octal b ++ octals bs = flat_map-cons octal b bs in
     let i : end_of (quote_turn 34) false (octals bs ++ 34 ∷ rest) ≡ Some (length (octals bs) + 1) = end_octals bs rest p.1 in
     let l : length (octals (b ∷ bs)) ≡ suc (suc (suc (suc (length (octals bs))))) = ap length split in
@@ -134,7 +134,7 @@ as_elements (b ∷ bs) = item.Byte b ∷ as_elements bs
 all_elements : (bytes : List ℕ) → list_all is_byte bytes ≡ true → elements_behind 0 (octals bytes) ≡ as_elements bytes
 all_elements [] h = refl
 all_elements (b ∷ bs) h =
-    let p : (is_byte b ≡ true) × (list_all is_byte bs ≡ true) = both (is_byte b) (list_all is_byte bs) h in
+    let p : (is_byte b ≡ true) × (list_all is_byte bs ≡ true) = and_parts (is_byte b) (list_all is_byte bs) h in
     ap (elements_behind 0) (flat_map-cons octal b bs) ∙ octal_elements b (octals bs) (below b p.0) ∙ ap (λ es. item.Byte b ∷ es) (all_elements bs p.1)
 
 values_back : (bytes : List ℕ) → byte_values (as_elements bytes) ≡ bytes

@@ -1,6 +1,7 @@
 -- A word with a gap behind it.
-use Rattle.std.proofs.Common.{◌≡◌, ℕ, Bool, true, false, not, ◌&&◌, ◌||◌, List, ◌∷◌, ◌++◌, Option, Some, None, is_some, Ok, length, refl, ap, arith, ◌==◌}
+use Rattle.std.proofs.Common.{◌≡◌, ℕ, Bool, true, false, not, ◌||◌, List, ◌∷◌, ◌++◌, Option, Some, None, is_some, Ok, length, refl, ap, arith, ◌==◌}
 use Rattle.std.proofs.lemmas.Bool.Decides.{nat_tests}
+use Rattle.std.proofs.lemmas.Bool.{and_parts, not-true}
 use Rattle.qs_base.specs.Bytes.{is_word_byte}
 use Rattle.qs_base.specs.Keywords.{is_keyword, keyword_of, keyword_spelling}
 use Rattle.qs_base.specs.Names.{is_name, is_word}
@@ -13,17 +14,6 @@ use Rattle.qs_base.proofs.KeywordLaws.{each_keyword, keyword_of-spelling}
 use Rattle.qs_lexer.proofs.TokenEnds.{word_next}
 
 -- ---- tests
-
-pub both : (b c : Bool) → (b && c) ≡ true → (b ≡ true) × (c ≡ true)
-both true c h = (refl, h)
-both false c h = cc
-
-pub and_true : (b c : Bool) → b ≡ true → c ≡ true → (b && c) ≡ true
-and_true b c p q = rw (p, q) refl
-
-pub not_true : (b : Bool) → not b ≡ true → b ≡ false
-not_true true h = cc
-not_true false h = refl
 
 -- ---- what stands behind a word: a blank or the end of a line
 
@@ -42,8 +32,8 @@ no_some (Some x) h = cc
 name_parts : (word : List ℕ) → is_name word ≡ true → (is_word word ≡ true) × (keyword_of word ≡ None)
 unfolding is_name is_keyword
 name_parts word h =
-    let b : (is_word word ≡ true) × (not (is_some (keyword_of word)) ≡ true) = both (is_word word) (not (is_some (keyword_of word))) h in
-    (b.0, no_some (keyword_of word) (not_true (is_some (keyword_of word)) b.1))
+    let b : (is_word word ≡ true) × (not (is_some (keyword_of word)) ≡ true) = and_parts (is_word word) (not (is_some (keyword_of word))) h in
+    (b.0, no_some (keyword_of word) (not-true (is_some (keyword_of word)) b.1))
 
 pub name_next : (fresh : Bool) (word : List ℕ) (gap : ℕ) (rest : List ℕ) → is_name word ≡ true → is_gap gap ≡ true → Next fresh (word ++ gap ∷ rest) (pieces.Token (length word) kinds.Name)
 name_next fresh word gap rest h g =

@@ -2,6 +2,7 @@
 use Rattle.std.proofs.Common.{◌≡◌, ℕ, zero, suc, Bool, true, false, ◌&&◌, List, [], ◌++◌, nat_le, refl, sym, ◌∙◌}
 use Rattle.std.specs.List.{list_all}
 use Rattle.std.proofs.lemmas.List.Folds.{list_all-append}
+use Rattle.std.specs.Cmp.{first_so, second_so}
 use Rattle.qs_base.specs.Names.{is_name}
 use Rattle.qs_syntax_vocabulary.specs.WellFormed.{is_byte, is_well_formed}
 use Rattle.qs_syntax_vocabulary.specs.declared.terminal.Terminal.{Terminal}
@@ -19,24 +20,16 @@ use Rattle.qs_print.specs.Printed.{printed_expr, printed_arguments, further_argu
 abbrev pub Are : List Terminal → Type 0
 Are ts = list_all is_well_formed ts ≡ true
 
-first : (b c : Bool) → (b && c) ≡ true → b ≡ true
-first true c h = refl
-first false c h = cc
-
-second : (b c : Bool) → (b && c) ≡ true → c ≡ true
-second true c h = h
-second false c h = cc
-
 -- the first stays, and what follows is replaced
 pub keep : (b c d : Bool) → (b && c) ≡ true → (c ≡ true → d ≡ true) → (b && d) ≡ true
 keep true c d h f = f h
 keep false c d h f = cc
 
 pub left : {A : Type 0} (p : A → Bool) (xs ys : List A) → list_all p (xs ++ ys) ≡ true → list_all p xs ≡ true
-left p xs ys h = first (list_all p xs) (list_all p ys) (sym (list_all-append p xs ys) ∙ h)
+left p xs ys h = first_so (list_all p xs) (list_all p ys) (sym (list_all-append p xs ys) ∙ h)
 
 pub right : {A : Type 0} (p : A → Bool) (xs ys : List A) → list_all p (xs ++ ys) ≡ true → list_all p ys ≡ true
-right p xs ys h = second (list_all p xs) (list_all p ys) (sym (list_all-append p xs ys) ∙ h)
+right p xs ys h = second_so (list_all p xs) (list_all p ys) (sym (list_all-append p xs ys) ∙ h)
 
 pub join : {A : Type 0} (p : A → Bool) (xs ys : List A) → list_all p xs ≡ true → list_all p ys ≡ true → list_all p (xs ++ ys) ≡ true
 join p xs ys h k = list_all-append p xs ys ∙ rw (h, k) refl
@@ -72,7 +65,7 @@ type_name_are (a_type_name {xs = xs} {ys = ys} {base = base} {n = n} t s) h = jo
 texts_are : {ts : List Terminal} {bytes : List ℕ} → ReadsTexts ts bytes → Are ts → list_all is_byte bytes ≡ true
 texts_are no_text h = refl
 texts_are (a_further_text {ts = ts} {bytes = bytes} at one r) h =
-    join is_byte one bytes (first (list_all is_byte one) (list_all is_well_formed ts) h) (texts_are r (second (list_all is_byte one) (list_all is_well_formed ts) h))
+    join is_byte one bytes (first_so (list_all is_byte one) (list_all is_well_formed ts) h) (texts_are r (second_so (list_all is_byte one) (list_all is_well_formed ts) h))
 
 unless_are : (b : Bool) (ls : List Terminal) → Are ls → Are (parentheses_unless b ls)
 unless_are true ls h = h
@@ -94,7 +87,7 @@ mutual
   expr_are (a_call {ts = ts} {es = es} at o c f r) h = keep (is_name f) _ _ h (λ k. join is_well_formed (printed_arguments es) _ (arguments_are r (left is_well_formed ts _ k)) refl)
   expr_are (a_constant at n unsigned) h = h
   expr_are (a_text {ts = ts} {bytes = bytes} at one r) h =
-      rw (join is_byte one bytes (first (list_all is_byte one) (list_all is_well_formed ts) h) (texts_are r (second (list_all is_byte one) (list_all is_well_formed ts) h))) refl
+      rw (join is_byte one bytes (first_so (list_all is_byte one) (list_all is_well_formed ts) h) (texts_are r (second_so (list_all is_byte one) (list_all is_well_formed ts) h))) refl
   expr_are (in_parentheses {ts = ts} o c r) h = expr_are r (left is_well_formed ts _ h)
   expr_are (an_index {xs = xs} {ys = ys} {a = a} {b = b} o c r s) h =
       join is_well_formed (within 0 a (printed_expr a)) _ (within_are 0 a (expr_are r (left is_well_formed xs _ h))) (join is_well_formed (printed_expr b) _ (expr_are s (left is_well_formed ys _ (right is_well_formed xs _ h))) refl)

@@ -1,6 +1,7 @@
 -- The printed terminals of declarations that were read are read as them again, no higher.
-use Rattle.std.proofs.Common.{◌≡◌, ◌⊎◌, inl, inr, ℕ, zero, suc, ◌+◌, Bool, true, false, ◌&&◌, List, [], ◌∷◌, ◌++◌, length, flat_map, Some, None, refl, ap, subst, append-nil, arith}
+use Rattle.std.proofs.Common.{◌≡◌, inl, inr, ℕ, zero, suc, ◌+◌, Bool, true, false, ◌&&◌, List, [], ◌∷◌, ◌++◌, length, flat_map, Some, None, refl, ap, subst, append-nil, arith}
 use Rattle.std.specs.Prelude.{max, ◌==◌}
+use Rattle.std.proofs.lemmas.Bool.{cases_Bool}
 use Rattle.qs_syntax_vocabulary.specs.declared.terminal.Terminal.{Terminal}
 use Rattle.qs_syntax_vocabulary.specs.declared.terminal.Terminal.TheVariants.{Name, Keyword, Punctuator}
 use Rattle.qs_base.specs.declared.keyword.Keyword.TheVariants as keywords
@@ -217,10 +218,6 @@ all_members_law (a_further_group {h = h} {k = k} {m = m} {ms = ms} r s) = record
 
 -- ---- parameters
 
-test : (b : Bool) → (b ≡ true) ⊎ (b ≡ false)
-test true = inl refl
-test false = inr refl
-
 -- what isn't `void` alone is not the token `void`
 not_void : (base : Base) (count : ℕ) (first : Bool) (given : List ExprTree) (n i j : ℕ) → (is_void base && (count == 0 && is_without_brackets first given)) ≡ false
     → (at : ℕ) → renumbered n (printed_base base) ++ (renumbered i (printed_stars count) ++ renumbered j (printed_lengths (record { is_open = first; given = given }))) ≡ Keyword at keywords.Void ∷ [] → ⊥
@@ -279,7 +276,7 @@ without_const h n at base count l r e =
 unnamed : (h n at : ℕ) (base : Base) (count : ℕ) (l : LengthsTree) → Reread ReadsLengths plain_lengths h (printed_lengths l) l
     → at_parameter (suc h) n (record { node = unnumbered at; type_name = record { base = base; stars = count }; name = None; lengths = l })
 unnamed h n at base count l r =
-    elim (test (is_void base && (count == 0 && is_without_brackets l.is_open l.given))) [
+    elim (cases_Bool (is_void base && (count == 0 && is_without_brackets l.is_open l.given))) [
       | inl e ↦ with_const h n at base count l r e
       | inr e ↦ without_const h n at base count l r e
     ]

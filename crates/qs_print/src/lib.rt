@@ -1,4 +1,4 @@
-//! Prints a unit as a text (C11 6.4 to 6.9).
+//! Prints a unit as a text that reads back to it (C11 6.4 to 6.9).
 #![tactic(auto)]
 
 mod declarations;

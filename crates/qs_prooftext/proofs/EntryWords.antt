@@ -6,6 +6,7 @@ use Rattle.std.proofs.lemmas.Bool.{and_from, or_left, or_right, both_ways}
 use Rattle.std.proofs.lemmas.Bool.Decides.{nat_tests}
 use Rattle.std.proofs.lemmas.List.Folds.{list_any-append}
 use Rattle.std.proofs.lemmas.Slice.Eq.{bytes_eq-Decides}
+use Rattle.std.proofs.lemmas.Option.{same_Some}
 use Rattle.qs_memory.specs.declared.scalar.Scalar.{Scalar}
 use Rattle.qs_memory.specs.Partial.{◌>>=◌}
 use Rattle.qs_assert.specs.declared.variable.NumberType.{NumberType}
@@ -25,7 +26,7 @@ use Rattle.qs_prooftext_meaning.specs.Writable.{as_list, is_meant, old_variables
 use Rattle.qs_prooftext_meaning.specs.Writing.{Words, headed, variable_form, word_for}
 use Rattle.qs_prooftext.proofs.RowForms.{Fits, is_old}
 use Rattle.qs_prooftext.proofs.ReadSound.{definition_fits}
-use Rattle.qs_prooftext_meaning.proofs.WordLaws.{Rows, variables, some_is}
+use Rattle.qs_prooftext_meaning.proofs.WordLaws.{Rows, variables}
 
 abbrev of_kind : VarKind → NumberType → Var
 of_kind k t = record { kind = k; number = t }
@@ -158,7 +159,7 @@ found_word n [] x apart e = cc
 found_word n (row ∷ rows) x apart e = by (bytes_eq row.0 n) refl e (found_word n rows x apart.1)
   where
     by : (b : Bool) → bytes_eq row.0 n ≡ b → (if b then Some row.1 else look_up n rows) ≡ Some x → (look_up n rows ≡ Some x → IsFound n rows x) → IsFound n (row ∷ rows) x
-    by true is f more = subst (IsFound n (row ∷ rows)) (some_is row.1 x f) (found_first n row rows ((bytes_eq-Decides row.0 n).0 is))
+    by true is f more = subst (IsFound n (row ∷ rows)) (same_Some row.1 x f) (found_first n row rows ((bytes_eq-Decides row.0 n).0 is))
     by false is f more = found_behind n row rows x apart.0 (more f)
 
 -- ---- kinds
@@ -197,7 +198,7 @@ own_found n (row ∷ rows) x all e = by (bytes_eq row.0 n) (is_own row.1.kind) r
   where
     by : (b own : Bool) → is_own row.1.kind ≡ own → (if b then Some row.1 else look_up n rows) ≡ Some x → (own && list_all (λ x. is_own x.kind) (variables rows)) ≡ true
         → (OnAll (λ x. is_own x.kind) rows → look_up n rows ≡ Some x → is_own x.kind ≡ true) → is_own x.kind ≡ true
-    by true true is f h more = ap (λ (y : Var). is_own y.kind) (sym (some_is row.1 x f)) ∙ is
+    by true true is f h more = ap (λ (y : Var). is_own y.kind) (sym (same_Some row.1 x f)) ∙ is
     by true false is f h more = cc
     by false true is f h more = more h f
     by false false is f h more = cc
@@ -240,7 +241,7 @@ module _ (u : CoreUnitTree) (f : CoreFunctionTree) (has_name known : List ℕ �
   -- the variable whose value at the entry it is
   old_so : (n : List ℕ) (y x : Var) (k : VarKind) → y.kind ≡ k → old_of y k ≡ Some x → IsFound n (words_of f) y → (word_for (plain_variable x) (words_of f) ≡ n) × ((is_meant (in_entry u f known) x && is_old x.kind) ≡ true)
   old_so n y x (kinds.Plain i) e is h =
-      let s : of_kind (kinds.Old i) y.number ≡ x = some_is (of_kind (kinds.Old i) y.number) x is in
+      let s : of_kind (kinds.Old i) y.number ≡ x = same_Some (of_kind (kinds.Old i) y.number) x is in
       let plain : plain_variable x ≡ y = ap plain_variable (sym s) ∙ (λ j. record { kind = sym e j; number = y.number }) in
       let old : old_variable y ≡ Some x = (λ j. old_of y (e j)) ∙ is in
       let meant = split x ∙ either_middle (list_any (same_variable x) (variables (words_of f))) (list_any (same_variable x) (old_variables (words_of f))) _ (h.old_there x old) in
@@ -256,7 +257,7 @@ module _ (u : CoreUnitTree) (f : CoreFunctionTree) (has_name known : List ℕ �
   returned_so : (x : Var) (o : Option NumberType) → number_if f.result_type ≡ o → typed kinds.Returned o ≡ Some x → (variable_form words x x.kind ≡ headed (codes "result") []) × (is_meant (in_entry u f known) x ≡ true)
   returned_so x None is e = cc
   returned_so x (Some t) is e =
-      let s : of_kind kinds.Returned t ≡ x = some_is (of_kind kinds.Returned t) x e in
+      let s : of_kind kinds.Returned t ≡ x = same_Some (of_kind kinds.Returned t) x e in
       let kind : x.kind ≡ kinds.Returned = ap (λ (y : Var). y.kind) (sym s) in
       let there : list_any (same_variable x) (as_list (typed kinds.Returned (number_if f.result_type))) ≡ true =
       ap (λ (o : Option Var). list_any (same_variable x) (as_list o)) (ap (typed kinds.Returned) is ∙ e) ∙ or_left (same_variable x x) false (variable_self x) in

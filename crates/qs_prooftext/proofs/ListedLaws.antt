@@ -2,7 +2,7 @@
 use Rattle.std.proofs.Common.{arith, ◌≡◌, ◌≢◌, ℕ, zero, suc, ◌+◌, ◌<◌, ◌==◌, Bool, true, false, if◌then◌else◌, List, [], ◌∷◌, length, map, get_or, set, Option, Some, None, refl, sym, ap, ◌∙◌, subst}
 use Rattle.std.specs.Prelude.{bytes_eq, not, option_map, ◌||◌}
 use Rattle.std.specs.List.{list_all}
-use Rattle.std.proofs.Math.Bool.{or-false}
+use Rattle.std.proofs.Math.Bool.{or-false, or-true, or_assoc}
 use Rattle.std.proofs.lemmas.Bool.{and_parts}
 use Rattle.std.proofs.lemmas.List.{get_or-set_same, get_or-set_other, length-set}
 use Rattle.std.proofs.lemmas.List.Folds.{list_any-append}
@@ -131,17 +131,13 @@ marks_none u fits w flags e = record {
       sym (ap (λ (t : Bool). flag flags f || t) (named u fits w f b ∙ ap (λ (o : Option ℕ). is_found o f) e) ∙ or-false (flag flags f));
 }
 
-always : (t : Bool) → true ≡ (t || true)
-always true = refl
-always false = refl
-
 flag_set : (flags : List Bool) (g f : ℕ) → g < length flags → flag (set flags g true) f ≡ (flag flags f || (g == f))
 flag_set flags g f b = by (g == f) refl
   where
     by : (t : Bool) → (g == f) ≡ t → flag (set flags g true) f ≡ (flag flags f || t)
     by true e =
         let same : g ≡ f = grind (arith, e) in
-        subst (λ (i : ℕ). flag (set flags g true) i ≡ (flag flags i || true)) same (get_or-set_same flags g true false b ∙ always (flag flags g))
+        subst (λ (i : ℕ). flag (set flags g true) i ≡ (flag flags i || true)) same (get_or-set_same flags g true false b ∙ sym (or-true (flag flags g)))
     by false e =
         let apart : f ≢ g = λ h. (let other : (g == g) ≡ false = ap (λ (i : ℕ). g == i) (sym h) ∙ e in grind (arith, other)) in
         get_or-set_other flags g f true false apart ∙ sym (or-false (flag flags f))
@@ -156,10 +152,6 @@ marks_one u fits w flags g e b = record {
 -- ---- all lists
 
 -- ---- the walk
-
-or_assoc : (a b c : Bool) → ((a || b) || c) ≡ (a || (b || c))
-or_assoc true b c = refl
-or_assoc false b c = refl
 
 pub lists_go : (u : CoreUnitTree) (text : List ℕ) (rest first others : List Node) (flags new : List Bool) (all : Sexps) → ListsLeft u text rest flags all → Splits rest first others → ((s : Sexp) → Stands text first s → Marks u (entry_names_of s) flags new) → ListsLeft u text others new all
 lists_go u text rest first others flags new all l p f = go l.forest l.stand l.same

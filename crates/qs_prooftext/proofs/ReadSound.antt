@@ -1,8 +1,8 @@
 -- What is read is of the unit: entries of its functions, each once, and definitions that can be written.
 use Rattle.std.proofs.Common.{arith, ◌≡◌, ℕ, ◌+◌, ◌<◌, ◌==◌, Bool, true, false, ◌&&◌, if◌then◌else◌, List, [], ◌∷◌, ◌++◌, length, map, Option, Some, None, Ok, Err, codes, refl, ap, ◌∙◌, subst}
-use Rattle.std.specs.Prelude.{bytes_eq, is_some, nat_lt, not, ◌||◌, cond}
+use Rattle.std.specs.Prelude.{bytes_eq, is_some, nat_lt, not, cond}
 use Rattle.std.specs.List.{find, slice_get, list_all, list_any}
-use Rattle.std.proofs.lemmas.Bool.{and_from, and_parts}
+use Rattle.std.proofs.lemmas.Bool.{and_from, and_parts, or_right, or_left}
 use Rattle.std.proofs.lemmas.List.{map-append}
 use Rattle.std.proofs.lemmas.List.Folds.{list_all-append}
 use Rattle.qs_base.specs.Results.{bind}
@@ -27,14 +27,6 @@ use Rattle.qs_prooftext.proofs.ReadForms.{bound, reads_good}
 use Rattle.qs_prooftext.proofs.RowForms.{Fits}
 
 -- ---- functions
-
-or_right : (a b : Bool) → b ≡ true → (a || b) ≡ true
-or_right true b e = refl
-or_right false b e = e
-
-or_left : (a b : Bool) → a ≡ true → (a || b) ≡ true
-or_left true b e = refl
-or_left false b e = cc
 
 number_there : (n : List ℕ) (i : ℕ) (names : List (List ℕ)) (f : ℕ) → look_up n (numbered i names) ≡ Some f → list_any (λ row. row.1 == f) (numbered i names) ≡ true
 number_there n i [] f e = cc

@@ -1,4 +1,5 @@
-//! The reading of proof files: their certificates, derivations, definitions and entries.
+//! The reading of proof files: their certificates, derivations, definitions and entries, and its
+//! laws.
 #![tactic(auto)]
 
 mod building;

@@ -5,12 +5,14 @@ use Rattle.std.specs.List.{slice_get, list_any, list_all, find}
 use Rattle.std.proofs.Math.Path.{fun_ext}
 use Rattle.std.proofs.lemmas.List.{append-nil}
 use Rattle.std.proofs.lemmas.Slice.Eq.{bytes_eq-Decides}
-use Rattle.std.proofs.lemmas.Bool.{or_parts, not-true}
+use Rattle.std.proofs.lemmas.Bool.{or_parts, not-true, and_parts}
+use Rattle.std.proofs.lemmas.Option.{same_Some}
+use Rattle.std.specs.Cmp.{first_so, second_so}
 use Rattle.qs_base.specs.Names.{is_name}
 use Rattle.qs_base.specs.Results.{bind}
 use Rattle.qs_assert.specs.declared.define.Define.{Define}
 use Rattle.qs_assert.specs.Trees.{AssertionTree}
-use Rattle.qs_core.proofs.FitLaws.{both, function_at_fits, unit_parts}
+use Rattle.qs_core.proofs.FitLaws.{function_at_fits, unit_parts}
 use Rattle.qs_callgraph.specs.Opens.{TellsOpen}
 use Rattle.qs_core.specs.Fits.{differ, unit_fits}
 use Rattle.qs_core.specs.Trees.{CoreFunctionTree, CoreUnitTree}
@@ -29,15 +31,15 @@ use Rattle.qs_prooftext_meaning.specs.Settings.{functions_of, in_definition, in_
 use Rattle.qs_prooftext_meaning.specs.Writable.{IsWritable, definition_stands, entry_stands, entry_stands_in, parts_stand}
 use Rattle.qs_prooftext_meaning.specs.Writing.{Words, HasOwnWords, assertion_form, certificate_form, derivation_form, define_form, entry_form, file_forms, forms_of, headed, words_in, words_of_entry}
 use Rattle.qs_prooftext_meaning.proofs.PlacedForms.{place, parts_in, first_in, others_in, placed, all_placed, all_placed_back}
-use Rattle.qs_prooftext_meaning.proofs.WordLaws.{definition_agrees, entry_agrees, looked_up_at, names_at, some_is, text_self, texts_differ}
-use Rattle.qs_prooftext_meaning.proofs.WrittenMeans.{left, right, one_part, four_parts, assertion_back, definition_back}
+use Rattle.qs_prooftext_meaning.proofs.WordLaws.{definition_agrees, entry_agrees, looked_up_at, names_at, text_self, texts_differ}
+use Rattle.qs_prooftext_meaning.proofs.WrittenMeans.{one_part, four_parts, assertion_back, definition_back}
 use Rattle.qs_prooftext_meaning.proofs.WrittenDerivations.{certificate_back, derivation_back}
 
 -- ---- lists in which no two are the same
 
 in_all : {A : Type 0} → (p : A → Bool) (xs : List A) (x : A) (ys : List A) → list_all p (xs ++ x ∷ ys) ≡ true → p x ≡ true
-in_all p [] x ys h = (both (p x) (list_all p ys) h).0
-in_all p (y ∷ xs) x ys h = in_all p xs x ys (both (p y) (list_all p (xs ++ x ∷ ys)) h).1
+in_all p [] x ys h = (and_parts (p x) (list_all p ys) h).0
+in_all p (y ∷ xs) x ys h = in_all p xs x ys (and_parts (p y) (list_all p (xs ++ x ∷ ys)) h).1
 
 text_swap : (xs ys : List ℕ) → bytes_eq xs ys ≡ false → bytes_eq ys xs ≡ false
 text_swap xs ys e = texts_differ ys xs (λ same. apart same)
@@ -50,19 +52,19 @@ text_swap xs ys e = texts_differ ys xs (λ same. apart same)
 earlier_differ : (xs : List (List ℕ)) (x : List ℕ) (ys : List (List ℕ)) → differ bytes_eq (xs ++ x ∷ ys) ≡ true → list_any (bytes_eq x) xs ≡ false
 earlier_differ [] x ys d = refl
 earlier_differ (y ∷ xs) x ys d =
-    let two = both (list_all (λ z. not (bytes_eq y z)) (xs ++ x ∷ ys)) (differ bytes_eq (xs ++ x ∷ ys)) d in
+    let two = and_parts (list_all (λ z. not (bytes_eq y z)) (xs ++ x ∷ ys)) (differ bytes_eq (xs ++ x ∷ ys)) d in
     λ i. text_swap y x (not-true (bytes_eq y x) (in_all (λ z. not (bytes_eq y z)) xs x ys two.0)) i || earlier_differ xs x ys two.1 i
 
 no_entry : (done : List EntryTree) (e : EntryTree) (todo : List EntryTree) → differ ◌==◌ (map (λ (x : EntryTree). x.function) (done ++ e ∷ todo)) ≡ true → is_some (find (is_entry_of e.function) done) ≡ false
 no_entry [] e todo d = refl
 no_entry (x ∷ done) e todo d =
-    let two = both (list_all (λ z. not (x.function == z)) (map (λ (y : EntryTree). y.function) (done ++ e ∷ todo))) _ d in
+    let two = and_parts (list_all (λ z. not (x.function == z)) (map (λ (y : EntryTree). y.function) (done ++ e ∷ todo))) _ d in
     ap (λ (b : Bool). is_some (if b then Some x else find (is_entry_of e.function) done)) (not-true (x.function == e.function) (in_functions x.function done e todo two.0))
     ∙ no_entry done e todo two.1
   where
     in_functions : (f : ℕ) (xs : List EntryTree) (y : EntryTree) (ys : List EntryTree) → list_all (λ z. not (f == z)) (map (λ (z : EntryTree). z.function) (xs ++ y ∷ ys)) ≡ true → not (f == y.function) ≡ true
-    in_functions f [] y ys h = (both (not (f == y.function)) _ h).0
-    in_functions f (z ∷ xs) y ys h = in_functions f xs y ys (both (not (f == z.function)) _ h).1
+    in_functions f [] y ys h = (and_parts (not (f == y.function)) _ h).0
+    in_functions f (z ∷ xs) y ys h = in_functions f xs y ys (and_parts (not (f == z.function)) _ h).1
 
 names_append : (xs ys : List Define) → map (λ (d : Define). d.name) (xs ++ ys) ≡ map (λ (d : Define). d.name) xs ++ map (λ (d : Define). d.name) ys
 names_append [] ys = refl
@@ -98,7 +100,7 @@ defines_back u o all n once [] done e closed stand at others due k =
     ap (λ (ds : List Define). tops_mean (sofar u o ds []) (all_placed at (forms_of others))) (sym (append-nil done) ∙ e) ∙ k at
 defines_back u o all n once (d ∷ todo) done e closed stand at others due k =
     let two = or_parts (is_open_name u o d.name) _ closed in
-    let stands = both (definition_stands (in_definition u) d.body) _ stand in
+    let stands = and_parts (definition_stands (in_definition u) d.body) _ stand in
     let apart : differ bytes_eq (map (λ (x : Define). x.name) done ++ d.name ∷ map (λ (x : Define). x.name) todo) ≡ true =
     ap (differ bytes_eq) (sym (names_append done (d ∷ todo)) ∙ ap (map (λ (x : Define). x.name)) e) ∙ once in
     let new : is_defined (sofar u o done []) d.name ≡ false = (λ i. two.0 i || earlier_differ (map (λ (x : Define). x.name) done) d.name (map (λ (x : Define). x.name) todo) apart i) in
@@ -128,10 +130,10 @@ entry_back u o ds done e f at n s own stand none =
     ∙ four_parts
     (λ a b c d. record { defines = ds; functions = done ++ record { function = e.function; spec = record { pre = a; post = b }; entry = c; body = d } ∷ [] })
     _ _ _ _ e.spec.pre e.spec.post e.entry e.body
-    (one_part (λ (a : AssertionTree). a) _ e.spec.pre (assertion_back g w agree _ e.spec.pre (left _ _ (left _ _ (left _ _ stand)))))
-    (one_part (λ (a : AssertionTree). a) _ e.spec.post (assertion_back g w agree _ e.spec.post (right _ _ (left _ _ (left _ _ stand)))))
-    (one_part (λ c. c) _ e.entry (certificate_back g w agree _ e.entry (right _ _ (left _ _ stand))))
-    (one_part (λ d. d) _ e.body (derivation_back g w agree _ e.body (right _ _ stand)))))
+    (one_part (λ (a : AssertionTree). a) _ e.spec.pre (assertion_back g w agree _ e.spec.pre (first_so _ _ (first_so _ _ (first_so _ _ stand)))))
+    (one_part (λ (a : AssertionTree). a) _ e.spec.post (assertion_back g w agree _ e.spec.post (second_so _ _ (first_so _ _ (first_so _ _ stand)))))
+    (one_part (λ c. c) _ e.entry (certificate_back g w agree _ e.entry (second_so _ _ (first_so _ _ stand))))
+    (one_part (λ d. d) _ e.body (derivation_back g w agree _ e.body (second_so _ _ stand)))))
 
 record Stands (u : CoreUnitTree) (has_name : List ℕ → Bool) (e : EntryTree) : Type 0 where
   function : CoreFunctionTree
@@ -152,7 +154,7 @@ entries_back : (u : CoreUnitTree) (o : ℕ → Bool) (ds : List Define) (all : L
 entries_back u o ds all n own once [] done e stand at =
     ap (λ (es : List EntryTree). Ok (record { defines = ds; functions = es })) (sym (append-nil done) ∙ e)
 entries_back u o ds all n own once (x ∷ todo) done e stand at =
-    let two = both (entry_stands u (is_defined (sofar u o ds all)) x) _ stand in
+    let two = and_parts (entry_stands u (is_defined (sofar u o ds all)) x) _ stand in
     let i : Stands u (is_defined (sofar u o ds all)) x = entry_in u (is_defined (sofar u o ds all)) x two.0 in
     let apart : differ ◌==◌ (map (λ (y : EntryTree). y.function) (done ++ x ∷ todo)) ≡ true = ap (λ (es : List EntryTree). differ ◌==◌ (map (λ (y : EntryTree). y.function) es)) e ∙ once in
     ap (λ (a : Answer ProofsTree). bind a (λ p. tops_mean (record (sofar u o ds done) { proofs = p }) (all_placed (others_in at) (forms_of (map (entry_form u) todo)))))
@@ -188,7 +190,7 @@ same_function u i j f fits s None t e =
     cc
 same_function u i j f fits s (Some g) t e =
     let n = (unit_parts u fits).different in
-    some_is j i
+    same_Some j i
     (sym (looked_up_at j g.name (names u) n (names_at u.functions j g t))
     ∙ (ap (λ (name : List ℕ). look_up name (functions_of u)) e ∙ looked_up_at i f.name (names u) n (names_at u.functions i f s)))
 
@@ -209,7 +211,7 @@ pub entered_alike : (u : CoreUnitTree) (has_name : List ℕ → Bool) (j : ℕ) 
     → list_any (bytes_eq (function_name u j)) (map (λ (e : EntryTree). function_name u e.function) es) ≡ is_some (find (is_entry_of j) es)
 entered_alike u has_name j fits [] h = refl
 entered_alike u has_name j fits (e ∷ es) h =
-    let two = both (entry_stands u has_name e) _ h in
+    let two = and_parts (entry_stands u has_name e) _ h in
     let i : Stands u has_name e = entry_in u has_name e two.0 in
     (λ t. named_alike u e.function j i.function fits i.is t || entered_alike u has_name j fits es two.1 t) ∙ found_alike (e.function == j) e (find (is_entry_of j) es)
   where

@@ -1,5 +1,6 @@
 -- A text has one reading or one first fault.
-use Rattle.std.proofs.Common.{◌≡◌, ◌⊎◌, inl, inr, ℕ, Bool, true, false, List, Ok, Err, refl, sym, ap, ◌∙◌, subst}
+use Rattle.std.proofs.Common.{◌≡◌, ◌⊎◌, inl, inr, ℕ, Bool, List, Ok, Err, refl, sym, ap, ◌∙◌, subst}
+use Rattle.std.specs.Cmp.{both_ways}
 use Rattle.qs_callgraph.specs.Opens.{TellsOpen}
 use Rattle.qs_core.specs.Trees.{CoreUnitTree}
 use Rattle.qs_sexpr.specs.Reading as lists
@@ -16,11 +17,6 @@ use Rattle.qs_prooftext_meaning.specs.Reading.{Reading, Fault, no_lists, no_mean
 use Rattle.qs_prooftext_meaning.specs.Laws.{CanTellOpen, HasReading, HasFault}
 
 -- ---- which functions are open
-
-both_ways : (a b : Bool) → (a ≡ true → b ≡ true) → (b ≡ true → a ≡ true) → a ≡ b
-both_ways true b h k = sym (h refl)
-both_ways false true h k = k refl
-both_ways false false h k = refl
 
 same_open : (u : CoreUnitTree) (has p q : ℕ → Bool) → TellsOpen u has p → TellsOpen u has q → (f : ℕ) → p f ≡ q f
 same_open u has p q h k f =

@@ -6,7 +6,7 @@ use Rattle.std.proofs.lemmas.Bool.Decides.{nat_tests}
 use Rattle.std.proofs.lemmas.Fmt.{decimal_injective}
 use Rattle.std.proofs.lemmas.List.{append-nil}
 use Rattle.std.proofs.lemmas.Slice.Eq.{bytes_eq-Decides}
-use Rattle.std.proofs.lemmas.Bool.{not-true}
+use Rattle.std.proofs.lemmas.Bool.{not-true, and_parts}
 use Rattle.qs_base.specs.Bytes.{is_letter, is_word_byte}
 use Rattle.qs_base.specs.Keywords.{is_keyword}
 use Rattle.qs_base.specs.Names.{is_name, is_word}
@@ -14,7 +14,7 @@ use Rattle.qs_memory.specs.declared.scalar.Scalar.{Scalar}
 use Rattle.qs_assert.specs.declared.variable.NumberType.{NumberType}
 use Rattle.qs_assert.specs.declared.variable.VarKind.{VarKind}
 use Rattle.qs_assert.specs.declared.variable.VarKind.TheVariants as kinds
-use Rattle.qs_core.proofs.FitLaws.{all_at, both, function_at_fits}
+use Rattle.qs_core.proofs.FitLaws.{all_at, function_at_fits}
 use Rattle.qs_core.specs.Fits.{differ, is_named, same_variable, unit_fits}
 use Rattle.qs_core.specs.TermTexts.{ordinal_text, temporary_text, variable_name}
 use Rattle.qs_core.specs.Trees.{CoreFunctionTree, CoreUnitTree, CoreVariableTree}
@@ -44,13 +44,13 @@ letter_in_word b h = grind (arith, nat_tests, h)
 front_joined : (name text : List ℕ) → list_all is_word_byte name ≡ true → front (name ++ text) ≡ name ++ front text
 front_joined [] text h = refl
 front_joined (b ∷ name) text h =
-    let two = both (is_word_byte b) (list_all is_word_byte name) h in
+    let two = and_parts (is_word_byte b) (list_all is_word_byte name) h in
     ap (λ (t : Bool). if t then [] else b ∷ front (name ++ text)) (word_byte b two.0) ∙ ap (λ (bs : List ℕ). b ∷ bs) (front_joined name text two.1)
 
 back_joined : (name text : List ℕ) → list_all is_word_byte name ≡ true → back (name ++ text) ≡ back text
 back_joined [] text h = refl
 back_joined (b ∷ name) text h =
-    let two = both (is_word_byte b) (list_all is_word_byte name) h in
+    let two = and_parts (is_word_byte b) (list_all is_word_byte name) h in
     ap (λ (t : Bool). if t then b ∷ name ++ text else back (name ++ text)) (word_byte b two.0) ∙ back_joined name text two.1
 
 front_ordinal : (k : ℕ) (b : Bool) → front (if b then [] else codes "#" ++ decimal k) ≡ []
@@ -63,12 +63,12 @@ back_ordinal k false = refl
 
 name_is_word : (name : List ℕ) → is_name name ≡ true → is_word name ≡ true
 unfolding is_name
-name_is_word name h = (both (is_word name) (not (is_keyword name)) h).0
+name_is_word name h = (and_parts (is_word name) (not (is_keyword name)) h).0
 
 bytes_of_word : (name : List ℕ) → is_word name ≡ true → list_all is_word_byte name ≡ true
 bytes_of_word [] h = refl
 bytes_of_word (b ∷ name) h =
-    let two = both (is_letter b) (list_all is_word_byte name) h in
+    let two = and_parts (is_letter b) (list_all is_word_byte name) h in
     (λ i. letter_in_word b two.0 i && list_all is_word_byte name) ∙ two.1
 
 -- ---- variables
@@ -86,8 +86,8 @@ ordinal_by k j false false e f h i same = decimal_injective k j h i (ap behind_h
 
 same_text : (v w : CoreVariableTree) → is_named v ≡ true → is_named w ≡ true → v.ordinal < 2 ^ 64 → w.ordinal < 2 ^ 64 → variable_name v ≡ variable_name w → same_variable v w ≡ true
 same_text v w n m h i e =
-    let nv = bytes_of_word v.name (name_is_word v.name (both (is_name v.name) (nat_le 1 v.ordinal) n).0) in
-    let nw = bytes_of_word w.name (name_is_word w.name (both (is_name w.name) (nat_le 1 w.ordinal) m).0) in
+    let nv = bytes_of_word v.name (name_is_word v.name (and_parts (is_name v.name) (nat_le 1 v.ordinal) n).0) in
+    let nw = bytes_of_word w.name (name_is_word w.name (and_parts (is_name w.name) (nat_le 1 w.ordinal) m).0) in
     let name_v : front (variable_name v) ≡ v.name = front_joined v.name (ordinal_text v.ordinal) nv ∙ (ap (λ (t : List ℕ). v.name ++ t) (front_ordinal v.ordinal (v.ordinal == 1)) ∙ append-nil v.name) in
     let name_w : front (variable_name w) ≡ w.name = front_joined w.name (ordinal_text w.ordinal) nw ∙ (ap (λ (t : List ℕ). w.name ++ t) (front_ordinal w.ordinal (w.ordinal == 1)) ∙ append-nil w.name) in
     let back_v : back (variable_name v) ≡ ordinal_text v.ordinal = back_joined v.name (ordinal_text v.ordinal) nv ∙ back_ordinal v.ordinal (v.ordinal == 1) in
@@ -113,9 +113,9 @@ others_text : (v : CoreVariableTree) (vs : List CoreVariableTree) → is_named v
     → list_all (λ w. IsAnother (variable_name v) (variable_name w)) vs ≡ true
 others_text v [] n h m i d = refl
 others_text v (w ∷ vs) n h m i d =
-    let m2 = both (is_named w) (list_all is_named vs) m in
-    let i2 = both (is_short w) (list_all is_short vs) i in
-    let d2 = both (not (same_variable v w)) _ d in
+    let m2 = and_parts (is_named w) (list_all is_named vs) m in
+    let i2 = and_parts (is_short w) (list_all is_short vs) i in
+    let d2 = and_parts (not (same_variable v w)) _ d in
     λ j. not (other_text v w n m2.0 h i2.0 (not-true (same_variable v w) d2.0) j) && others_text v vs n h m2.1 i2.1 d2.1 j
 
 -- ---- rows
@@ -123,7 +123,7 @@ others_text v (w ∷ vs) n h m i d =
 all_append : (p : List ℕ → Bool) (xs ys : Rows) → list_all p (words xs) ≡ true → list_all p (words ys) ≡ true → list_all p (words (xs ++ ys)) ≡ true
 all_append p [] ys h k = k
 all_append p (x ∷ xs) ys h k =
-    let two = both (p x.0) _ h in
+    let two = and_parts (p x.0) _ h in
     λ j. two.0 j && all_append p xs ys two.1 k j
 
 all_typed : (p : List ℕ → Bool) (word : List ℕ) (kind : VarKind) (t : Option NumberType) → p word ≡ true → list_all p (words (with_word word (typed kind t))) ≡ true
@@ -137,7 +137,7 @@ all_if p false rows h = h
 variables_apart : (text : List ℕ) (f : CoreFunctionTree) (i : ℕ) (vs : List CoreVariableTree) → list_all (λ w. IsAnother text (variable_name w)) vs ≡ true → list_all (IsAnother text) (words (variable_words f i vs)) ≡ true
 variables_apart text f i [] h = refl
 variables_apart text f i (v ∷ vs) h =
-    let two = both (IsAnother text (variable_name v)) _ h in
+    let two = and_parts (IsAnother text (variable_name v)) _ h in
     all_append (IsAnother text) _ (variable_words f (i + 1) vs)
     (all_if (IsAnother text) (has_placed_parameter f i) _ (all_typed (IsAnother text) (variable_name v) (kinds.Plain i) (if_number v.scalar) two.0))
     (variables_apart text f (i + 1) vs two.1)
@@ -158,7 +158,7 @@ no_temporary v k h = ap not (texts_differ (variable_name v) (temporary_text k) (
     by [] h e = cc
     by (b ∷ name) h e =
         let first : b ≡ 36 = ap first_byte e in
-        let other = no_dollar b (both (is_letter b) (list_all is_word_byte name) h).0 in
+        let other = no_dollar b (and_parts (is_letter b) (list_all is_word_byte name) h).0 in
         let is : (b == 36) ≡ true = grind (arith, first) in
         cc
 
@@ -204,10 +204,10 @@ all_differ : (f : CoreFunctionTree) (ss : List Scalar) (i : ℕ) (vs : List Core
     → differ bytes_eq (words (variable_words f i vs ++ temporary_words 0 ss)) ≡ true
 all_differ f ss i [] n h d few = temporaries_differ 0 ss (omega (arith, few))
 all_differ f ss i (v ∷ vs) n h d few =
-    let n2 = both (is_named v) (list_all is_named vs) n in
-    let h2 = both (is_short v) (list_all is_short vs) h in
-    let d2 = both (list_all (λ w. not (same_variable v w)) vs) (differ same_variable vs) d in
-    let word : is_word v.name ≡ true = name_is_word v.name (both (is_name v.name) (nat_le 1 v.ordinal) n2.0).0 in
+    let n2 = and_parts (is_named v) (list_all is_named vs) n in
+    let h2 = and_parts (is_short v) (list_all is_short vs) h in
+    let d2 = and_parts (list_all (λ w. not (same_variable v w)) vs) (differ same_variable vs) d in
+    let word : is_word v.name ≡ true = name_is_word v.name (and_parts (is_name v.name) (nat_le 1 v.ordinal) n2.0).0 in
     ap (differ bytes_eq) (rows_assoc (if has_placed_parameter f i then [] else with_word (variable_name v) (typed (kinds.Plain i) (if_number v.scalar))) (variable_words f (i + 1) vs) (temporary_words 0 ss))
     ∙ differ_if (has_placed_parameter f i) (variable_name v) (kinds.Plain i) (if_number v.scalar) (variable_words f (i + 1) vs ++ temporary_words 0 ss)
     (all_append (IsAnother (variable_name v)) (variable_words f (i + 1) vs) (temporary_words 0 ss)
@@ -218,7 +218,7 @@ all_differ f ss i (v ∷ vs) n h d few =
 pub own_words : (u : CoreUnitTree) → unit_fits u ≡ true → HasShortNumbers u → HasOwnWords u
 own_words u fits short i f s =
     let fit = function_at_fits u fits i f s in
-    let numbers = both (list_all is_short f.variables) (nat_lt (length f.temporaries) (2 ^ 64)) (all_at has_short_numbers u.functions i f short s) in
+    let numbers = and_parts (list_all is_short f.variables) (nat_lt (length f.temporaries) (2 ^ 64)) (all_at has_short_numbers u.functions i f short s) in
     all_differ f f.temporaries 0 f.variables fit.named numbers.0 fit.different (few (length f.temporaries) numbers.1)
   where
     few : (k : ℕ) → nat_lt k (2 ^ 64) ≡ true → k < 2 ^ 64

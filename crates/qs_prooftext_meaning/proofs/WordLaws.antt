@@ -4,7 +4,8 @@ use Rattle.std.specs.Prelude.{bytes_eq, option_map}
 use Rattle.std.specs.List.{slice_get, list_any, list_all}
 use Rattle.std.proofs.lemmas.List.Folds.{list_any-append}
 use Rattle.std.proofs.lemmas.Slice.Eq.{bytes_eq-Decides}
-use Rattle.std.proofs.lemmas.Bool.{not-true}
+use Rattle.std.proofs.lemmas.Bool.{not-true, and_parts}
+use Rattle.std.proofs.lemmas.Option.{same_Some}
 use Rattle.qs_memory.specs.declared.scalar.Scalar.{Scalar}
 use Rattle.qs_memory.specs.Partial.{◌>>=◌}
 use Rattle.qs_assert.specs.declared.variable.NumberType.{NumberType}
@@ -15,7 +16,6 @@ use Rattle.qs_assert.specs.Substitution.{same_kind, same_number_type, same_varia
 use Rattle.qs_assert.specs.Trees.{variable}
 use Rattle.qs_assert.proofs.SamenessLaws.{variable_equal, variable_self}
 use Rattle.qs_entail.specs.Certificates.{range}
-use Rattle.qs_core.proofs.FitLaws.{both}
 use Rattle.qs_core.specs.Fits.{differ}
 use Rattle.qs_core.specs.TermTexts.{temporary_text, variable_name}
 use Rattle.qs_core.specs.Trees.{CoreFunctionTree, CoreUnitTree, CoreVariableTree}
@@ -31,6 +31,7 @@ use Rattle.qs_prooftext_meaning.specs.Writable.{as_list, is_meant, old_variables
 use Rattle.qs_prooftext_meaning.specs.Writing.{Words, word_for, variable_form}
 use Rattle.qs_prooftext_meaning.proofs.PlacedForms.{place, placed}
 use Rattle.qs_prooftext_meaning.proofs.WrittenMeans.{Agree, one_part}
+pub use Rattle.std.proofs.lemmas.Option.{same_Some as some_is}
 
 -- ---- tests
 
@@ -81,9 +82,6 @@ abbrev or_else : {A : Type 0} → Option A → A → A
 or_else None x = x
 or_else (Some y) x = y
 
-pub some_is : {A : Type 0} (x y : A) → Some x ≡ Some y → x ≡ y
-some_is x y e = ap (λ o. or_else o x) e
-
 -- ---- rows of words
 
 abbrev pub Rows : Type 0
@@ -102,13 +100,13 @@ behind_first x row rows e h = sym (ap (λ (b : Bool). b || list_any (same_variab
 apart_by : (word : List ℕ) (x : Var) (row : List ℕ × Var) (rows : Rows) (b : Bool) → same_variable row.1 x ≡ b → list_all (λ y. not (bytes_eq word y)) (words (row ∷ rows)) ≡ true
     → (b ≡ false → bytes_eq word (word_for x rows) ≡ false) → bytes_eq word (word_for x (row ∷ rows)) ≡ false
 apart_by word x row rows true e a h =
-    ap (λ (t : Bool). bytes_eq word (if t then row.0 else word_for x rows)) e ∙ not-true (bytes_eq word row.0) (both (not (bytes_eq word row.0)) _ a).0
+    ap (λ (t : Bool). bytes_eq word (if t then row.0 else word_for x rows)) e ∙ not-true (bytes_eq word row.0) (and_parts (not (bytes_eq word row.0)) _ a).0
 apart_by word x row rows false e a h = ap (λ (t : Bool). bytes_eq word (if t then row.0 else word_for x rows)) e ∙ h refl
 
 apart : (word : List ℕ) (x : Var) (rows : Rows) → list_all (λ y. not (bytes_eq word y)) (words rows) ≡ true → list_any (same_variable x) (variables rows) ≡ true → bytes_eq word (word_for x rows) ≡ false
 apart word x [] a h = cc
 apart word x (row ∷ rows) a h =
-    apart_by word x row rows (same_variable row.1 x) refl a (λ e. apart word x rows (both (not (bytes_eq word row.0)) _ a).1 (behind_first x row rows e h))
+    apart_by word x row rows (same_variable row.1 x) refl a (λ e. apart word x rows (and_parts (not (bytes_eq word row.0)) _ a).1 (behind_first x row rows e h))
 
 found_by : (x : Var) (row : List ℕ × Var) (rows : Rows) (b : Bool) → same_variable row.1 x ≡ b
     → (b ≡ false → bytes_eq row.0 (word_for x rows) ≡ false) → (b ≡ false → look_up (word_for x rows) rows ≡ Some x) → look_up (word_for x (row ∷ rows)) (row ∷ rows) ≡ Some x
@@ -122,7 +120,7 @@ found_by x row rows false e a f =
 pub found : (x : Var) (rows : Rows) → differ bytes_eq (words rows) ≡ true → list_any (same_variable x) (variables rows) ≡ true → look_up (word_for x rows) rows ≡ Some x
 found x [] d h = cc
 found x (row ∷ rows) d h =
-    let two = both (list_all (λ y. not (bytes_eq row.0 y)) (words rows)) (differ bytes_eq (words rows)) d in
+    let two = and_parts (list_all (λ y. not (bytes_eq row.0 y)) (words rows)) (differ bytes_eq (words rows)) d in
     found_by x row rows (same_variable row.1 x) refl
     (λ e. apart row.0 x rows two.0 (behind_first x row rows e h))
     (λ e. found x rows two.1 (behind_first x row rows e h))
@@ -309,17 +307,17 @@ numbered_at from f (name ∷ names) h = numbered_by from f name names (from == f
 none_before : (name other : List ℕ) (names : List (List ℕ)) (i : ℕ) → list_all (λ y. not (bytes_eq other y)) names ≡ true → slice_get names i ≡ Some name → bytes_eq other name ≡ false
 none_before name other [] i a s = cc
 none_before name other (x ∷ names) zero a s =
-    let first = (both (not (bytes_eq other x)) _ a).0 in
-    ap (bytes_eq other) (sym (some_is x name s)) ∙ not-true (bytes_eq other x) first
-none_before name other (x ∷ names) (suc i) a s = none_before name other names i (both (not (bytes_eq other x)) _ a).1 s
+    let first = (and_parts (not (bytes_eq other x)) _ a).0 in
+    ap (bytes_eq other) (sym (same_Some x name s)) ∙ not-true (bytes_eq other x) first
+none_before name other (x ∷ names) (suc i) a s = none_before name other names i (and_parts (not (bytes_eq other x)) _ a).1 s
 
 looked_up : (from i : ℕ) (name : List ℕ) (names : List (List ℕ)) → differ bytes_eq names ≡ true → slice_get names i ≡ Some name → look_up name (numbered from names) ≡ Some (from + i)
 looked_up from i name [] d s = cc
 looked_up from zero name (x ∷ names) d s =
-    ap (λ (t : List ℕ). look_up t (numbered from (x ∷ names))) (sym (some_is x name s))
+    ap (λ (t : List ℕ). look_up t (numbered from (x ∷ names))) (sym (same_Some x name s))
     ∙ (ap (λ (b : Bool). if b then Some from else look_up x (numbered (from + 1) names)) (text_self x) ∙ ap (λ (n : ℕ). Some n) (omega arith))
 looked_up from (suc i) name (x ∷ names) d s =
-    let two = both (list_all (λ y. not (bytes_eq x y)) names) (differ bytes_eq names) d in
+    let two = and_parts (list_all (λ y. not (bytes_eq x y)) names) (differ bytes_eq names) d in
     ap (λ (b : Bool). if b then Some from else look_up name (numbered (from + 1) names)) (none_before name x names i two.0 s)
     ∙ (looked_up (from + 1) i name names two.1 s ∙ ap (λ (n : ℕ). Some n) (omega arith))
 
@@ -328,12 +326,12 @@ looked_up_at i name names d s = looked_up 0 i name names d s ∙ ap (λ (n : ℕ
 
 pub names_at : (fs : List CoreFunctionTree) (i : ℕ) (f : CoreFunctionTree) → slice_get fs i ≡ Some f → slice_get (map (λ g. g.name) fs) i ≡ Some f.name
 names_at [] i f s = cc
-names_at (g ∷ fs) zero f s = ap (λ (h : CoreFunctionTree). Some h.name) (some_is g f s)
+names_at (g ∷ fs) zero f s = ap (λ (h : CoreFunctionTree). Some h.name) (same_Some g f s)
 names_at (g ∷ fs) (suc i) f s = names_at fs i f s
 
 pub name_at : (fs : List CoreFunctionTree) (i : ℕ) (name : List ℕ) → slice_get (map (λ g. g.name) fs) i ≡ Some name → name_in (slice_get fs i) ≡ name
 name_at [] i name s = cc
-name_at (g ∷ fs) zero name s = some_is g.name name s
+name_at (g ∷ fs) zero name s = same_Some g.name name s
 name_at (g ∷ fs) (suc i) name s = name_at fs i name s
 
 pub function_found : (u : CoreUnitTree) (f : ℕ) → differ bytes_eq (map (λ g. g.name) u.functions) ≡ true → list_any (λ row. row.1 == f) (functions_of u) ≡ true → look_up (function_name u f) (functions_of u) ≡ Some f

@@ -1,5 +1,6 @@
 -- What is written of a certificate or a derivation means it.
 use Rattle.std.proofs.Common.{◌≡◌, true, List, [], ◌∷◌, map, Ok, refl, ap}
+use Rattle.std.specs.Cmp.{first_so, second_so}
 use Rattle.qs_entail.specs.Certificates as certificates
 use Rattle.qs_entail.specs.Certificates.{Item, once, twice, FactTree, CertTree, CertTrees, no_certs, cert_and}
 use Rattle.qs_entail.specs.View.{certs_of}
@@ -14,7 +15,7 @@ use Rattle.qs_prooftext_meaning.specs.Meanings.{means, all_mean}
 use Rattle.qs_prooftext_meaning.specs.Writing.{Words, forms_of, item_form, combination_form, fact_form, certificate_form, certificate_forms, derivation_form, derivation_forms}
 use Rattle.qs_prooftext_meaning.specs.Writable.{fact_stands, certificate_stands, certificates_stand, derivation_stands, derivations_stand}
 use Rattle.qs_prooftext_meaning.proofs.PlacedForms.{part_in, parts_in, placed, all_placed}
-use Rattle.qs_prooftext_meaning.proofs.WrittenMeans.{left, right, one_part, two_parts, three_parts, four_parts, any_parts, next_part, Agree, function_back, term_back, condition_back, assertion_back}
+use Rattle.qs_prooftext_meaning.proofs.WrittenMeans.{one_part, two_parts, three_parts, four_parts, any_parts, next_part, Agree, function_back, term_back, condition_back, assertion_back}
 
 -- ---- combinations
 
@@ -59,7 +60,7 @@ fact_back g w a at (certificates.bits_bound t) h c form e =
 fact_back g w a at (certificates.bits_half t items) h c form e =
     three_parts (λ u v. certificates.fact (certificates.bits_half u v)) _ _ _ t items c (term_back g w a _ t h) (combination_back g (part_in 2 (parts_in at)) items) (e (part_in 3 (parts_in at)))
 fact_back g w a at (certificates.bits_rise t u items) h c form e =
-    four_parts (λ s o v. certificates.fact (certificates.bits_rise s o v)) _ _ _ _ t u items c (term_back g w a _ t (left _ _ h)) (term_back g w a _ u (right _ _ h)) (combination_back g (part_in 3 (parts_in at)) items) (e (part_in 4 (parts_in at)))
+    four_parts (λ s o v. certificates.fact (certificates.bits_rise s o v)) _ _ _ _ t u items c (term_back g w a _ t (first_so _ _ h)) (term_back g w a _ u (second_so _ _ h)) (combination_back g (part_in 3 (parts_in at)) items) (e (part_in 4 (parts_in at)))
 
 -- ---- certificates
 
@@ -75,7 +76,7 @@ mutual
   pub certificate_back : (g : Setting) (w : Words) → Agree g w → (at : Sexp) (c : CertTree) → certificate_stands g c ≡ true → means g a_certificate (placed at (certificate_form w c)) ≡ Ok c
   certificate_back g w a at certificates.same h = refl
   certificate_back g w a at (certificates.via r c d) h =
-      three_parts certificates.via _ _ _ r c d (assertion_back g w a _ r (left _ _ (left _ _ h))) (certificate_back g w a _ c (right _ _ (left _ _ h))) (certificate_back g w a _ d (right _ _ h))
+      three_parts certificates.via _ _ _ r c d (assertion_back g w a _ r (first_so _ _ (first_so _ _ h))) (certificate_back g w a _ c (second_so _ _ (first_so _ _ h))) (certificate_back g w a _ d (second_so _ _ h))
   certificate_back g w a at (certificates.pick i c) h =
       two_parts certificates.pick (Ok i) _ i c refl (certificate_back g w a _ c h)
   certificate_back g w a at (certificates.all cs) h =
@@ -85,9 +86,9 @@ mutual
   certificate_back g w a at (certificates.assume c) h =
       one_part certificates.assume _ c (certificate_back g w a _ c h)
   certificate_back g w a at (certificates.drop c d) h =
-      two_parts certificates.drop _ _ c d (certificate_back g w a _ c (left _ _ h)) (certificate_back g w a _ d (right _ _ h))
+      two_parts certificates.drop _ _ c d (certificate_back g w a _ c (first_so _ _ h)) (certificate_back g w a _ d (second_so _ _ h))
   certificate_back g w a at (certificates.split b c d) h =
-      three_parts certificates.split _ _ _ b c d (condition_back g w a _ b (left _ _ (left _ _ h))) (certificate_back g w a _ c (right _ _ (left _ _ h))) (certificate_back g w a _ d (right _ _ h))
+      three_parts certificates.split _ _ _ b c d (condition_back g w a _ b (first_so _ _ (first_so _ _ h))) (certificate_back g w a _ c (second_so _ _ (first_so _ _ h))) (certificate_back g w a _ d (second_so _ _ h))
   certificate_back g w a at (certificates.contradict items) h =
       one_part certificates.contradict _ items (combination_back g (part_in 1 (parts_in at)) items)
   certificate_back g w a at (certificates.arithmetic items) h =
@@ -95,12 +96,12 @@ mutual
   certificate_back g w a at (certificates.by_definition name c) h =
       two_parts certificates.by_definition (Ok name) _ name c refl (certificate_back g w a _ c h)
   certificate_back g w a at (certificates.fact f c) h =
-      fact_back g w a at f (left _ _ h) c (certificate_form w c) (λ there. certificate_back g w a there c (right _ _ h))
+      fact_back g w a at f (first_so _ _ h) c (certificate_form w c) (λ there. certificate_back g w a there c (second_so _ _ h))
 
   pub certificates_back : (g : Setting) (w : Words) → Agree g w → (at : Sexps) (cs : CertTrees) → certificates_stand g cs ≡ true → all_mean g a_certificate (all_placed at (forms_of (certificate_forms w cs))) ≡ Ok (cert_list cs)
   certificates_back g w a at no_certs h = refl
   certificates_back g w a at (cert_and c cs) h =
-      next_part _ _ c (cert_list cs) (certificate_back g w a _ c (left _ _ h)) (certificates_back g w a _ cs (right _ _ h))
+      next_part _ _ c (cert_list cs) (certificate_back g w a _ c (first_so _ _ h)) (certificates_back g w a _ cs (second_so _ _ h))
 
 -- ---- derivations
 
@@ -118,16 +119,16 @@ mutual
   derivation_back g w a at (derivations.sequence ds) h =
       any_parts (λ es. derivations.sequence (derivations_of es)) _ (derivation_list ds) (derivations.sequence ds) (derivations_back g w a _ ds h) (ap derivations.sequence (derivations_of-list ds))
   derivation_back g w a at (derivations.conditional d e) h =
-      two_parts derivations.conditional _ _ d e (derivation_back g w a _ d (left _ _ h)) (derivation_back g w a _ e (right _ _ h))
+      two_parts derivations.conditional _ _ d e (derivation_back g w a _ d (first_so _ _ h)) (derivation_back g w a _ e (second_so _ _ h))
   derivation_back g w a at (derivations.loop i c body step) h =
-      four_parts derivations.loop _ _ _ _ i c body step (assertion_back g w a _ i (left _ _ (left _ _ (left _ _ h)))) (certificate_back g w a _ c (right _ _ (left _ _ (left _ _ h)))) (derivation_back g w a _ body (right _ _ (left _ _ h))) (derivation_back g w a _ step (right _ _ h))
+      four_parts derivations.loop _ _ _ _ i c body step (assertion_back g w a _ i (first_so _ _ (first_so _ _ (first_so _ _ h)))) (certificate_back g w a _ c (second_so _ _ (first_so _ _ (first_so _ _ h)))) (derivation_back g w a _ body (second_so _ _ (first_so _ _ h))) (derivation_back g w a _ step (second_so _ _ h))
   derivation_back g w a at (derivations.call b c) h =
-      two_parts derivations.call _ _ b c (assertion_back g w a _ b (left _ _ h)) (certificate_back g w a _ c (right _ _ h))
+      two_parts derivations.call _ _ b c (assertion_back g w a _ b (first_so _ _ h)) (certificate_back g w a _ c (second_so _ _ h))
   derivation_back g w a at derivations.balanced_call h = refl
   derivation_back g w a at (derivations.consequence r c d) h =
-      three_parts derivations.consequence _ _ _ r c d (assertion_back g w a _ r (left _ _ (left _ _ h))) (certificate_back g w a _ c (right _ _ (left _ _ h))) (derivation_back g w a _ d (right _ _ h))
+      three_parts derivations.consequence _ _ _ r c d (assertion_back g w a _ r (first_so _ _ (first_so _ _ h))) (certificate_back g w a _ c (second_so _ _ (first_so _ _ h))) (derivation_back g w a _ d (second_so _ _ h))
 
   pub derivations_back : (g : Setting) (w : Words) → Agree g w → (at : Sexps) (ds : DerivationTrees) → derivations_stand g ds ≡ true → all_mean g a_derivation (all_placed at (forms_of (derivation_forms w ds))) ≡ Ok (derivation_list ds)
   derivations_back g w a at no_derivations h = refl
   derivations_back g w a at (derivation_and d ds) h =
-      next_part _ _ d (derivation_list ds) (derivation_back g w a _ d (left _ _ h)) (derivations_back g w a _ ds (right _ _ h))
+      next_part _ _ d (derivation_list ds) (derivation_back g w a _ d (first_so _ _ h)) (derivations_back g w a _ ds (second_so _ _ h))

@@ -1,5 +1,6 @@
 -- What is written of a tree means that tree.
-use Rattle.std.proofs.Common.{arith, ◌≡◌, ℕ, zero, suc, ◌+◌, ◌&&◌, nat_le, Bool, true, false, List, [], ◌∷◌, length, if◌then◌else◌, Some, Ok, Err, refl, ap, ◌∙◌}
+use Rattle.std.proofs.Common.{arith, ◌≡◌, ℕ, zero, suc, ◌+◌, nat_le, true, false, List, [], ◌∷◌, length, if◌then◌else◌, Some, Ok, Err, refl, ap, ◌∙◌}
+use Rattle.std.specs.Cmp.{first_so, second_so}
 use Rattle.qs_base.specs.Results.{bind}
 use Rattle.qs_assert.specs.declared.variable.Var.{Var}
 use Rattle.qs_assert.specs.Trees.{TermTree, number, variable, add, sub, mul, div, wrapu, wraps, bits, TermTrees, no_terms, term_and, term_list, terms_of, CondTree, le, lt, eq, ne, not, and, or, CondTrees, no_conds, cond_and, cond_list, conds_of, AssertionTree, natural, infinity, cost, num, total, greatest, product, guard, choose, named, AssertionTrees, no_assertions, assertion_and, assertion_list, assertions_of}
@@ -16,15 +17,6 @@ use Rattle.qs_prooftext_meaning.proofs.PlacedForms.{place, others_in, placed, al
 use Rattle.qs_prooftext_meaning.specs.Writable.{is_meant, term_stands, terms_stand, condition_stands, conditions_stand, assertion_stands, assertions_stand, definition_stands, definitions_stand, is_function}
 
 -- ---- tests
-
-pub left : (a b : Bool) → (a && b) ≡ true → a ≡ true
-left true b h = refl
-left false b h = h
-
-pub right : (a b : Bool) → (a && b) ≡ true → b ≡ true
-right true b h = h
-right false true h = refl
-right false false h = h
 
 -- ---- rows
 
@@ -77,14 +69,14 @@ mutual
   term_back g w a at (number n) h = refl
   term_back g w a at (variable x) h = a.variables at x h
   term_back g w a at (add ts) h =
-      many_parts (λ us. add (terms_of us)) _ _ (length (term_list ts)) _ (term_list ts) (add ts) (others_count _ (term_forms w ts) ∙ terms_count w ts) (left _ _ h) (terms_back g w a _ ts (right _ _ h)) (ap add (terms_of-list ts))
+      many_parts (λ us. add (terms_of us)) _ _ (length (term_list ts)) _ (term_list ts) (add ts) (others_count _ (term_forms w ts) ∙ terms_count w ts) (first_so _ _ h) (terms_back g w a _ ts (second_so _ _ h)) (ap add (terms_of-list ts))
   term_back g w a at (sub t u) h =
-      two_parts sub _ _ t u (term_back g w a _ t (left _ _ h)) (term_back g w a _ u (right _ _ h))
+      two_parts sub _ _ t u (term_back g w a _ t (first_so _ _ h)) (term_back g w a _ u (second_so _ _ h))
   term_back g w a at (mul ts) h =
-      many_parts (λ us. mul (terms_of us)) _ _ (length (term_list ts)) _ (term_list ts) (mul ts) (others_count _ (term_forms w ts) ∙ terms_count w ts) (left _ _ h) (terms_back g w a _ ts (right _ _ h)) (ap mul (terms_of-list ts))
+      many_parts (λ us. mul (terms_of us)) _ _ (length (term_list ts)) _ (term_list ts) (mul ts) (others_count _ (term_forms w ts) ∙ terms_count w ts) (first_so _ _ h) (terms_back g w a _ ts (second_so _ _ h)) (ap mul (terms_of-list ts))
   term_back g w a at (div t zero) h = absurd (grind (arith, h))
   term_back g w a at (div t (suc k)) h =
-      two_parts div _ (Ok (suc k)) t (suc k) (term_back g w a _ t (right _ _ h)) refl
+      two_parts div _ (Ok (suc k)) t (suc k) (term_back g w a _ t (second_so _ _ h)) refl
   term_back g w a at (wrapu t) h = one_part wrapu _ t (term_back g w a _ t h)
   term_back g w a at (wraps t) h = one_part wraps _ t (term_back g w a _ t h)
   term_back g w a at (bits t) h = one_part bits _ t (term_back g w a _ t h)
@@ -92,7 +84,7 @@ mutual
   pub terms_back : (g : Setting) (w : Words) → Agree g w → (at : Sexps) (ts : TermTrees) → terms_stand g ts ≡ true → all_mean g a_term (all_placed at (forms_of (term_forms w ts))) ≡ Ok (term_list ts)
   terms_back g w a at no_terms h = refl
   terms_back g w a at (term_and t ts) h =
-      next_part _ _ t (term_list ts) (term_back g w a _ t (left _ _ h)) (terms_back g w a _ ts (right _ _ h))
+      next_part _ _ t (term_list ts) (term_back g w a _ t (first_so _ _ h)) (terms_back g w a _ ts (second_so _ _ h))
 
 -- ---- conditions
 
@@ -103,23 +95,23 @@ conds_count w (cond_and c cs) = ap suc (conds_count w cs)
 mutual
   pub condition_back : (g : Setting) (w : Words) → Agree g w → (at : Sexp) (c : CondTree) → condition_stands g c ≡ true → means g a_condition (placed at (condition_form w c)) ≡ Ok c
   condition_back g w a at (le t u) h =
-      two_parts le _ _ t u (term_back g w a _ t (left _ _ h)) (term_back g w a _ u (right _ _ h))
+      two_parts le _ _ t u (term_back g w a _ t (first_so _ _ h)) (term_back g w a _ u (second_so _ _ h))
   condition_back g w a at (lt t u) h =
-      two_parts lt _ _ t u (term_back g w a _ t (left _ _ h)) (term_back g w a _ u (right _ _ h))
+      two_parts lt _ _ t u (term_back g w a _ t (first_so _ _ h)) (term_back g w a _ u (second_so _ _ h))
   condition_back g w a at (eq t u) h =
-      two_parts eq _ _ t u (term_back g w a _ t (left _ _ h)) (term_back g w a _ u (right _ _ h))
+      two_parts eq _ _ t u (term_back g w a _ t (first_so _ _ h)) (term_back g w a _ u (second_so _ _ h))
   condition_back g w a at (ne t u) h =
-      two_parts ne _ _ t u (term_back g w a _ t (left _ _ h)) (term_back g w a _ u (right _ _ h))
+      two_parts ne _ _ t u (term_back g w a _ t (first_so _ _ h)) (term_back g w a _ u (second_so _ _ h))
   condition_back g w a at (not c) h = one_part not _ c (condition_back g w a _ c h)
   condition_back g w a at (and cs) h =
-      many_parts (λ us. and (conds_of us)) _ _ (length (cond_list cs)) _ (cond_list cs) (and cs) (others_count _ (condition_forms w cs) ∙ conds_count w cs) (left _ _ h) (conditions_back g w a _ cs (right _ _ h)) (ap and (conds_of-list cs))
+      many_parts (λ us. and (conds_of us)) _ _ (length (cond_list cs)) _ (cond_list cs) (and cs) (others_count _ (condition_forms w cs) ∙ conds_count w cs) (first_so _ _ h) (conditions_back g w a _ cs (second_so _ _ h)) (ap and (conds_of-list cs))
   condition_back g w a at (or cs) h =
-      many_parts (λ us. or (conds_of us)) _ _ (length (cond_list cs)) _ (cond_list cs) (or cs) (others_count _ (condition_forms w cs) ∙ conds_count w cs) (left _ _ h) (conditions_back g w a _ cs (right _ _ h)) (ap or (conds_of-list cs))
+      many_parts (λ us. or (conds_of us)) _ _ (length (cond_list cs)) _ (cond_list cs) (or cs) (others_count _ (condition_forms w cs) ∙ conds_count w cs) (first_so _ _ h) (conditions_back g w a _ cs (second_so _ _ h)) (ap or (conds_of-list cs))
 
   pub conditions_back : (g : Setting) (w : Words) → Agree g w → (at : Sexps) (cs : CondTrees) → conditions_stand g cs ≡ true → all_mean g a_condition (all_placed at (forms_of (condition_forms w cs))) ≡ Ok (cond_list cs)
   conditions_back g w a at no_conds h = refl
   conditions_back g w a at (cond_and c cs) h =
-      next_part _ _ c (cond_list cs) (condition_back g w a _ c (left _ _ h)) (conditions_back g w a _ cs (right _ _ h))
+      next_part _ _ c (cond_list cs) (condition_back g w a _ c (first_so _ _ h)) (conditions_back g w a _ cs (second_so _ _ h))
 
 -- ---- assertions
 
@@ -137,22 +129,22 @@ mutual
   assertion_back g w a at (cost f) h = one_part cost _ f (function_back g w a (place at) f h)
   assertion_back g w a at (num t) h = one_part num _ t (term_back g w a _ t h)
   assertion_back g w a at (total parts) h =
-      many_parts (λ us. total (assertions_of us)) _ _ (length (assertion_list parts)) _ (assertion_list parts) (total parts) (others_count _ (assertion_forms w parts) ∙ assertions_count w parts) (left _ _ h) (assertions_back g w a _ parts (right _ _ h)) (ap total (assertions_of-list parts))
+      many_parts (λ us. total (assertions_of us)) _ _ (length (assertion_list parts)) _ (assertion_list parts) (total parts) (others_count _ (assertion_forms w parts) ∙ assertions_count w parts) (first_so _ _ h) (assertions_back g w a _ parts (second_so _ _ h)) (ap total (assertions_of-list parts))
   assertion_back g w a at (greatest parts) h =
-      many_parts (λ us. greatest (assertions_of us)) _ _ (length (assertion_list parts)) _ (assertion_list parts) (greatest parts) (others_count _ (assertion_forms w parts) ∙ assertions_count w parts) (left _ _ h) (assertions_back g w a _ parts (right _ _ h)) (ap greatest (assertions_of-list parts))
+      many_parts (λ us. greatest (assertions_of us)) _ _ (length (assertion_list parts)) _ (assertion_list parts) (greatest parts) (others_count _ (assertion_forms w parts) ∙ assertions_count w parts) (first_so _ _ h) (assertions_back g w a _ parts (second_so _ _ h)) (ap greatest (assertions_of-list parts))
   assertion_back g w a at (product parts) h =
-      many_parts (λ us. product (assertions_of us)) _ _ (length (assertion_list parts)) _ (assertion_list parts) (product parts) (others_count _ (assertion_forms w parts) ∙ assertions_count w parts) (left _ _ h) (assertions_back g w a _ parts (right _ _ h)) (ap product (assertions_of-list parts))
+      many_parts (λ us. product (assertions_of us)) _ _ (length (assertion_list parts)) _ (assertion_list parts) (product parts) (others_count _ (assertion_forms w parts) ∙ assertions_count w parts) (first_so _ _ h) (assertions_back g w a _ parts (second_so _ _ h)) (ap product (assertions_of-list parts))
   assertion_back g w a at (guard c b) h =
-      two_parts guard _ _ c b (condition_back g w a _ c (left _ _ h)) (assertion_back g w a _ b (right _ _ h))
+      two_parts guard _ _ c b (condition_back g w a _ c (first_so _ _ h)) (assertion_back g w a _ b (second_so _ _ h))
   assertion_back g w a at (choose c b d) h =
-      three_parts choose _ _ _ c b d (condition_back g w a _ c (left _ _ (left _ _ h))) (assertion_back g w a _ b (right _ _ (left _ _ h))) (assertion_back g w a _ d (right _ _ h))
+      three_parts choose _ _ _ c b d (condition_back g w a _ c (first_so _ _ (first_so _ _ h))) (assertion_back g w a _ b (second_so _ _ (first_so _ _ h))) (assertion_back g w a _ d (second_so _ _ h))
   assertion_back g w a at (named name) h =
       one_part named _ name (λ i. if h i then Ok name else Err (UnknownForm (place at)))
 
   pub assertions_back : (g : Setting) (w : Words) → Agree g w → (at : Sexps) (parts : AssertionTrees) → assertions_stand g parts ≡ true → all_mean g an_assertion (all_placed at (forms_of (assertion_forms w parts))) ≡ Ok (assertion_list parts)
   assertions_back g w a at no_assertions h = refl
   assertions_back g w a at (assertion_and b parts) h =
-      next_part _ _ b (assertion_list parts) (assertion_back g w a _ b (left _ _ h)) (assertions_back g w a _ parts (right _ _ h))
+      next_part _ _ b (assertion_list parts) (assertion_back g w a _ b (first_so _ _ h)) (assertions_back g w a _ parts (second_so _ _ h))
 
 -- ---- definitions
 
@@ -166,11 +158,11 @@ mutual
   definition_back g w a at (cost f) h = one_part cost _ f (function_back g w a (place at) f h)
   definition_back g w a at (num t) h = never h
   definition_back g w a at (total parts) h =
-      many_parts (λ us. total (assertions_of us)) _ _ (length (assertion_list parts)) _ (assertion_list parts) (total parts) (others_count _ (assertion_forms w parts) ∙ assertions_count w parts) (left _ _ h) (definitions_back g w a _ parts (right _ _ h)) (ap total (assertions_of-list parts))
+      many_parts (λ us. total (assertions_of us)) _ _ (length (assertion_list parts)) _ (assertion_list parts) (total parts) (others_count _ (assertion_forms w parts) ∙ assertions_count w parts) (first_so _ _ h) (definitions_back g w a _ parts (second_so _ _ h)) (ap total (assertions_of-list parts))
   definition_back g w a at (greatest parts) h =
-      many_parts (λ us. greatest (assertions_of us)) _ _ (length (assertion_list parts)) _ (assertion_list parts) (greatest parts) (others_count _ (assertion_forms w parts) ∙ assertions_count w parts) (left _ _ h) (definitions_back g w a _ parts (right _ _ h)) (ap greatest (assertions_of-list parts))
+      many_parts (λ us. greatest (assertions_of us)) _ _ (length (assertion_list parts)) _ (assertion_list parts) (greatest parts) (others_count _ (assertion_forms w parts) ∙ assertions_count w parts) (first_so _ _ h) (definitions_back g w a _ parts (second_so _ _ h)) (ap greatest (assertions_of-list parts))
   definition_back g w a at (product parts) h =
-      many_parts (λ us. product (assertions_of us)) _ _ (length (assertion_list parts)) _ (assertion_list parts) (product parts) (others_count _ (assertion_forms w parts) ∙ assertions_count w parts) (left _ _ h) (definitions_back g w a _ parts (right _ _ h)) (ap product (assertions_of-list parts))
+      many_parts (λ us. product (assertions_of us)) _ _ (length (assertion_list parts)) _ (assertion_list parts) (product parts) (others_count _ (assertion_forms w parts) ∙ assertions_count w parts) (first_so _ _ h) (definitions_back g w a _ parts (second_so _ _ h)) (ap product (assertions_of-list parts))
   definition_back g w a at (guard c b) h = never h
   definition_back g w a at (choose c b d) h = never h
   definition_back g w a at (named name) h = refl
@@ -178,4 +170,4 @@ mutual
   pub definitions_back : (g : Setting) (w : Words) → Agree g w → (at : Sexps) (parts : AssertionTrees) → definitions_stand g parts ≡ true → all_mean g a_definition_body (all_placed at (forms_of (assertion_forms w parts))) ≡ Ok (assertion_list parts)
   definitions_back g w a at no_assertions h = refl
   definitions_back g w a at (assertion_and b parts) h =
-      next_part _ _ b (assertion_list parts) (definition_back g w a _ b (left _ _ h)) (definitions_back g w a _ parts (right _ _ h))
+      next_part _ _ b (assertion_list parts) (definition_back g w a _ b (first_so _ _ h)) (definitions_back g w a _ parts (second_so _ _ h))

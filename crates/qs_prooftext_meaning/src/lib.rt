@@ -1,4 +1,5 @@
-//! What the lists and atoms of a proof file mean in a unit, and as which lists proofs are written.
+//! What the lists and atoms of a proof file mean in a unit, which proofs can be written, and as
+//! which lists.
 #![tactic(auto)]
 
 mod context;

@@ -3,7 +3,8 @@ use qs_base::NoMemory;
 use qs_driver::{Devices, run_tool};
 use qs_ports::{MemSink, MemStore};
 use qs_rows_printing::{
-    printed_code, printed_command, printed_instructions, printed_tokens, printed_unit,
+    printed_code, printed_command, printed_instructions, printed_places, printed_tokens,
+    printed_unit,
 };
 use qs_rows_tables::{Act, NamedFile, Row, TableFault};
 use std::alloc::{AllocError, Global};
@@ -77,6 +78,7 @@ fn text_of(alloc: Global, row: &Row, source: &[u8]) -> Result<Option<Vec<u8>>, T
         Act::Read => printed_command(alloc, &row.words),
         Act::Lex => printed_tokens(alloc, source),
         Act::Linear => printed_code(alloc, source),
+        Act::Places => printed_places(alloc, source),
         Act::Decode => printed_instructions(alloc, &row.words),
     }
 }

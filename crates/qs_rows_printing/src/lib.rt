@@ -4,5 +4,6 @@
 mod printing;
 
 pub use printing::{
-    printed_code, printed_command, printed_instructions, printed_tokens, printed_unit,
+    printed_code, printed_command, printed_instructions, printed_places, printed_tokens,
+    printed_unit,
 };

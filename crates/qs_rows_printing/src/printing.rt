@@ -1,4 +1,5 @@
 // What crates below the tool answer, as text.
+use qs_alloc::{assign_unit, verify_unit};
 use qs_base::NoMemory;
 use qs_cli::{CliFault, read_words};
 use qs_elaborate::elaborate;
@@ -7,7 +8,7 @@ use qs_lexer::{SOURCE_LIMIT, tokens};
 use qs_lower::lower;
 use qs_parser::unit;
 use qs_print::print;
-use qs_rows_tables::{TableFault, linear_text};
+use qs_rows_tables::{TableFault, linear_text, places_text};
 use qs_syntax::Unit;
 use qs_syntax_copies::copy_unit;
 use qs_syntax_vocabulary::Token;
@@ -66,6 +67,26 @@ pub fn printed_code(alloc: Global, source: &[u8]) -> Result<Option<Vec<u8>>, Tab
     let core = elaborate(alloc, &typed)?;
     let code = lower(alloc, &core)?;
     Ok(Some(linear_text(alloc, &core, &code)?.into_bytes()))
+}
+
+/// The places that the temporaries of the source are given; None where it has no unit, or one that
+/// is ill typed or beyond the limits, or where the test doesn't accept them. It fails where no
+/// memory is found.
+pub fn printed_places(alloc: Global, source: &[u8]) -> Result<Option<Vec<u8>>, TableFault> {
+    let Some(unit) = read(alloc, source) else {
+        return Ok(None);
+    };
+    let Some(typed) = check(alloc, &unit).ok() else {
+        return Ok(None);
+    };
+    let core = elaborate(alloc, &typed)?;
+    let code = lower(alloc, &core)?;
+    let places = assign_unit(alloc, &code)?;
+    if verify_unit(&code, &places) {
+        Ok(Some(places_text(alloc, &core, &places)?.into_bytes()))
+    } else {
+        Ok(None)
+    }
 }
 
 /// What the words mean, where they mean a command. It fails where no memory is found.

@@ -9,5 +9,5 @@ mod row;
 
 pub use fault::TableFault;
 pub use line::{Device, Line, line_of};
-pub use linear::linear_text;
+pub use linear::{linear_text, places_text};
 pub use row::{Act, NamedFile, Row};

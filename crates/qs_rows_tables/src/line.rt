@@ -33,6 +33,8 @@ pub enum Line<'a> {
     Lex,
     /// In place of a call, the linear code of the source `a.c` is printed.
     Linear,
+    /// In place of a call, the places of the temporaries of the source `a.c` are printed.
+    Places,
     /// In place of a call, the instructions that the words are as hexadecimal numbers are printed.
     Decode,
     /// The most bytes that a call of a device moves.
@@ -117,6 +119,7 @@ fn given_of<'a>(word: &str, rest: &'a str) -> Option<Line<'a>> {
         "read" => Some(Line::Read),
         "lex" => Some(Line::Lex),
         "linear" => Some(Line::Linear),
+        "places" => Some(Line::Places),
         "decode" => Some(Line::Decode),
         "chunk" => Some(Line::Chunk(rest.parse::<usize>().ok()?)),
         "fails" => fails_of(rest),

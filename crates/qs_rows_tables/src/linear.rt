@@ -3,7 +3,9 @@ use qs_base::{FnId, NoMemory};
 use qs_calls::{Callee, Parameter};
 use qs_core::CoreUnit;
 use qs_memory::{BinaryOperation, Blank, Direction};
-use qs_tac::{Address, Condition, Index, Instruction, Operand, TacData, TacFunction, TacUnit};
+use qs_tac::{
+    Address, Condition, Index, Instruction, Operand, Place, Places, TacData, TacFunction, TacUnit,
+};
 use std::alloc::{AllocError, Global};
 
 // ---- what instructions take
@@ -284,6 +286,39 @@ fn data(alloc: Global, blocks: &[TacData]) -> Result<String, AllocError> {
     for block in blocks {
         let kind = if block.is_writable { "data" } else { "text" };
         let line = format!(in alloc; "{kind} {}\n", block.size)?;
+        text.push_str(line.as_str())?;
+    }
+    Ok(text)
+}
+
+// ---- places
+
+fn place(alloc: Global, p: Place) -> Result<String, AllocError> {
+    match p {
+        Place::Slot(k) => format!(in alloc; " slot {k}"),
+        Place::Register(r) => format!(in alloc; " x{r}"),
+    }
+}
+
+// The line of a function: its name, and the places of its temporaries by their numbers.
+fn places_line(alloc: Global, name: &str, places: &Places) -> Result<String, AllocError> {
+    let mut text = format!(in alloc; "places {name}")?;
+    for p in &places.at {
+        let p = place(alloc, *p)?;
+        text.push_str(p.as_str())?;
+    }
+    text.push_str("\n")?;
+    Ok(text)
+}
+
+// ---- units
+
+/// The places of the temporaries of each function as text, with the names that the core has.
+pub fn places_text(alloc: Global, core: &CoreUnit, all: &[Places]) -> Result<String, NoMemory> {
+    let mut text = String::new(alloc);
+    for (from, places) in core.functions.iter().zip(all) {
+        let name = format!(in alloc; "{}", from.name.bytes().escape_ascii())?;
+        let line = places_line(alloc, name.as_str(), places)?;
         text.push_str(line.as_str())?;
     }
     Ok(text)

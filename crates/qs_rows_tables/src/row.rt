@@ -18,6 +18,8 @@ pub enum Act {
     Lex,
     /// The linear code of the source `a.c`, printed.
     Linear,
+    /// The places of the temporaries of the source `a.c`, printed.
+    Places,
     /// The instructions that the words are as hexadecimal numbers, printed.
     Decode,
 }
@@ -146,6 +148,7 @@ impl Row {
             Line::Read => self.act = Act::Read,
             Line::Lex => self.act = Act::Lex,
             Line::Linear => self.act = Act::Linear,
+            Line::Places => self.act = Act::Places,
             Line::Decode => self.act = Act::Decode,
             Line::Chunk(chunk) => self.chunk = chunk.max(1),
             Line::Fails(device, call) => self.add_failure(device, call)?,

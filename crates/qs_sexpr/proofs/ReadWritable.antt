@@ -3,6 +3,7 @@ use Rattle.std.proofs.Common.{arith, ◌≡◌, ℕ, zero, suc, ◌+◌, ◌<◌
 use Rattle.std.specs.List.{prefix_len, list_all}
 use Rattle.std.proofs.lemmas.Bool.Decides.{nat_tests}
 use Rattle.std.proofs.lemmas.List.Folds.{length-prefix_len}
+use Rattle.std.specs.Cmp.{second_so}
 use Rattle.qs_sexpr.specs.Bytes.{is_atom_byte, is_space, is_symbol_byte, starts_number, starts_symbol}
 use Rattle.qs_base.specs.Characters.{hyphen, left_parenthesis, right_parenthesis, semicolon}
 use Rattle.qs_sexpr.specs.Numbers.{are_digits, is_empty, magnitude, negated, negative, number_of, positive, value_of}
@@ -12,7 +13,6 @@ use Rattle.qs_sexpr.specs.Trees.{Sexps}
 use Rattle.qs_sexpr.specs.Writing.{forms_of_parts, is_symbol, IsInRange, AreWritable}
 use Rattle.qs_sexpr.specs.declared.pieces.Piece.{Piece}
 use Rattle.qs_sexpr.specs.declared.pieces.Piece.TheVariants.{White, Open, Close, Number, Symbol, BadByte}
-use Rattle.qs_sexpr.proofs.WritingLaws.{and_right}
 
 -- ---- numbers
 
@@ -38,7 +38,7 @@ magnitude_in bytes n e = by (not (is_empty bytes) && (are_digits bytes && nat_le
     by : (b : Bool) → (not (is_empty bytes) && (are_digits bytes && nat_le (value_of bytes) (2 ^ 63))) ≡ b → (if b then Some (value_of bytes) else None) ≡ Some n → n ≤ 2 ^ 63
     by true is f =
         let same : value_of bytes ≡ n = cc in
-        let few = and_right (are_digits bytes) (nat_le (value_of bytes) (2 ^ 63)) (and_right (not (is_empty bytes)) (are_digits bytes && nat_le (value_of bytes) (2 ^ 63)) is) in
+        let few = second_so (are_digits bytes) (nat_le (value_of bytes) (2 ^ 63)) (second_so (not (is_empty bytes)) (are_digits bytes && nat_le (value_of bytes) (2 ^ 63)) is) in
         let within : value_of bytes ≤ 2 ^ 63 = grind (arith, nat_tests, few) in
         subst (λ (m : ℕ). m ≤ 2 ^ 63) same within
     by false is f = cc

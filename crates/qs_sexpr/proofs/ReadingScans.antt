@@ -1,5 +1,5 @@
 -- Each reading and each fault of a text is what its scan gives.
-use Rattle.std.proofs.Common.{arith, ◌≡◌, ℕ, suc, ◌+◌, ◌<◌, ◌≤◌, Bool, List, [], ◌∷◌, ◌++◌, length, take, drop, refl, sym, ap, subst, ◌∙◌, append_assoc, if◌then◌else◌, Ok, Err}
+use Rattle.std.proofs.Common.{arith, ◌≡◌, ℕ, suc, ◌+◌, ◌<◌, ◌≤◌, Bool, List, [], ◌∷◌, ◌++◌, length, take, drop, refl, sym, ap, subst, ◌∙◌, append_assoc, if◌then◌else◌, Ok, Err, le-ltb}
 use Rattle.std.proofs.lemmas.List.{append-nil}
 use Rattle.qs_sexpr.specs.Pieces.{first_piece}
 use Rattle.qs_sexpr.specs.Trees.{Sexp, number, symbol, list, Sexps, no_parts, part_and}
@@ -9,7 +9,7 @@ use Rattle.qs_sexpr.specs.declared.fault.SexprFault.{SexprFault}
 use Rattle.qs_sexpr.specs.declared.fault.SexprFault.TheVariants as faults
 use Rattle.qs_sexpr.specs.declared.pieces.Piece.{Piece}
 use Rattle.qs_sexpr.specs.declared.pieces.Piece.TheVariants.{White, Open, Close, Number, Symbol, BadByte, BadNumber}
-use Rattle.qs_sexpr.proofs.ScanLaws.{IsIn, piece_in, skipped, lt_false, open_acts}
+use Rattle.qs_sexpr.proofs.ScanLaws.{IsIn, piece_in, skipped, open_acts}
 
 abbrev pub parts_list : Sexps → List Sexp
 parts_list no_parts = []
@@ -96,7 +96,7 @@ stops_scan (bad_number {at = at} {byte = byte} {bytes = bytes} e) outer done h =
 stops_scan (closes_nothing {at = at} {byte = byte} {bytes = bytes} e) outer done h = closes_none outer done at byte bytes h e
 stops_scan (ends_open {depth = depth} {at = at}) outer done h = ends_in_list outer done at depth h
 stops_scan (too_deep {at = at} {byte = byte} {bytes = bytes} e deep) outer done h =
-    acts_on outer done at byte bytes Open e ∙ ap (λ (b : Bool). if b then scan (record { place = at; before = done } ∷ outer) [] (at + 1) 0 bytes else Err (faults.TooDeep at)) (lt_false (length outer) 1024 (omega (arith, h, deep)))
+    acts_on outer done at byte bytes Open e ∙ ap (λ (b : Bool). if b then scan (record { place = at; before = done } ∷ outer) [] (at + 1) 0 bytes else Err (faults.TooDeep at)) (le-ltb (length outer) 1024 (omega (arith, h, deep)))
 
 pub fault_scanned : (text : List ℕ) (fault : SexprFault) → Fault text fault → scanned text ≡ Err fault
 fault_scanned text fault f =

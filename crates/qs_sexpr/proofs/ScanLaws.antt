@@ -1,5 +1,5 @@
 -- How the scan goes over a piece.
-use Rattle.std.proofs.Common.{arith, ◌≡◌, ℕ, zero, suc, ◌+◌, ◌≤◌, Bool, true, false, List, [], ◌∷◌, length, drop, take, refl, sym, ap, ◌∙◌, add-one, if◌then◌else◌, Option, Some, None, ℤ, ◌==◌, not, ◌<◌, nat_lt, Err, ◌-◌, ◌*◌, get_or, drop-cons}
+use Rattle.std.proofs.Common.{arith, ◌≡◌, ℕ, zero, suc, ◌+◌, ◌≤◌, Bool, true, false, List, [], ◌∷◌, length, drop, take, refl, sym, ap, ◌∙◌, add-one, if◌then◌else◌, Option, Some, None, ℤ, ◌==◌, not, ◌<◌, Err, ◌-◌, ◌*◌, get_or, drop-cons, lt-ltb}
 use Rattle.std.proofs.lemmas.List.{length-take}
 use Rattle.std.proofs.lemmas.List.Sums.{prefix_len-le-length}
 use Rattle.std.specs.List.{prefix_len}
@@ -80,15 +80,9 @@ goes outer done at more rest byte bytes e h =
     let same : at + 1 + more ≡ at + (more + 1) = omega arith in
     skipped outer done (at + 1) more bytes h ∙ (λ i. scan outer done (same i) 0 (drop_more more rest byte bytes e i))
 
-pub lt_true : (n m : ℕ) → n < m → nat_lt n m ≡ true
-lt_true n m h = grind (arith, h)
-
-pub lt_false : (n m : ℕ) → m ≤ n → nat_lt n m ≡ false
-lt_false n m h = grind (arith, h)
-
 -- a list is opened, where fewer than 1,024 are open
 pub open_acts : (outer : List Layer) (done : List Sexp) (at byte : ℕ) (bytes : List ℕ) (go : Rest) → length outer < 1024 → act Open outer done at byte bytes go ≡ go (record { place = at; before = done } ∷ outer) [] 0
-open_acts outer done at byte bytes go h = ap (λ (b : Bool). if b then go (record { place = at; before = done } ∷ outer) [] 0 else Err (TooDeep at)) (lt_true (length outer) 1024 h)
+open_acts outer done at byte bytes go h = ap (λ (b : Bool). if b then go (record { place = at; before = done } ∷ outer) [] 0 else Err (TooDeep at)) (lt-ltb (length outer) 1024 h)
 
 -- ---- the number that digits write
 

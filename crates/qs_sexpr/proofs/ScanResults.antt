@@ -1,5 +1,5 @@
 -- What the scan of a text gives is a reading of it, or its first fault.
-use Rattle.std.proofs.Common.{arith, ◌≡◌, ℕ, zero, suc, ◌+◌, ◌<◌, ◌≤◌, Bool, true, false, List, [], ◌∷◌, ◌++◌, length, take, drop, refl, sym, ap, subst, nat_lt, if◌then◌else◌, Ok, Err}
+use Rattle.std.proofs.Common.{arith, ◌≡◌, ℕ, zero, suc, ◌+◌, ◌<◌, ◌≤◌, Bool, true, false, List, [], ◌∷◌, ◌++◌, length, take, drop, refl, sym, ap, subst, nat_lt, if◌then◌else◌, Ok, Err, ltb-true, ltb-false}
 use Rattle.std.proofs.lemmas.List.{append-nil, length-drop}
 use Rattle.qs_sexpr.specs.Pieces.{first_piece}
 use Rattle.qs_sexpr.specs.Trees.{Sexp, number, symbol, list, Sexps, no_parts, part_and}
@@ -76,17 +76,11 @@ later text n go outer done at more bytes l h s =
     let P : Answer → Type 0 = Told text in
     subst P (sym (skipped outer done (at + 1) more bytes h)) (go outer done (at + 1 + more) (drop more bytes) (omega (arith, k, l)) s)
 
-lt_from : (n m : ℕ) → nat_lt n m ≡ true → n < m
-lt_from n m h = grind (arith, h)
-
-le_from : (n m : ℕ) → nat_lt n m ≡ false → m ≤ n
-le_from n m h = grind (arith, h)
-
 by_depth : (text : List ℕ) (n : ℕ) → Shorter text n → (outer : List Layer) (done : List Sexp) (at byte : ℕ) (bytes : List ℕ) → length bytes ≤ n → first_piece byte bytes ≡ Open → Standing text outer done at (byte ∷ bytes)
     → (b : Bool) → nat_lt (length outer) 1024 ≡ b → Told text (if b then scan (record { place = at; before = done } ∷ outer) [] (at + 1) 0 bytes else Err (faults.TooDeep at))
 by_depth text n go outer done at byte bytes l e s true h =
-    go (record { place = at; before = done } ∷ outer) [] (at + 1) bytes l (in_list s e (lt_from (length outer) 1024 h) nothing)
-by_depth text n go outer done at byte bytes l e s false h = stopped text outer done at (byte ∷ bytes) (faults.TooDeep at) s (too_deep e (le_from (length outer) 1024 h))
+    go (record { place = at; before = done } ∷ outer) [] (at + 1) bytes l (in_list s e (ltb-true (length outer) 1024 h) nothing)
+by_depth text n go outer done at byte bytes l e s false h = stopped text outer done at (byte ∷ bytes) (faults.TooDeep at) s (too_deep e (ltb-false (length outer) 1024 h))
 
 closes : (text : List ℕ) (n : ℕ) → Shorter text n → (outer : List Layer) (done : List Sexp) (at byte : ℕ) (bytes : List ℕ) → length bytes ≤ n → first_piece byte bytes ≡ Close → Standing text outer done at (byte ∷ bytes)
     → Told text (act Close outer done at byte bytes (λ o d more. scan o d (at + 1) more bytes))

@@ -3,6 +3,7 @@ use Rattle.std.proofs.Common.{arith, ◌≡◌, ℕ, zero, suc, ◌+◌, ◌≤�
 use Rattle.std.proofs.lemmas.Bool.Decides.{nat_tests}
 use Rattle.std.specs.Fmt.{signed_decimal}
 use Rattle.std.specs.List.{list_all, prefix_len}
+use Rattle.std.specs.Cmp.{first_so, second_so}
 use Rattle.qs_sexpr.specs.Bytes.{is_atom_byte, is_space}
 use Rattle.qs_base.specs.Characters.{right_parenthesis}
 use Rattle.qs_sexpr.specs.Pieces.{first_piece}
@@ -12,7 +13,7 @@ use Rattle.qs_sexpr.specs.Trees as trees
 use Rattle.qs_sexpr.specs.Trees.{Sexp, Sexps, part_and, no_parts}
 use Rattle.qs_sexpr.specs.Writing.{Form, list_form, Forms, no_forms, form_and, form_of, forms_of_parts, IsWritable, AreWritable}
 use Rattle.qs_sexpr.specs.declared.pieces.Piece.TheVariants.{White}
-use Rattle.qs_sexpr.proofs.WritingLaws.{Delimited, and_left, and_right, moved, symbol_reads, number_reads, signed_word}
+use Rattle.qs_sexpr.proofs.WritingLaws.{Delimited, moved, symbol_reads, number_reads, signed_word}
 
 -- ---- white space
 
@@ -26,19 +27,19 @@ spaces_read : (depth at end : ℕ) (space text rest : List ℕ) (parts : Sexps) 
     → Reads depth (at + length space) text parts end rest → Reads depth at (space ++ text) parts end rest
 spaces_read depth at end [] text rest parts s r = moved depth (at + 0) at end text rest parts (omega arith) r
 spaces_read depth at end (byte ∷ space) text rest parts s r =
-    white_space (space_is_white byte (space ++ text) (and_left (is_space byte) (list_all is_space space) s))
-    (spaces_read depth (at + 1 + 0) end space text rest parts (and_right (is_space byte) (list_all is_space space) s)
+    white_space (space_is_white byte (space ++ text) (first_so (is_space byte) (list_all is_space space) s))
+    (spaces_read depth (at + 1 + 0) end space text rest parts (second_so (is_space byte) (list_all is_space space) s)
     (moved depth (at + suc (length space)) (at + 1 + 0 + length space) end text rest parts (omega arith) r))
 
 space_delimits : (space rest : List ℕ) → IsSpace space → Delimited rest → Delimited (space ++ rest)
 space_delimits [] rest s d = d
 space_delimits (byte ∷ space) rest s d =
-    ap (λ (b : Bool). if b then 1 + prefix_len is_atom_byte (space ++ rest) else 0) (space_in_no_atom byte (and_left (is_space byte) (list_all is_space space) s))
+    ap (λ (b : Bool). if b then 1 + prefix_len is_atom_byte (space ++ rest) else 0) (space_in_no_atom byte (first_so (is_space byte) (list_all is_space space) s))
 
 others_delimited : {forms : Forms} {text rest : List ℕ} → SpellOthers forms text rest → Delimited rest → Delimited text
 others_delimited {rest = rest} (no_other space s) d = space_delimits space rest s d
 others_delimited (next_part {text = text} byte space s f o) d =
-    ap (λ (b : Bool). if b then 1 + prefix_len is_atom_byte (space ++ text) else 0) (space_in_no_atom byte (and_left (is_space byte) (list_all is_space space) s))
+    ap (λ (b : Bool). if b then 1 + prefix_len is_atom_byte (space ++ text) else 0) (space_in_no_atom byte (first_so (is_space byte) (list_all is_space space) s))
 
 -- ---- forms
 

@@ -1,5 +1,5 @@
 -- Atoms that are written read as what they are.
-use Rattle.std.proofs.Common.{arith, ◌≡◌, ℕ, suc, ◌+◌, ◌*◌, ◌-◌, ◌/◌, ◌%◌, ◌^◌, ◌<◌, ◌≤◌, ℤ, pos, negsuc, Bool, true, false, ◌==◌, ◌&&◌, nat_le, cond, List, [], ◌∷◌, ◌++◌, length, take, drop, refl, sym, ap, subst, ◌∙◌, if◌then◌else◌, not, Some, None}
+use Rattle.std.proofs.Common.{arith, ◌≡◌, ℕ, suc, ◌+◌, ◌*◌, ◌-◌, ◌/◌, ◌%◌, ◌^◌, ◌<◌, ◌≤◌, ℤ, pos, negsuc, Bool, true, false, ◌==◌, cond, List, [], ◌∷◌, ◌++◌, length, take, drop, refl, sym, ap, subst, ◌∙◌, if◌then◌else◌, not, Some, None, lt-ltb, eq-eqb, le-leb}
 use Rattle.std.proofs.lemmas.Bool.Decides.{nat_tests}
 use Rattle.std.proofs.lemmas.List.{append-nil}
 use Rattle.std.proofs.Math.Seq.{take-append_seam, drop-append_seam}
@@ -10,12 +10,12 @@ use Rattle.qs_base.specs.Characters.{digit_zero, hyphen, left_parenthesis, right
 use Rattle.qs_sexpr.specs.Numbers.{are_digits, is_empty, magnitude, negative, number_of, positive, value_from, value_of}
 use Rattle.std.specs.Fmt.{decimal, signed_decimal}
 use Rattle.std.proofs.lemmas.Fmt.{decimal_by_steps}
+use Rattle.std.specs.Cmp.{first_so, second_so}
 use Rattle.qs_sexpr.specs.Pieces.{atom, first_piece, number, symbol}
 use Rattle.qs_sexpr.specs.Reading.{Reads, a_number, a_symbol}
 use Rattle.qs_sexpr.specs.Trees as trees
 use Rattle.qs_sexpr.specs.Trees.{Sexps, part_and}
 use Rattle.qs_sexpr.specs.Writing.{is_symbol, IsInRange}
-use Rattle.qs_sexpr.proofs.ScanLaws.{lt_true}
 use Rattle.qs_sexpr.specs.declared.pieces.Piece.TheVariants.{Number, Symbol, BadByte}
 
 -- no atom goes on with this text
@@ -59,23 +59,15 @@ true_no_false e = grind (arith, e)
 
 -- ---- runs of bytes
 
-pub and_left : (a b : Bool) → (a && b) ≡ true → a ≡ true
-and_left true b h = refl
-and_left false b h = h
-
-pub and_right : (a b : Bool) → (a && b) ≡ true → b ≡ true
-and_right true b h = h
-and_right false b h = absurd (grind (arith, h))
-
 all_weaker : (p q : ℕ → Bool) → ((byte : ℕ) → p byte ≡ true → q byte ≡ true) → (bytes : List ℕ) → list_all p bytes ≡ true → list_all q bytes ≡ true
 all_weaker p q w [] h = refl
-all_weaker p q w (byte ∷ bytes) h = rw (w byte (and_left (p byte) (list_all p bytes) h)) (all_weaker p q w bytes (and_right (p byte) (list_all p bytes) h))
+all_weaker p q w (byte ∷ bytes) h = rw (w byte (first_so (p byte) (list_all p bytes) h)) (all_weaker p q w bytes (second_so (p byte) (list_all p bytes) h))
 
 runs : (p : ℕ → Bool) (bytes text : List ℕ) → list_all p bytes ≡ true → prefix_len p text ≡ 0 → prefix_len p (bytes ++ text) ≡ length bytes
 runs p [] text h d = d
 runs p (byte ∷ bytes) text h d =
-    let r = runs p bytes text (and_right (p byte) (list_all p bytes) h) d in
-    ap (λ (b : Bool). cond b (1 + prefix_len p (bytes ++ text)) 0) (and_left (p byte) (list_all p bytes) h) ∙ omega (arith, r)
+    let r = runs p bytes text (second_so (p byte) (list_all p bytes) h) d in
+    ap (λ (b : Bool). cond b (1 + prefix_len p (bytes ++ text)) 0) (first_so (p byte) (list_all p bytes) h) ∙ omega (arith, r)
 
 run_is : (p : ℕ → Bool) (bytes : List ℕ) → list_all p bytes ≡ true → prefix_len p bytes ≡ length bytes
 run_is p bytes h = ap (λ (xs : List ℕ). prefix_len p xs) (sym (append-nil bytes)) ∙ runs p bytes [] h refl
@@ -85,9 +77,6 @@ atom_before : (byte : ℕ) (bytes text : List ℕ) → is_atom_byte byte ≡ tru
 atom_before byte bytes text h a d =
     atom_first byte (bytes ++ text) h ∙ (ap (λ (n : ℕ). atom byte (take n (bytes ++ text))) (runs is_atom_byte bytes text a d) ∙ ap (λ (xs : List ℕ). atom byte xs) (take-append_seam bytes text))
 
-eq_same : (n m : ℕ) → n ≡ m → (n == m) ≡ true
-eq_same n m h = grind (arith, h)
-
 -- the bytes are this number
 pub record IsNumber (byte : ℕ) (bytes : List ℕ) (value : ℤ) : Type 0 where
   pub first : starts_number byte ≡ true
@@ -96,7 +85,7 @@ pub record IsNumber (byte : ℕ) (bytes : List ℕ) (value : ℤ) : Type 0 where
 
 symbol_before : (byte : ℕ) (bytes text : List ℕ) → starts_symbol byte ≡ true → list_all is_symbol_byte bytes ≡ true → Delimited text → first_piece byte (bytes ++ text) ≡ Symbol (length bytes)
 symbol_before byte bytes text f o d =
-    let s : (prefix_len is_symbol_byte bytes == length bytes) ≡ true = eq_same (prefix_len is_symbol_byte bytes) (length bytes) (run_is is_symbol_byte bytes o) in
+    let s : (prefix_len is_symbol_byte bytes == length bytes) ≡ true = eq-eqb (prefix_len is_symbol_byte bytes) (length bytes) (run_is is_symbol_byte bytes o) in
     atom_before byte bytes text (symbol_starts_atom byte f) (all_weaker is_symbol_byte is_atom_byte symbol_byte_in_atom bytes o) d
     ∙ (ap (λ (b : Bool). if b then number (length bytes) (number_of (byte ∷ bytes)) else if not (starts_symbol byte) then BadByte 0 else symbol bytes) (symbol_no_number byte f)
     ∙ (ap (λ (b : Bool). if not b then BadByte 0 else symbol bytes) f
@@ -121,7 +110,7 @@ value_from-append value digit (first ∷ digits) = value_from-append (value * 10
 
 are_digits-append : (digit : ℕ) (digits : List ℕ) → are_digits digits ≡ true → is_digit digit ≡ true → are_digits (digits ++ digit ∷ []) ≡ true
 are_digits-append digit [] h d = rw d refl
-are_digits-append digit (first ∷ digits) h d = rw (and_left (is_digit first) (are_digits digits) h) (are_digits-append digit digits (and_right (is_digit first) (are_digits digits) h) d)
+are_digits-append digit (first ∷ digits) h d = rw (first_so (is_digit first) (are_digits digits) h) (are_digits-append digit digits (second_so (is_digit first) (are_digits digits) h) d)
 
 some-append : (digit : ℕ) (digits : List ℕ) → is_empty (digits ++ digit ∷ []) ≡ false
 some-append digit [] = refl
@@ -143,11 +132,8 @@ more_digits n digits h d =
 decimal_is : (n : ℕ) → n < 2 ^ 64 → IsDecimal n (decimal n)
 decimal_is n h = decimal_by_steps (λ (m : ℕ) (ds : List ℕ). IsDecimal m ds) one_digit more_digits n h
 
-le_true : (n m : ℕ) → n ≤ m → nat_le n m ≡ true
-le_true n m h = grind (arith, h)
-
 magnitude_of : (n : ℕ) (digits : List ℕ) → IsDecimal n digits → n ≤ 2 ^ 63 → magnitude digits ≡ Some n
-magnitude_of n digits d h = rw (d.some, d.are, d.value_is, le_true n (2 ^ 63) h) refl
+magnitude_of n digits d h = rw (d.some, d.are, d.value_is, le-leb n (2 ^ 63) h) refl
 
 no_sign : (byte : ℕ) → is_digit byte ≡ true → (byte == hyphen) ≡ false
 no_sign byte h = grind (arith, nat_tests, h)
@@ -165,13 +151,13 @@ no_digits n d = true_no_false (sym d.some)
 positive_word : (n : ℕ) (digits : List ℕ) → IsDecimal n digits → n < 2 ^ 63 → IsWord digits (pos n)
 positive_word n [] d h = no_digits n d
 positive_word n (byte ∷ bytes) d h =
-    let b : is_digit byte ≡ true = and_left (is_digit byte) (are_digits bytes) d.are in
+    let b : is_digit byte ≡ true = first_so (is_digit byte) (are_digits bytes) d.are in
     record {
       first = digit_starts byte b;
-      others = and_right (is_digit byte) (are_digits bytes) d.are;
+      others = second_so (is_digit byte) (are_digits bytes) d.are;
       value_is =
           ap (λ (t : Bool). if t then negative (magnitude bytes) else positive (magnitude (byte ∷ bytes))) (no_sign byte b)
-          ∙ (ap positive (magnitude_of n (byte ∷ bytes) d (omega (arith, h))) ∙ ap (λ (t : Bool). if t then Some (pos n) else None) (lt_true n (2 ^ 63) h));
+          ∙ (ap positive (magnitude_of n (byte ∷ bytes) d (omega (arith, h))) ∙ ap (λ (t : Bool). if t then Some (pos n) else None) (lt-ltb n (2 ^ 63) h));
     }
 
 negative_word : (n : ℕ) (digits : List ℕ) → IsDecimal (suc n) digits → n < 2 ^ 63 → IsWord (hyphen ∷ digits) (negsuc n)
@@ -196,8 +182,8 @@ pub symbol_reads : (depth at end : ℕ) (word text rest : List ℕ) (parts : Sex
 symbol_reads depth at end [] text rest parts w d r = absurd (true_no_false w)
 symbol_reads depth at end (byte ∷ bytes) text rest parts w d r =
     let P : List ℕ → Type 0 = λ xs. Reads depth at (byte ∷ bytes ++ text) (part_and (trees.symbol at (byte ∷ xs)) parts) end rest in
-    let f = and_left (starts_symbol byte) (list_all is_symbol_byte bytes) w in
-    let o = and_right (starts_symbol byte) (list_all is_symbol_byte bytes) w in
+    let f = first_so (starts_symbol byte) (list_all is_symbol_byte bytes) w in
+    let o = second_so (starts_symbol byte) (list_all is_symbol_byte bytes) w in
     subst P (take-append_seam bytes text) (a_symbol (symbol_before byte bytes text f o d) (dropped depth at end bytes text rest parts r))
 
 pub number_reads : (depth at end : ℕ) (word text rest : List ℕ) (value : ℤ) (parts : Sexps) → IsWord word value → Delimited text → Reads depth (at + length word) text parts end rest

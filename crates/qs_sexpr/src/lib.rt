@@ -1,4 +1,5 @@
-//! The lists and atoms of proof files: their nodes, or the first fault of the text, both exactly.
+//! The lists and atoms of proof files: their nodes, or the first fault of the text, both exactly;
+//! and how they are laid out as a text.
 #![tactic(auto)]
 
 mod bytes;

@@ -1,4 +1,5 @@
-//! The trees of the language, and what tokens are read as which (C11 6.5 to 6.9).
+//! The trees of the language, what tokens are read as which (C11 6.5 to 6.9), and the numbers of
+//! their nodes.
 #![tactic(auto)]
 
 mod declarations;

@@ -1,4 +1,5 @@
 pub mod RelationLaws
 pub mod PlacesLaws
+pub mod StopLaws
 pub mod StepExamples
 mod UnitExamples

@@ -35,7 +35,7 @@ use Rattle.qs_tac.specs.Holders.{Holder, temporaries, File, with_place, placed_v
 use Rattle.qs_tac.specs.Places.{PlacesTree, slots_from, Accepted, place_of, place_in}
 use Rattle.qs_tac.specs.Values.{Activation, operand, operands, member_at, indexed, pointer, holds}
 use Rattle.qs_tac.specs.Steps.{Waiting, Next, gives, leaves_memory, take_result, resume, enters, ends, step, instruction_at, steps}
-use Rattle.qs_tac.specs.Units.{tac_run, plain, plain_of, placed_run}
+use Rattle.qs_tac.specs.Units.{tac_run, plain, plain_of, placed_run, stopped_steps, stopped_run}
 use Rattle.qs_tac.specs.Laws.{AreAccepted, PlacesKeepRuns}
 
 abbrev Equal : Relation
@@ -384,5 +384,28 @@ module _ (u : TacUnitTree) (ps : List PlacesTree) (accepted : AreAccepted u ps) 
   runs_same root arguments w (suc m) =
       enters_same (steps placed u m) (steps temporaries u m) (steps_same m) [] root arguments leaves leaves (λ result v. refl) w
 
+  -- ---- the same where they stop
+
+  stopped_steps_same : (result : Option Value) (m : ℕ) → NextsSame (stopped_steps placed u result m) (stopped_steps temporaries u result m)
+  stopped_steps_same result zero b w cs = refl
+  stopped_steps_same result (suc m) b w cs =
+      step_same (stopped_steps placed u result m) (stopped_steps temporaries u result m) (stopped_steps_same result m)
+      (instruction_at u (in_temporaries b)) b w cs
+
+  stopped_runs_same :
+      (result : Option Value) (root : ℕ) (arguments : List Value) (w : World) (m : ℕ)
+      → stopped_run placed u result root arguments w m ≡ stopped_run temporaries u result root arguments w m
+  stopped_runs_same result root arguments w zero = refl
+  stopped_runs_same result root arguments w (suc m) =
+      enters_same (stopped_steps placed u result m) (stopped_steps temporaries u result m) (stopped_steps_same result m)
+      [] root arguments leaves leaves (λ result v. refl) w
+
 pub places_keep_runs : PlacesKeepRuns
 places_keep_runs u ps accepted root arguments w m = runs_same u ps accepted root arguments w m
+
+pub places_keep_stopped_runs :
+    (u : TacUnitTree) (ps : List PlacesTree) → AreAccepted u ps
+    → (result : Option Value) (root : ℕ) (arguments : List Value) (w : World) (m : ℕ)
+    → stopped_run (places (λ f. plain_of (slice_get u.functions f)) (place_in ps)) u result root arguments w m
+    ≡ stopped_run temporaries u result root arguments w m
+places_keep_stopped_runs u ps accepted result root arguments w m = stopped_runs_same u ps accepted result root arguments w m

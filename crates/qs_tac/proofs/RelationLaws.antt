@@ -3,9 +3,9 @@
 use Rattle.std.proofs.Common.{◌≡◌, ℕ, zero, suc, ◌≤◌, List, [], ◌∷◌, Option, Some, None, refl, subst, arith}
 use Rattle.std.specs.List.{slice_get}
 use Rattle.std.specs.Option.{option_map}
+use Rattle.std.proofs.lemmas.Option.{same_Some}
 use Rattle.qs_memory.specs.Values.{Value}
 use Rattle.qs_memory.specs.Memory.{Memory, release}
-use Rattle.qs_memory.proofs.Options.{some_same}
 use Rattle.qs_events.specs.Events.{Returns}
 use Rattle.qs_events.specs.Runs.{given, Within}
 use Rattle.qs_calls.specs.World.{World, with_memory, RootRun, leaves}
@@ -32,7 +32,7 @@ framed_related R keeps None None e f g h = keeps.undefined
 framed_related R keeps None (Some p) e f g h = absurd (cc)
 framed_related R keeps (Some o) None e f g h = absurd (cc)
 framed_related R keeps (Some o) (Some p) e f g h =
-    subst (λ (frame : Frame). R (f (frame_of o)) (g frame)) (some_same (frame_of o) (frame_of p) e) (h (frame_of o))
+    subst (λ (frame : Frame). R (f (frame_of o)) (g frame)) (same_Some (frame_of o) (frame_of p) e) (h (frame_of o))
 
 module _ (R : Relation) (keeps : Keeps R) (same : (result : Option Value) (w : World) → R (leaves result w) (leaves result w)) {S : Type 0} (h : Holder S) (u v : TacUnitTree) (frames : FramesSame u v) where
   abbrev pub NextsRelated : Next S → Next S → Type 0

@@ -1,6 +1,6 @@
 -- What answers say: those without a fault, steps that may fail, and answers that are another one.
 use Rattle.std.proofs.Common.{◌≡◌, ℕ, List, [], ◌∷◌, Bool, true, false, Option, Some, None, refl, sym, ap, subst, ◌∙◌}
-use Rattle.std.specs.Prelude.{cond, not, ◌||◌, is_none, Result, Ok, Err}
+use Rattle.std.specs.Prelude.{cond, ◌||◌, is_none, Result, Ok, Err}
 use Rattle.std.specs.List.{find, list_any}
 use Rattle.std.specs.Option.{option_or}
 use Rattle.qs_base.specs.Results.{bind, require, fault_or}
@@ -17,6 +17,7 @@ use Rattle.qs_triples.specs.declared.failure.Failure.TheVariants as failures
 use Rattle.qs_triples.specs.Derivations.{SpecTree}
 use Rattle.qs_triples.specs.Rules.{DerivFault, Answer, part, unless, unless_of, by_verdict, of_sequence, of_branch, of_loop, CallSite, of_call, Known, of_spec}
 use Rattle.qs_triples.specs.Told.{FailsAs, Follows}
+pub use Rattle.std.proofs.lemmas.Bool.{not-false as not_false}
 
 -- an answer that is this assertion
 abbrev pub Gives : Answer → AssertionTree → Type 0
@@ -116,10 +117,6 @@ none_found p (y ∷ xs) x h k = by (p y) refl (same_variable y x) refl h k (none
     by true pb c ce h k others = cc
     by false pb true ce h k others = ap p (sym (variable_equal y x ce)) ∙ pb
     by false pb false ce h k others = others h k
-
-pub not_false : (b : Bool) → not b ≡ false → b ≡ true
-not_false true h = refl
-not_false false h = cc
 
 pub some_there : {A : Type 0} → (o : Option A) → is_none o ≡ false → (a : A) × (o ≡ Some a)
 some_there (Some a) h = (a, refl)

@@ -3,11 +3,13 @@ use Rattle.std.proofs.Common.{◌≡◌, ℕ, zero, suc, ◌+◌, ◌<◌, ◌==
 use Rattle.std.specs.Prelude.{bytes_eq}
 use Rattle.std.specs.List.{slice_get}
 use Rattle.std.proofs.lemmas.Bool.Decides.{nat_tests}
+use Rattle.std.proofs.lemmas.Bool.{and_parts}
+use Rattle.std.proofs.lemmas.Option.{same_Some}
 use Rattle.qs_memory.specs.Partial.{◌>>=◌, only_if}
 use Rattle.qs_memory.specs.Values.{Value}
 use Rattle.qs_memory.specs.Memory.{Memory}
 use Rattle.qs_memory.specs.declared.scalar.Scalar.{Scalar}
-use Rattle.qs_memory.proofs.Options.{some_same, followed}
+use Rattle.qs_memory.proofs.Options.{followed}
 use Rattle.qs_calls.specs.World.{Environment, no_values, with_value}
 use Rattle.qs_calls.specs.declared.parameter.Parameter.{Parameter}
 use Rattle.qs_calls.specs.declared.parameter.Parameter.TheVariants.{Plain, Placed}
@@ -23,7 +25,6 @@ use Rattle.qs_core.specs.Expressions as expressions
 use Rattle.qs_core.specs.Expressions.{Locals, value, values, type_of}
 use Rattle.qs_core.specs.Interfaces.{variable_type, types_of, parameter_types}
 use Rattle.qs_core.specs.Fits.{expr_fits, exprs_fit, place_fits, parameter_fits, parameters_fit}
-use Rattle.qs_core.proofs.FitLaws.{both}
 use Rattle.qs_triples.specs.Valuations.{number_type, if_number, own_type, is_number_type, is_own, Valuation, value_of, number_at, passed, entered}
 use Rattle.qs_triples.specs.Mentions.{is_plain, is_plain_parameter, has_plain_parameter, argument_term}
 use Rattle.qs_triples.proofs.ValuationLaws.{own_number}
@@ -39,8 +40,8 @@ passed_before blocks n [] xs vs e i fit before = refl
 passed_before blocks n (p ∷ ps) [] vs e i fit before = cc
 passed_before blocks n (p ∷ ps) (x ∷ xs) [] e i fit before = refl
 passed_before blocks n (p ∷ ps) (x ∷ xs) (v ∷ vs) e i fit before =
-    let two = both (parameter_fits blocks n p x) (parameters_fit blocks (n + 1) ps xs) fit in
-    let place = (both (bytes_eq p.name x.name && x.ordinal == 1) (place_fits blocks n x.scalar p.place) two.0).1 in
+    let two = and_parts (parameter_fits blocks n p x) (parameters_fit blocks (n + 1) ps xs) fit in
+    let place = (and_parts (bytes_eq p.name x.name && x.ordinal == 1) (place_fits blocks n x.scalar p.place) two.0).1 in
     by p.place place (λ d. passed_before blocks (n + 1) ps xs vs d i two.1 (omega arith))
   where
     unlike : (k : ℕ) → (k == n) ≡ true → (i == k) ≡ false
@@ -61,8 +62,8 @@ passed_at blocks n [] xs vs e i v fit plain is = cc
 passed_at blocks n (p ∷ ps) [] vs e i v fit plain is = cc
 passed_at blocks n (p ∷ ps) (x ∷ xs) [] e i v fit plain is = cc
 passed_at blocks n (p ∷ ps) (x ∷ xs) (w ∷ vs) e zero v fit plain is =
-    let two = both (parameter_fits blocks n p x) (parameters_fit blocks (n + 1) ps xs) fit in
-    let place = (both (bytes_eq p.name x.name && x.ordinal == 1) (place_fits blocks n x.scalar p.place) two.0).1 in
+    let two = and_parts (parameter_fits blocks n p x) (parameters_fit blocks (n + 1) ps xs) fit in
+    let place = (and_parts (bytes_eq p.name x.name && x.ordinal == 1) (place_fits blocks n x.scalar p.place) two.0).1 in
     by p.place place plain two.1
   where
     by : (place : Parameter) → place_fits blocks n x.scalar place ≡ true → is_plain place ≡ true → parameters_fit blocks (n + 1) ps xs ≡ true → passed (place ∷ map (λ p. p.place) ps) (w ∷ vs) e (n + 0) ≡ Some v
@@ -72,7 +73,7 @@ passed_at blocks n (p ∷ ps) (x ∷ xs) (w ∷ vs) e zero v fit plain is =
         ∙ ap (λ b. if b then Some w else e (n + 0)) here ∙ is
     by (Placed b t) h plain others = cc
 passed_at blocks n (p ∷ ps) (x ∷ xs) (w ∷ vs) e (suc i) v fit plain is =
-    let two = both (parameter_fits blocks n p x) (parameters_fit blocks (n + 1) ps xs) fit in
+    let two = and_parts (parameter_fits blocks n p x) (parameters_fit blocks (n + 1) ps xs) fit in
     let same : n + suc i ≡ n + 1 + i = omega arith in
     by p.place (λ d. ap (λ (j : ℕ). passed (map (λ p. p.place) ps) vs d j) same ∙ passed_at blocks (n + 1) ps xs vs d i v two.1 plain is)
   where
@@ -98,8 +99,8 @@ parameter_type ps xs [] i e same is = cc
 parameter_type [] xs (a ∷ es) i e same is = cc
 parameter_type (p ∷ ps) [] (a ∷ es) i e same is = cc
 parameter_type (p ∷ ps) (x ∷ xs) (a ∷ es) zero e same is =
-    let t = some_same (type_of a) x.scalar (ap (λ (l : List Scalar). slice_get l 0) same) in
-    ap Some (sym t ∙ ap type_of (some_same a e is))
+    let t = same_Some (type_of a) x.scalar (ap (λ (l : List Scalar). slice_get l 0) same) in
+    ap Some (sym t ∙ ap type_of (same_Some a e is))
 parameter_type (p ∷ ps) (x ∷ xs) (a ∷ es) (suc i) e same is = parameter_type ps xs es i e (ap others same) is
   where
     others : List Scalar → List Scalar
@@ -120,19 +121,19 @@ argument_at (a ∷ es) vs l m zero e h is =
     let c = followed (values es l m) _ vs b.then in
     record {
       value = b.value;
-      is = ap (λ (vs : List Value). slice_get vs 0) (sym (some_same _ vs c.then));
-      from = ap (λ (e : CoreExprTree). value e l m) (sym (some_same a e is)) ∙ b.first;
+      is = ap (λ (vs : List Value). slice_get vs 0) (sym (same_Some _ vs c.then));
+      from = ap (λ (e : CoreExprTree). value e l m) (sym (same_Some a e is)) ∙ b.first;
     }
 argument_at (a ∷ es) vs l m (suc i) e h is =
     let b = followed (value a l m) _ vs h in
     let c = followed (values es l m) _ vs b.then in
     let d = argument_at es c.value l m i e c.first is in
-    record { value = d.value; is = ap (λ (vs : List Value). slice_get vs (suc i)) (sym (some_same _ vs c.then)) ∙ d.is; from = d.from }
+    record { value = d.value; is = ap (λ (vs : List Value). slice_get vs (suc i)) (sym (same_Some _ vs c.then)) ∙ d.is; from = d.from }
 
 pub argument_fits : (u : CoreUnitTree) (f : CoreFunctionTree) (es : List CoreExprTree) (i : ℕ) (e : CoreExprTree) → exprs_fit u f es ≡ true → slice_get es i ≡ Some e → expr_fits u f e ≡ true
 argument_fits u f [] i e fit is = cc
-argument_fits u f (a ∷ es) zero e fit is = ap (expr_fits u f) (sym (some_same a e is)) ∙ (both (expr_fits u f a) (exprs_fit u f es) fit).0
-argument_fits u f (a ∷ es) (suc i) e fit is = argument_fits u f es i e (both (expr_fits u f a) (exprs_fit u f es) fit).1 is
+argument_fits u f (a ∷ es) zero e fit is = ap (expr_fits u f) (sym (same_Some a e is)) ∙ (and_parts (expr_fits u f a) (exprs_fit u f es) fit).0
+argument_fits u f (a ∷ es) (suc i) e fit is = argument_fits u f es i e (and_parts (expr_fits u f a) (exprs_fit u f es) fit).1 is
 
 -- ---- the number of a parameter
 

@@ -2,7 +2,8 @@
 use Rattle.std.proofs.Common.{◌≡◌, ℕ, zero, suc, true, false, if◌then◌else◌, List, [], ◌∷◌, map, Option, Some, None, ◌⊎◌, inl, inr, ⊎_elim, refl, sym, ap, ◌∙◌}
 use Rattle.std.specs.Prelude.{is_none, ℤ}
 use Rattle.std.specs.List.{slice_get}
-use Rattle.std.proofs.lemmas.Bool.{or_parts}
+use Rattle.std.proofs.lemmas.Bool.{or_parts, and_parts}
+use Rattle.std.proofs.lemmas.Option.{same_Some}
 use Rattle.qs_memory.specs.Partial.{◌>>=◌}
 use Rattle.qs_memory.specs.Values.{Value, integer}
 use Rattle.qs_memory.specs.Memory.{Memory}
@@ -17,7 +18,7 @@ use Rattle.qs_memory.specs.declared.operation.UnaryOperation.{UnaryOperation}
 use Rattle.qs_memory.specs.declared.operation.UnaryOperation.TheVariants as unaries
 use Rattle.qs_memory.specs.declared.operation.BinaryOperation.{BinaryOperation}
 use Rattle.qs_memory.specs.declared.operation.BinaryOperation.TheVariants as binaries
-use Rattle.qs_memory.proofs.Options.{some_same, followed, only_if_some}
+use Rattle.qs_memory.proofs.Options.{followed, only_if_some}
 use Rattle.qs_events.specs.Weights.{Costs}
 use Rattle.qs_assert.specs.declared.define.Define.{Define}
 use Rattle.qs_assert.specs.declared.variable.VarKind.{VarKind}
@@ -40,7 +41,6 @@ use Rattle.qs_core.specs.TermTrees.{CoreTermTree}
 use Rattle.qs_core.specs.Terms.{literal_of, arithmetic_term, wrapped_both, divisor, power, term_of}
 use Rattle.qs_core.specs.declared.term.TermOperation.{TermOperation}
 use Rattle.qs_core.specs.declared.term.TermOperation.TheVariants.{Add, Subtract, Multiply}
-use Rattle.qs_core.proofs.FitLaws.{both}
 use Rattle.qs_triples.specs.Derivations.{SpecTree}
 use Rattle.qs_triples.specs.Valuations.{is_own, number_at, entered, at_entry, at_exit}
 use Rattle.qs_triples.specs.Mentions.{in_pre, in_post, may_mention, destination_term, pre_term, post_term, pre_images, post_images, as_old}
@@ -58,7 +58,7 @@ module _ (cost : Costs) (ds : List Define) (g : CoreFunctionTree) (fits : parame
   pre_means : Means (pre_images g es) here (number_at g (at_entry g vs))
   pre_means x t is =
       let a = only_if_some (may_mention g (in_pre g) x) (pre_term es x x.kind) t is in
-      let may = both (in_pre g x.kind) (is_own g x) a.0 in
+      let may = and_parts (in_pre g x.kind) (is_own g x) a.0 in
       by x.kind refl may.0 may.1 a.1
     where
       by : (k : VarKind) → x.kind ≡ k → in_pre g k ≡ true → is_own g x ≡ true → pre_term es x k ≡ Some t → term_value t here ≡ number_at g (at_entry g vs) x
@@ -80,7 +80,7 @@ module _ (cost : Costs) (ds : List Define) (g : CoreFunctionTree) (fits : parame
   post_means : (destination : Option ℕ) (result : Option Value) → ResultsAre destination result → Means (post_images g destination es) here (number_at g (at_exit (entered g vs) result))
   post_means destination result results x t is =
       let a = only_if_some (may_mention g (in_post g) x) (post_term destination es x x.kind) t is in
-      let may = both (in_post g x.kind) (is_own g x) a.0 in
+      let may = and_parts (in_post g x.kind) (is_own g x) a.0 in
       by x.kind refl may.0 may.1 a.1
     where
       by : (k : VarKind) → x.kind ≡ k → in_post g k ≡ true → is_own g x ≡ true → post_term destination es x k ≡ Some t → term_value t here ≡ number_at g (at_exit (entered g vs) result) x
@@ -109,7 +109,7 @@ balanced_at_call cost ds g es vs spec even none result =
     ∙ of_its_variables spec.pre exit (λ x. term_value (as_old x) exit) (number_at g (at_entry g vs)) (λ x mention.
     let t = some_there (pre_images g es x) (none_found (λ x. is_none (pre_images g es x)) (variables spec.pre) x none mention) in
     let a = only_if_some (may_mention g (in_pre g) x) (pre_term es x x.kind) t.0 t.1 in
-    let may = both (in_pre g x.kind) (is_own g x) a.0 in
+    let may = and_parts (in_pre g x.kind) (is_own g x) a.0 in
     by x x.kind refl may.0)
   where
     by : (x : Var) (k : VarKind) → x.kind ≡ k → in_pre g k ≡ true → term_value (as_old x) (seen cost ds (number_at g (at_exit (entered g vs) result))) ≡ number_at g (at_entry g vs) x
@@ -140,7 +140,7 @@ apart_of_conversion (Some k) s a h = h
 
 pub apart_at : (x : Option ℕ) (k : ℕ) (es : List CoreExprTree) (i : ℕ) (e : CoreExprTree) → any_mentions k es ≡ false → slice_get es i ≡ Some e → mentions k e ≡ false
 apart_at x k [] i e h is = cc
-apart_at x k (a ∷ es) zero e h is = ap (mentions k) (sym (some_same a e is)) ∙ (or_parts (mentions k a) (any_mentions k es) h).0
+apart_at x k (a ∷ es) zero e h is = ap (mentions k) (sym (same_Some a e is)) ∙ (or_parts (mentions k a) (any_mentions k es) h).0
 apart_at x k (a ∷ es) (suc i) e h is = apart_at x k es i e (or_parts (mentions k a) (any_mentions k es) h).1 is
 
 landed_variable : (x : Option ℕ) (l : Locals) (v : Value) (y : ℕ) → (landed x l v).variables y ≡ l.variables y

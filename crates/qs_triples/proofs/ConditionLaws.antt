@@ -5,6 +5,8 @@ use Rattle.std.specs.Prelude.{not as flip}
 use Rattle.std.specs.Ordering.{int_eq}
 use Rattle.std.proofs.lemmas.Int.{ints}
 use Rattle.std.proofs.lemmas.Bool.Decides.{nat_tests}
+use Rattle.std.proofs.lemmas.Option.{same_Some}
+use Rattle.std.proofs.Math.Bool.{and-true, or-false}
 use Rattle.qs_base.specs.Words.{signed}
 use Rattle.qs_memory.specs.Partial.{◌>>=◌}
 use Rattle.qs_memory.specs.Values.{Value, integer, has_type}
@@ -23,7 +25,7 @@ use Rattle.qs_memory.specs.declared.operation.Comparison.{Comparison}
 use Rattle.qs_memory.specs.declared.operation.Comparison.TheVariants as comparisons
 use Rattle.qs_memory.specs.declared.operation.UnaryOperation.TheVariants as unaries
 use Rattle.qs_memory.specs.declared.operation.BinaryOperation.TheVariants as binaries
-use Rattle.qs_memory.proofs.Options.{some_same, followed}
+use Rattle.qs_memory.proofs.Options.{followed}
 use Rattle.qs_calls.specs.World.{World, Environment}
 use Rattle.qs_assert.specs.Trees.{TermTree, CondTree}
 use Rattle.qs_assert.specs.Values.{State, Extended, term_value, holds}
@@ -84,15 +86,15 @@ at_most_turned a b = grind (arith, ints)
 -- ---- truth
 
 truth_of : (m : Memory) (b d : Bool) → truth m (of_truth b) ≡ Some d → b ≡ d
-truth_of m true d h = some_same true d h
-truth_of m false d h = some_same false d h
+truth_of m true d h = same_Some true d h
+truth_of m false d h = same_Some false d h
 
 module _ (st : State) (m : Memory) where
   nonzero_holds : (s : Scalar) (v : Value) (t : TermTree) (d : Bool) → has_type s v ≡ true → Stands s v (term_value t st) → truth m v ≡ Some d → holds (CondTree.ne t (TermTree.number (pos 0))) st ≡ d
   nonzero_holds s v t d typed h j =
       let b = bits_of s v h.integer typed in
       let reads : term_value t st ≡ numbered s b.bits = h.number ∙ ap (λ (v : Value). number_of v (number_type s)) b.is in
-      let told : flip (b.bits == 0) ≡ d = some_same (flip (b.bits == 0)) d (ap (truth m) (sym b.is) ∙ j) in
+      let told : flip (b.bits == 0) ≡ d = same_Some (flip (b.bits == 0)) d (ap (truth m) (sym b.is) ∙ j) in
       ap flip (ap (λ z. int_eq z (pos 0)) reads ∙ ap (int_eq (numbered s b.bits)) (sym (zero_numbered s h.integer)) ∙ equal_numbered s b.bits 0 h.integer b.small (some_size s h.integer)) ∙ told
 
   compared_holds :
@@ -133,7 +135,7 @@ module _ (u : CoreUnitTree) (f : CoreFunctionTree) (l : Locals) (w : World) (ran
   number_case : (e : CoreExprTree) (k : CoreConditionTree) (v : Value) (d : Bool) → expr_fits u f e ≡ true → nonzero (term_of e) ≡ Some k → value e l w.memory ≡ Some v → truth w.memory v ≡ Some d → Holds k d
   number_case e k v d fits h j t =
       let a = followed (term_of e) _ k h in
-      at_condition _ k d (some_same _ k a.then)
+      at_condition _ k d (same_Some _ k a.then)
       (nonzero_holds here w.memory (type_of e) v (term_tree a.value) d (has_its_type e v fits j) (term_stands e a.value v fits a.first j) t)
 
   compare_case :
@@ -157,8 +159,8 @@ module _ (u : CoreUnitTree) (f : CoreFunctionTree) (l : Locals) (w : World) (ran
       let reads_a = (term_stands a c.value p.value fit.0 c.first p.first).number ∙ ap (λ (v : Value). number_of v (number_type (type_of a))) pb.is ∙ ap (λ (t : Scalar). numbered t pb.bits) ta in
       let reads_b = (term_stands b e.value q.value fit.1 e.first q.first).number ∙ ap (λ (v : Value). number_of v (number_type (type_of b))) qb.is ∙ ap (λ (t : Scalar). numbered t qb.bits) tb in
       let told : of_truth (compares op s pb.bits qb.bits) ≡ v =
-      some_same _ v (ap (λ (p : Value). apply_binary (binaries.Compare op s) w.memory p (integer qb.bits)) (sym pb.is) ∙ ap (λ (q : Value). apply_binary (binaries.Compare op s) w.memory p.value q) (sym qb.is) ∙ q.then) in
-      at_condition (comparison op c.value e.value) k d (some_same _ k e.then)
+      same_Some _ v (ap (λ (p : Value). apply_binary (binaries.Compare op s) w.memory p (integer qb.bits)) (sym pb.is) ∙ ap (λ (q : Value). apply_binary (binaries.Compare op s) w.memory p.value q) (sym qb.is) ∙ q.then) in
+      at_condition (comparison op c.value e.value) k d (same_Some _ k e.then)
       (compared_holds here w.memory op s c.value e.value pb.bits qb.bits xs ys reads_a reads_b ∙ truth_of w.memory (compares op s pb.bits qb.bits) d (ap (truth w.memory) told ∙ t))
 
   -- what the second operand of `&&` or `||` tells
@@ -166,15 +168,7 @@ module _ (u : CoreUnitTree) (f : CoreFunctionTree) (l : Locals) (w : World) (ran
   second_told o v d h t =
       let a = followed o _ v h in
       let b = followed (truth w.memory a.value) _ v a.then in
-      (a.value, a.first, b.first ∙ ap Some (truth_of w.memory b.value d (ap (truth w.memory) (some_same _ v b.then) ∙ t)))
-
-  and_true : (b : Bool) → (b && true) ≡ b
-  and_true true = refl
-  and_true false = refl
-
-  or_false : (b : Bool) → (b || false) ≡ b
-  or_false true = refl
-  or_false false = refl
+      (a.value, a.first, b.first ∙ ap Some (truth_of w.memory b.value d (ap (truth w.memory) (same_Some _ v b.then) ∙ t)))
 
   and_case :
       (c k : CoreConditionTree) (first : Bool) (o : Option Value) (v : Value) (d : Bool)
@@ -183,9 +177,9 @@ module _ (u : CoreUnitTree) (f : CoreFunctionTree) (l : Locals) (w : World) (ran
       → ((x : Value) → o ≡ Some x → truth w.memory x ≡ Some d → Holds k d) → Holds (and c k) d
   and_case c k true o v d is h t second =
       let a = second_told o v d h t in
-      ap (λ b. b && (holds (condition_tree k) here && true)) is ∙ and_true (holds (condition_tree k) here) ∙ second a.0 a.1 a.2
+      ap (λ b. b && (holds (condition_tree k) here && true)) is ∙ and-true (holds (condition_tree k) here) ∙ second a.0 a.1 a.2
   and_case c k false o v d is h t second =
-      ap (λ b. b && (holds (condition_tree k) here && true)) is ∙ truth_of w.memory false d (ap (truth w.memory) (some_same (of_truth false) v h) ∙ t)
+      ap (λ b. b && (holds (condition_tree k) here && true)) is ∙ truth_of w.memory false d (ap (truth w.memory) (same_Some (of_truth false) v h) ∙ t)
 
   or_case :
       (c k : CoreConditionTree) (first : Bool) (o : Option Value) (v : Value) (d : Bool)
@@ -194,9 +188,9 @@ module _ (u : CoreUnitTree) (f : CoreFunctionTree) (l : Locals) (w : World) (ran
       → ((x : Value) → o ≡ Some x → truth w.memory x ≡ Some d → Holds k d) → Holds (or c k) d
   or_case c k false o v d is h t second =
       let a = second_told o v d h t in
-      ap (λ b. b || (holds (condition_tree k) here || false)) is ∙ or_false (holds (condition_tree k) here) ∙ second a.0 a.1 a.2
+      ap (λ b. b || (holds (condition_tree k) here || false)) is ∙ or-false (holds (condition_tree k) here) ∙ second a.0 a.1 a.2
   or_case c k true o v d is h t second =
-      ap (λ b. b || (holds (condition_tree k) here || false)) is ∙ truth_of w.memory true d (ap (truth w.memory) (some_same (of_truth true) v h) ∙ t)
+      ap (λ b. b || (holds (condition_tree k) here || false)) is ∙ truth_of w.memory true d (ap (truth w.memory) (same_Some (of_truth true) v h) ∙ t)
 
   pub condition_holds : (e : CoreExprTree) (k : CoreConditionTree) (v : Value) (d : Bool) → expr_fits u f e ≡ true → condition_of e ≡ Some k → value e l w.memory ≡ Some v → truth w.memory v ≡ Some d → Holds k d
   condition_holds (literal s n) k v d fits h j t = number_case (literal s n) k v d fits h j t
@@ -214,8 +208,8 @@ module _ (u : CoreUnitTree) (f : CoreFunctionTree) (l : Locals) (w : World) (ran
       let c = followed (condition_of a) _ k h in
       let p = followed (value a l w.memory) _ v j in
       let b = followed (truth w.memory p.value) _ v p.then in
-      at_condition _ k d (some_same _ k c.then)
-      (ap flip (condition_holds a c.value p.value b.value fit.0 c.first p.first b.first) ∙ truth_of w.memory (flip b.value) d (ap (truth w.memory) (some_same _ v b.then) ∙ t))
+      at_condition _ k d (same_Some _ k c.then)
+      (ap flip (condition_holds a c.value p.value b.value fit.0 c.first p.first b.first) ∙ truth_of w.memory (flip b.value) d (ap (truth w.memory) (same_Some _ v b.then) ∙ t))
   condition_holds (unary unaries.Truth a) k v d fits h j t = cc
   condition_holds (binary (binaries.Arithmetic op s) a b) k v d fits h j t = number_case (binary (binaries.Arithmetic op s) a b) k v d fits h j t
   condition_holds (binary (binaries.Compare op s) a b) k v d fits h j t = compare_case op s a b k v d fits h j t
@@ -229,7 +223,7 @@ module _ (u : CoreUnitTree) (f : CoreFunctionTree) (l : Locals) (w : World) (ran
       let e = followed (condition_of b) _ k c.then in
       let p = followed (value a l w.memory) _ v j in
       let q = followed (truth w.memory p.value) _ v p.then in
-      at_condition _ k d (some_same _ k e.then)
+      at_condition _ k d (same_Some _ k e.then)
       (and_case c.value e.value q.value (value b l w.memory) v d (condition_holds a c.value p.value q.value fit.0 c.first p.first q.first) q.then t
       (λ x is told. condition_holds b e.value x d fit.1 e.first is told))
   condition_holds (logical_or a b) k v d fits h j t =
@@ -238,7 +232,7 @@ module _ (u : CoreUnitTree) (f : CoreFunctionTree) (l : Locals) (w : World) (ran
       let e = followed (condition_of b) _ k c.then in
       let p = followed (value a l w.memory) _ v j in
       let q = followed (truth w.memory p.value) _ v p.then in
-      at_condition _ k d (some_same _ k e.then)
+      at_condition _ k d (same_Some _ k e.then)
       (or_case c.value e.value q.value (value b l w.memory) v d (condition_holds a c.value p.value q.value fit.0 c.first p.first q.first) q.then t
       (λ x is told. condition_holds b e.value x d fit.1 e.first is told))
   condition_holds (conditional e a b) k v d fits h j t = cc
@@ -249,4 +243,4 @@ module _ (u : CoreUnitTree) (f : CoreFunctionTree) (l : Locals) (w : World) (ran
     where
       by : (o : Option CoreConditionTree) → condition_of e ≡ o → option_map condition_tree o ≡ Some c → holds c here ≡ d
       by None is h = cc
-      by (Some k) is h = subst (λ (c : CondTree). holds c here ≡ d) (some_same (condition_tree k) c h) (condition_holds e k v d fits is j t)
+      by (Some k) is h = subst (λ (c : CondTree). holds c here ≡ d) (same_Some (condition_tree k) c h) (condition_holds e k v d fits is j t)

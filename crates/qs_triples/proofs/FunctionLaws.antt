@@ -2,13 +2,12 @@
 use Rattle.std.proofs.Common.{◌≡◌, ℕ, suc, ◌+◌, ◌==◌, Bool, true, false, List, [], ◌∷◌, length, Option, Some, None, option_map, refl, sym, ap, ◌∙◌, subst, arith}
 use Rattle.std.specs.Prelude.{cond}
 use Rattle.std.specs.List.{slice_get, find}
-use Rattle.std.proofs.lemmas.Option.{slice_get-map}
+use Rattle.std.proofs.lemmas.Option.{slice_get-map, same_Some}
 use Rattle.std.proofs.lemmas.Bool.{eqb-true}
 use Rattle.qs_memory.specs.Values.{Value}
 use Rattle.qs_memory.specs.Memory.{Memory, make, release}
 use Rattle.qs_memory.proofs.BlockLaws.{after_make, blocks_are_fresh}
 use Rattle.qs_memory.proofs.SoundLaws.{soundness_is_kept}
-use Rattle.qs_memory.proofs.Options.{some_same}
 use Rattle.qs_events.specs.Events.{Returns}
 use Rattle.qs_events.specs.Runs.{emit, given}
 use Rattle.qs_events.specs.Weights.{Costs, run_weight}
@@ -54,7 +53,7 @@ found_entry [] g e h = cc
 found_entry (d ∷ es) g e h = by (d.function == g) refl h (found_entry es g e)
   where
     by : (b : Bool) → (d.function == g) ≡ b → cond b (Some d) (find (is_entry_of g) es) ≡ Some e → (find (is_entry_of g) es ≡ Some e → e.function ≡ g) → e.function ≡ g
-    by true same h others = sym (ap (λ (e : EntryTree). e.function) (some_same d e h)) ∙ eqb-true d.function g same
+    by true same h others = sym (ap (λ (e : EntryTree). e.function) (same_Some d e h)) ∙ eqb-true d.function g same
     by false same h others = others h
 
 pub entry_is_of : (proofs : ProofsTree) (g : ℕ) (e : EntryTree) → entry_of proofs g ≡ Some e → e.function ≡ g

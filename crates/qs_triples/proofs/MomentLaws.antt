@@ -3,6 +3,7 @@ use Rattle.std.proofs.Common.{◌≡◌, ℕ, suc, ◌+◌, ◌≤◌, ◌==◌,
 use Rattle.std.specs.Prelude.{bytes_eq}
 use Rattle.std.specs.List.{slice_get}
 use Rattle.std.proofs.lemmas.Bool.Decides.{nat_tests}
+use Rattle.std.proofs.lemmas.Bool.{and_parts}
 use Rattle.qs_memory.specs.Values.{into, Value, integer}
 use Rattle.qs_memory.specs.Memory.{Memory, release}
 use Rattle.qs_memory.specs.Memory as memory
@@ -27,7 +28,6 @@ use Rattle.qs_core.specs.Statements.{Continuation, assigned, take_result}
 use Rattle.qs_core.specs.Interfaces.{variable_type, temporary_type, types_of, parameter_types, interface_of}
 use Rattle.qs_core.specs.Fits.{any_mentions, taken_fits, destination_fits, place_fits, parameter_fits, parameters_fit}
 use Rattle.qs_core.specs.Ranges.{VariablesAreOf, IsMoment}
-use Rattle.qs_core.proofs.FitLaws.{both}
 use Rattle.qs_core.proofs.RangeLaws.{variables_later, no_values_are_of, with_value_are_of, of_type, moment_later, moment_assigned}
 use Rattle.qs_triples.specs.Valuations.{passed}
 use Rattle.qs_triples.proofs.Bounds.{IsBelow, given_below}
@@ -93,8 +93,8 @@ module _ (cost : Costs) (a : Extended) (more : ℕ) (u : CoreUnitTree) (f : Core
   pass_below i (p ∷ ps) [] vs e w k from fit are is h = cc
   pass_below i (p ∷ ps) (x ∷ xs) [] e w k from fit are is h = absurd are
   pass_below i (p ∷ ps) (x ∷ xs) (v ∷ vs) e w k from fit are is h =
-      let two = both (parameter_fits f.blocks i p x) (parameters_fit f.blocks (i + 1) ps xs) fit in
-      let place = both (bytes_eq p.name x.name && x.ordinal == 1) (place_fits f.blocks i x.scalar p.place) two.0 in
+      let two = and_parts (parameter_fits f.blocks i p x) (parameters_fit f.blocks (i + 1) ps xs) fit in
+      let place = and_parts (bytes_eq p.name x.name && x.ordinal == 1) (place_fits f.blocks i x.scalar p.place) two.0 in
       one_passed i x.scalar p.place (map (λ p. p.place) ps) v vs e w k place.1 (type_from i x xs from) are.0 is
       (λ d y on passing same.
       pass_below (i + 1) ps xs vs d y k (next_from i x xs from) two.1 (are_of_later w.memory y.memory (types_of ps xs) vs on are.1) passing
@@ -159,7 +159,7 @@ module _ (cost : Costs) (a : Extended) (more : ℕ) (u : CoreUnitTree) (f : Core
       → IsBelow (run_weight cost (take_result x next l result z)) a more
   result_below result_type None es fit next l w is result z r h = h (integer 0) tt (moment_later u f start l w z is r.after r.ready)
   result_below result_type (Some k) es fit next l w is result z r h =
-      let first = both (taken_fits f result_type k) (not (any_mentions k es)) fit in
+      let first = and_parts (taken_fits f result_type k) (not (any_mentions k es)) fit in
       given_below cost result _ a more (λ v some.
       h v some (moment_assigned u f start (targets.Temporary k) l z v
       (taken result_type k first.0 z.memory v (subst (λ (o : Option Value). ResultIsOf z.memory result_type o) some r.typed))

@@ -5,6 +5,7 @@ use Rattle.std.specs.List.{slice_get, find, list_any}
 use Rattle.std.proofs.lemmas.Option.{slice_get-map}
 use Rattle.std.proofs.lemmas.Bool.Decides.{nat_tests}
 use Rattle.std.proofs.lemmas.List.Folds.{list_any-append}
+use Rattle.std.proofs.lemmas.Bool.{and_parts}
 use Rattle.qs_memory.specs.Values.{Value}
 use Rattle.qs_memory.specs.Memory.{Memory}
 use Rattle.qs_memory.specs.declared.scalar.Scalar.{Scalar}
@@ -35,7 +36,6 @@ use Rattle.qs_core.specs.Interfaces.{signature, interface_of}
 use Rattle.qs_core.specs.Units.{calls_within}
 use Rattle.qs_core.specs.Fits.{exprs_fit, call_fits, unit_fits}
 use Rattle.qs_core.specs.Ranges.{result_type_at}
-use Rattle.qs_core.proofs.FitLaws.{both}
 use Rattle.qs_core.proofs.RangeLaws.{calls_in_range}
 use Rattle.qs_core.proofs.RelationLaws.{calls_alone}
 use Rattle.qs_triples.specs.Derivations.{EntryTree, ProofsTree, entry_of, spec_of}
@@ -147,7 +147,7 @@ module _ (u : CoreUnitTree) (fits : unit_fits u ≡ true) (metric : Costs) (proo
   call_stays : (site : CallSite) → Pays site.function → Enough need (call_at site)
   call_stays site pays b c fit x k r l w moment =
       let g : ℕ = site.function in
-      let two = both (exprs_fit u f site.arguments) (call_fits f site.destination (slice_get (interface_of u).functions g) site.arguments) fit in
+      let two = and_parts (exprs_fit u f site.arguments) (call_fits f site.destination (slice_get (interface_of u).functions g) site.arguments) fit in
       let fg = callee_known g site.destination site.arguments two.1 in
       let e = known g fg.0 fg.1 in
       let has_spec : spec_of proofs g ≡ Some e.0.spec = ap (option_map (λ (e : EntryTree). e.spec)) e.1 in

@@ -3,8 +3,9 @@ use Rattle.std.proofs.Common.{◌≡◌, ℕ, zero, suc, ◌+◌, ◌-◌, ◌%�
 use Rattle.std.specs.Prelude.{ℤ, pos, Ok}
 use Rattle.std.specs.List.{slice_get}
 use Rattle.std.proofs.lemmas.List.Elements.{All-head, All-tail}
-use Rattle.std.proofs.lemmas.Option.{slice_get-map}
+use Rattle.std.proofs.lemmas.Option.{slice_get-map, same_Some}
 use Rattle.std.proofs.lemmas.Bool.Decides.{nat_tests}
+use Rattle.std.proofs.lemmas.Bool.{and_parts}
 use Rattle.qs_memory.specs.Partial.{◌>>=◌, only_if}
 use Rattle.qs_memory.specs.Values.{Pointer, Value, integer, address, as_pointer}
 use Rattle.qs_memory.specs.Memory.{Memory}
@@ -17,7 +18,7 @@ use Rattle.qs_memory.specs.declared.scalar.Scalar.{Scalar}
 use Rattle.qs_memory.specs.declared.scalar.Scalar.TheVariants as scalars
 use Rattle.qs_memory.specs.declared.operation.Signedness.TheVariants.{Signed}
 use Rattle.qs_memory.proofs.BlockLaws.{after_same}
-use Rattle.qs_memory.proofs.Options.{some_same, followed}
+use Rattle.qs_memory.proofs.Options.{followed}
 use Rattle.qs_memory.proofs.StepLaws.{memory_goes_on}
 use Rattle.qs_memory.proofs.SoundLaws.{soundness_is_kept}
 use Rattle.qs_events.specs.Weights.{Costs, run_weight}
@@ -51,7 +52,7 @@ use Rattle.qs_core.specs.Fits.{expr_fits, exprs_fit, pointer_fits, any_mentions,
 use Rattle.qs_core.specs.Ranges.{IsMoment}
 use Rattle.qs_core.specs.TermTrees.{CoreTermTree}
 use Rattle.qs_core.specs.Terms.{term_of}
-use Rattle.qs_core.proofs.FitLaws.{both, FunctionFits, function_at_fits}
+use Rattle.qs_core.proofs.FitLaws.{FunctionFits, function_at_fits}
 use Rattle.qs_core.proofs.TypeLaws.{integer_is_of, value_is_of}
 use Rattle.qs_core.proofs.RangeLaws.{of_type, moment_stepped, moment_assigned, arguments_are}
 use Rattle.qs_triples.specs.Derivations.{DerivationTree, leaf, sequence, conditional, loop, call, balanced_call, consequence, DerivationTrees, no_derivations, derivation_and, count_derivations, SpecTree}
@@ -163,7 +164,7 @@ module _ (u : CoreUnitTree) (fits : unit_fits u ≡ true) (metric : Costs) (ds :
 
   assign_rule : (x : Target) (e : CoreExprTree) (q p : AssertionTree) → Gives (replaced (var (target_kind x) (type_of e)) (expression_term e) q) p → (qs : Posts) → qs.next ≡ q → IsEnough p (core.assign x e) qs
   assign_rule x e q p is qs same b c fit y k r l w moment =
-      let two = both (expr_fits u f e) (is_type (target_type f x) (type_of e)) fit in
+      let two = and_parts (expr_fits u f e) (is_type (target_type f x) (type_of e)) fit in
       let type = type_is (target_type f x) (type_of e) two.1 in
       given_below metric (expressions.value e l w.memory) _ (value p (at l)) y (λ v i.
       below_at _ y
@@ -224,8 +225,8 @@ module _ (u : CoreUnitTree) (fits : unit_fits u ≡ true) (metric : Costs) (ds :
   leaf_is_enough core.skip q p is b c fit x k r l w moment = same_answer q.next p is _ x l (r.next l w moment)
   leaf_is_enough (core.assign y e) q p is b c fit x k r l w moment = assign_rule y e q.next p is q refl b c fit x k r l w moment
   leaf_is_enough (core.store s a e) q p is b c fit x k r l w moment =
-      let three = both (pointer_fits u f a && expr_fits u f e) (same_scalar (type_of e) s) fit in
-      let two = both (pointer_fits u f a) (expr_fits u f e) three.0 in
+      let three = and_parts (pointer_fits u f a && expr_fits u f e) (same_scalar (type_of e) s) fit in
+      let two = and_parts (pointer_fits u f a) (expr_fits u f e) three.0 in
       pointer_below a l w _ _ x (λ i. given_below metric (expressions.value e l w.memory) _ _ x (λ v vis. given_below metric (memory.store s w.memory i v) _ _ x (λ m stored.
       same_answer q.next p is _ x l (r.next l (with_memory w m) (moment_stepped u f start l w m moment (memory_goes_on.store s w.memory m i v stored)
       (soundness_is_kept.store s w.memory m i v moment.range.ready.sound (value_is_of u f e l w v two.1 moment.range vis).sound stored))))))
@@ -238,12 +239,12 @@ module _ (u : CoreUnitTree) (fits : unit_fits u ≡ true) (metric : Costs) (ds :
       same_answer q.next p is _ x l (r.next l (with_memory w m) (moment_stepped u f start l w m moment (memory_goes_on.fill blank w.memory m i filled)
       (soundness_is_kept.fill blank w.memory m i moment.range.ready.sound filled)))))
   leaf_is_enough (core.call y PutChar es) q p is b c fit x k r l w moment =
-      let two = both (exprs_fit u f es) (call_fits f y (signature_of (interface_of u) PutChar) es) fit in
-      let called = both (same_scalars (map type_of es) (scalars.Int ∷ [])) (destination_fits f (Some scalars.Int) y es) two.1 in
+      let two = and_parts (exprs_fit u f es) (call_fits f y (signature_of (interface_of u) PutChar) es) fit in
+      let called = and_parts (same_scalars (map type_of es) (scalars.Int ∷ [])) (destination_fits f (Some scalars.Int) y es) two.1 in
       given_below metric (values es l w.memory) _ _ x (λ vs i. put_below vs _ w _ x moment.range.ready (environment_rule y es q p is x k r.next called.1 l w moment))
   leaf_is_enough (core.call y GetChar es) q p is b c fit x k r l w moment =
-      let two = both (exprs_fit u f es) (call_fits f y (signature_of (interface_of u) GetChar) es) fit in
-      let called = both (same_scalars (map type_of es) []) (destination_fits f (Some scalars.Int) y es) two.1 in
+      let two = and_parts (exprs_fit u f es) (call_fits f y (signature_of (interface_of u) GetChar) es) fit in
+      let called = and_parts (same_scalars (map type_of es) []) (destination_fits f (Some scalars.Int) y es) two.1 in
       given_below metric (values es l w.memory) _ _ x (λ vs i. get_below vs _ w _ x moment.range.ready (environment_rule y es q p is x k r.next called.1 l w moment))
   leaf_is_enough (core.call y (Function g) es) q p is b c fit x k r l w moment = cc
   leaf_is_enough core.break q p is b c fit x k r l w moment = same_answer q.on_break p is _ x l (r.on_break fit l w moment)
@@ -253,7 +254,7 @@ module _ (u : CoreUnitTree) (fits : unit_fits u ≡ true) (metric : Costs) (ds :
       same_answer q.on_return p g.1 _ x l
       (r.on_return None w l (record { typed = tt; ready = moment.range.ready; after = moment.after }))
   leaf_is_enough (core.return (Some e)) q p is b c fit x k r l w moment =
-      let two = both (expr_fits u f e) (is_type f.result_type (type_of e)) fit in
+      let two = and_parts (expr_fits u f e) (is_type f.result_type (type_of e)) fit in
       let type = type_is f.result_type (type_of e) two.1 in
       given_below metric (expressions.value e l w.memory) _ (value p (at l)) x (λ v i.
       below_at _ x
@@ -272,7 +273,7 @@ module _ (u : CoreUnitTree) (fits : unit_fits u ≡ true) (metric : Costs) (ds :
 
   pub first_is_enough : (p m : AssertionTree) (s : CoreStmtTree) (ss : CoreStmts) (q : Posts) → IsEnough p s (with_next q m) → AreEnough m ss q → AreEnough p (stmt_and s ss) q
   first_is_enough p m s ss q one others b c fit x k r =
-      let two = both (stmt_fits u f b c s) (stmts_fit u f b c ss) fit in
+      let two = and_parts (stmt_fits u f b c s) (stmts_fit u f b c ss) fit in
       one b c two.0 x (record k { next = runs_all ss context k }) (record {
         next = others b c two.1 x k r;
         on_break = r.on_break;
@@ -308,8 +309,8 @@ module _ (u : CoreUnitTree) (fits : unit_fits u ≡ true) (metric : Costs) (ds :
 
   pub branch_is_enough : (e : CoreExprTree) (s t : CoreStmtTree) (a b : AssertionTree) (q : Posts) → IsEnough a s q → IsEnough b t q → IsEnough (either (expression_condition e) a b) (core.branch e s t) q
   branch_is_enough e s t a d q one other b c fit x k r l w moment =
-      let three = both (expr_fits u f e && stmt_fits u f b c s) (stmt_fits u f b c t) fit in
-      let two = both (expr_fits u f e) (stmt_fits u f b c s) three.0 in
+      let three = and_parts (expr_fits u f e && stmt_fits u f b c s) (stmt_fits u f b c t) fit in
+      let two = and_parts (expr_fits u f e) (stmt_fits u f b c s) three.0 in
       given_below metric (expressions.value e l w.memory) _ _ x (λ v i. given_below metric (truth w.memory v) _ _ x (λ yes told.
       choice_below metric yes (runs s context k l w) (runs t context k l w) _ x
       (λ is. below_more _ (value a (at l)) _ x (one b c two.1 x k r l w moment)
@@ -325,7 +326,7 @@ module _ (u : CoreUnitTree) (fits : unit_fits u ≡ true) (metric : Costs) (ds :
 
   pub loop_is_enough : (i j p : AssertionTree) (body step : CoreStmtTree) (q : Posts) → IsEnough p body (body_posts j q) → IsEnough j step (step_posts i q) → Covered i p → IsEnough i (core.loop body step) q
   loop_is_enough i j p body step q one other least b c fit x k r =
-      let two = both (stmt_fits u f true true body) (stmt_fits u f true false step) fit in
+      let two = and_parts (stmt_fits u f true true body) (stmt_fits u f true false step) fit in
       turns_hold i x _ (λ again holds l w moment.
       let st : Holds j (runs step context (after_step k again)) x =
       other true false two.1 x (after_step k again) (record { next = holds; on_break = λ _. r.next; on_continue = λ never. cc; on_return = r.on_return }) in
@@ -355,12 +356,12 @@ module _ (u : CoreUnitTree) (fits : unit_fits u ≡ true) (metric : Costs) (ds :
         (g : CoreFunctionTree) (site : CallSite) (b c : Bool) → slice_get u.functions site.function ≡ Some g → stmt_fits u f b c (call_at site) ≡ true
         → (l : Locals) (w : World) → IsMoment u f start l w → (vs : List Value) → values site.arguments l w.memory ≡ Some vs → CallFits g site l w vs
     call_fits_at g site b c is fit l w moment vs vis =
-        let two = both (exprs_fit u f site.arguments) (call_fits f site.destination (slice_get (interface_of u).functions site.function) site.arguments) fit in
+        let two = and_parts (exprs_fit u f site.arguments) (call_fits f site.destination (slice_get (interface_of u).functions site.function) site.arguments) fit in
         let known : slice_get (interface_of u).functions site.function ≡ Some (signature g) =
         slice_get-map signature u.functions site.function ∙ ap (option_map signature) is in
         let called : call_fits f site.destination (Some (signature g)) site.arguments ≡ true =
         ap (λ (o : Option Signature). call_fits f site.destination o site.arguments) (sym known) ∙ two.1 in
-        let three = both (same_scalars (map type_of site.arguments) (parameter_types g)) (destination_fits f g.result_type site.destination site.arguments) called in
+        let three = and_parts (same_scalars (map type_of site.arguments) (parameter_types g)) (destination_fits f g.result_type site.destination site.arguments) called in
         let types = scalars_same (map type_of site.arguments) (parameter_types g) three.0 in
         let are = subst (λ (ts : List Scalar). AreOf w.memory ts vs) types (arguments_are u f l w moment.range site.arguments vs two.0 vis) in
         record {
@@ -378,7 +379,7 @@ module _ (u : CoreUnitTree) (fits : unit_fits u ≡ true) (metric : Costs) (ds :
         → (vs : List Value) → values site.arguments l w.memory ≡ Some vs → (types : map type_of site.arguments ≡ parameter_types g)
         → TermsAre g gf.parameters site.arguments vs types (at l)
     terms_now g site b c gf fit l w moment vs vis types i t is =
-        let two = both (exprs_fit u f site.arguments) (call_fits f site.destination (slice_get (interface_of u).functions site.function) site.arguments) fit in
+        let two = and_parts (exprs_fit u f site.arguments) (call_fits f site.destination (slice_get (interface_of u).functions site.function) site.arguments) fit in
         let a = followed (slice_get site.arguments i) expression_term t is in
         let d = argument_at site.arguments vs l w.memory i a.value vis a.first in
         (a.value, d.value, a.first, d.is, term_number a.value l w d.value t (argument_fits u f site.arguments i a.value two.0 a.first) moment d.from a.then)
@@ -386,7 +387,7 @@ module _ (u : CoreUnitTree) (fits : unit_fits u ≡ true) (metric : Costs) (ds :
     away : (x : Option ℕ) (result_type : Option Scalar) (es : List CoreExprTree) (i : ℕ) (e : CoreExprTree) → destination_fits f result_type x es ≡ true → slice_get es i ≡ Some e → IsApart x e
     away None result_type es i e fit is = tt
     away (Some k) result_type es i e fit is =
-        apart_at (Some k) k es i e (is_false (any_mentions k es) (both (taken_fits f result_type k) (not (any_mentions k es)) fit).1) is
+        apart_at (Some k) k es i e (is_false (any_mentions k es) (and_parts (taken_fits f result_type k) (not (any_mentions k es)) fit).1) is
       where
         is_false : (b : Bool) → not b ≡ true → b ≡ false
         is_false true h = cc
@@ -398,7 +399,7 @@ module _ (u : CoreUnitTree) (fits : unit_fits u ≡ true) (metric : Costs) (ds :
         → destination_fits f g.result_type site.destination site.arguments ≡ true → (v : Value) (z : World) → IsMoment u f start (landed site.destination l v) z
         → TermsAre g gf.parameters site.arguments vs types (at (landed site.destination l v))
     terms_landed g site b c gf fit l w vs vis types destination v z later i t is =
-        let two = both (exprs_fit u f site.arguments) (call_fits f site.destination (slice_get (interface_of u).functions site.function) site.arguments) fit in
+        let two = and_parts (exprs_fit u f site.arguments) (call_fits f site.destination (slice_get (interface_of u).functions site.function) site.arguments) fit in
         let a = followed (slice_get site.arguments i) expression_term t is in
         let d = argument_at site.arguments vs l w.memory i a.value vis a.first in
         let n = has_term a.value t a.then in
@@ -420,8 +421,8 @@ module _ (u : CoreUnitTree) (fits : unit_fits u ≡ true) (metric : Costs) (ds :
         → ResultsAre metric ds g gf.parameters es vs types (number_at f (within old (landed x l v))) are x result
     result_landed g gf es vs types None l v result are fit is y t kind own term = cc
     result_landed g gf es vs types (Some k) l v result are fit is y t kind own term =
-        let first = both (taken_fits f g.result_type k) (not (any_mentions k es)) fit in
-        sym (ap (λ (t : TermTree). term_value t (at (landed (Some k) l v))) (some_same _ t term))
+        let first = and_parts (taken_fits f g.result_type k) (not (any_mentions k es)) fit in
+        sym (ap (λ (t : TermTree). term_value t (at (landed (Some k) l v))) (same_Some _ t term))
         ∙ (λ i. chosen (is_number_type (own_same g.result_type first.0 i) y.number) (landed_value i) y.number)
         ∙ ap (λ (j : VarKind). number_at g (at_exit (entered g vs) result) (record { kind = j; number = y.number })) (sym kind)
       where

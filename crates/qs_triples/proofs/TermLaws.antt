@@ -4,6 +4,8 @@ use Rattle.std.specs.Prelude.{ℤ, pos, negsuc, ◌+ℤ◌, ◌-ℤ◌, ◌*ℤ�
 use Rattle.std.proofs.lemmas.Int.{ints}
 use Rattle.std.proofs.lemmas.Bool.Decides.{nat_tests}
 use Rattle.std.proofs.Math.Nat.{div-le_self, mod-le, div-add-mod}
+use Rattle.std.proofs.lemmas.Bool.{and_parts}
+use Rattle.std.proofs.lemmas.Option.{same_Some}
 use Rattle.qs_base.specs.Words.{signed}
 use Rattle.qs_base.specs.Words as words
 use Rattle.qs_memory.specs.Partial.{◌>>=◌, only_if}
@@ -25,7 +27,7 @@ use Rattle.qs_memory.specs.declared.operation.UnaryOperation.{UnaryOperation}
 use Rattle.qs_memory.specs.declared.operation.UnaryOperation.TheVariants as unaries
 use Rattle.qs_memory.specs.declared.operation.BinaryOperation.{BinaryOperation}
 use Rattle.qs_memory.specs.declared.operation.BinaryOperation.TheVariants as binaries
-use Rattle.qs_memory.proofs.Options.{some_same, followed, only_if_value}
+use Rattle.qs_memory.proofs.Options.{followed, only_if_value}
 use Rattle.qs_calls.specs.World.{World, Environment}
 use Rattle.qs_assert.specs.declared.variable.VarKind.{VarKind}
 use Rattle.qs_assert.specs.declared.variable.VarKind.TheVariants as kinds
@@ -41,7 +43,6 @@ use Rattle.qs_core.specs.TermTrees as core_terms
 use Rattle.qs_core.specs.Terms.{literal_value, literal_of, divisor, power, times, remainder_of, wrapped_both, divided, remainder, multiple, arithmetic_term, binary_term, unary_term, converted_term, conversion_term, if_integer, term_of}
 use Rattle.qs_core.specs.declared.term.TermOperation.{TermOperation}
 use Rattle.qs_core.specs.declared.term.TermOperation.TheVariants.{Add, Subtract, Multiply}
-use Rattle.qs_core.proofs.FitLaws.{both}
 use Rattle.qs_core.proofs.TypeLaws.{value_is_of}
 use Rattle.qs_triples.specs.Valuations.{number_of, number_type, if_number, own_type, value_of, number_at, within}
 use Rattle.qs_triples.specs.ExpressionTerms.{var, two_terms, operation_term, wrapped_term, term_tree, expression_term}
@@ -208,30 +209,30 @@ module _ (st : State) where
       → converted_term from to c ≡ Some r → x < size from → term_value (term_tree c) st ≡ numbered from x
       → convert to (integer x) ≡ Some v → Stands to v (term_value (term_tree r) st)
   converted_stands scalars.Char scalars.Char c r x v h small is j =
-      stands_at _ _ (integer (x % 256)) v _ refl (some_same _ v j) (record {
+      stands_at _ _ (integer (x % 256)) v _ refl (same_Some _ v j) (record {
         integer = refl;
-        number = sym (ap (λ (c : CoreTermTree). term_value (term_tree c) st) (some_same c r h)) ∙ is ∙ (let e : x % 256 ≡ x % 256 % 256 = omega arith in ap pos e);
+        number = sym (ap (λ (c : CoreTermTree). term_value (term_tree c) st) (same_Some c r h)) ∙ is ∙ (let e : x % 256 ≡ x % 256 % 256 = omega arith in ap pos e);
       })
   converted_stands scalars.Char scalars.Int c r x v h small is j =
-      stands_at _ _ (integer x) v _ refl (some_same _ v j) (record {
+      stands_at _ _ (integer x) v _ refl (same_Some _ v j) (record {
         integer = refl;
-        number = sym (ap (λ (c : CoreTermTree). term_value (term_tree c) st) (some_same c r h)) ∙ is ∙ char_numbered x small ∙ sym (low_signed x small) ∙ sym (signed_numbered x (omega (arith, small)));
+        number = sym (ap (λ (c : CoreTermTree). term_value (term_tree c) st) (same_Some c r h)) ∙ is ∙ char_numbered x small ∙ sym (low_signed x small) ∙ sym (signed_numbered x (omega (arith, small)));
       })
   converted_stands scalars.Char scalars.Unsigned c r x v h small is j =
-      stands_at _ _ (integer x) v _ refl (some_same _ v j) (record {
+      stands_at _ _ (integer x) v _ refl (same_Some _ v j) (record {
         integer = refl;
-        number = sym (ap (λ (c : CoreTermTree). term_value (term_tree c) st) (some_same c r h)) ∙ is ∙ char_numbered x small ∙ sym (unsigned_numbered x (omega (arith, small)));
+        number = sym (ap (λ (c : CoreTermTree). term_value (term_tree c) st) (same_Some c r h)) ∙ is ∙ char_numbered x small ∙ sym (unsigned_numbered x (omega (arith, small)));
       })
   converted_stands scalars.Char scalars.Pointer c r x v h small is j = cc
   converted_stands scalars.Int scalars.Char c r x v h small is j =
-      subst (λ (c : CoreTermTree). Stands scalars.Char v (term_value (term_tree c) st)) (some_same _ r h)
-      (stands_at _ _ (integer (x % 256)) v _ refl (some_same _ v j) (char_stands Signed c x is))
+      subst (λ (c : CoreTermTree). Stands scalars.Char v (term_value (term_tree c) st)) (same_Some _ r h)
+      (stands_at _ _ (integer (x % 256)) v _ refl (same_Some _ v j) (char_stands Signed c x is))
   converted_stands scalars.Int scalars.Int c r x v h small is j =
-      stands_at _ _ (integer x) v _ refl (some_same _ v j)
-      (record { integer = refl; number = sym (ap (λ (c : CoreTermTree). term_value (term_tree c) st) (some_same c r h)) ∙ is })
+      stands_at _ _ (integer x) v _ refl (same_Some _ v j)
+      (record { integer = refl; number = sym (ap (λ (c : CoreTermTree). term_value (term_tree c) st) (same_Some c r h)) ∙ is })
   converted_stands scalars.Int scalars.Unsigned c r x v h small is j =
-      subst (λ (c : CoreTermTree). Stands scalars.Unsigned v (term_value (term_tree c) st)) (some_same _ r h)
-      (stands_at _ _ (integer x) v _ refl (some_same _ v j) (record {
+      subst (λ (c : CoreTermTree). Stands scalars.Unsigned v (term_value (term_tree c) st)) (same_Some _ r h)
+      (stands_at _ _ (integer x) v _ refl (same_Some _ v j) (record {
         integer = refl;
         number = wrapped_bits Unsigned (term_value (term_tree c) st) x (reads_like Signed (term_tree c) x is) ∙ again x;
       }))
@@ -240,11 +241,11 @@ module _ (st : State) where
       again x = let e : x % 4294967296 % 4294967296 ≡ x % 4294967296 = omega arith in ap pos e
   converted_stands scalars.Int scalars.Pointer c r x v h small is j = cc
   converted_stands scalars.Unsigned scalars.Char c r x v h small is j =
-      subst (λ (c : CoreTermTree). Stands scalars.Char v (term_value (term_tree c) st)) (some_same _ r h)
-      (stands_at _ _ (integer (x % 256)) v _ refl (some_same _ v j) (char_stands Unsigned c x is))
+      subst (λ (c : CoreTermTree). Stands scalars.Char v (term_value (term_tree c) st)) (same_Some _ r h)
+      (stands_at _ _ (integer (x % 256)) v _ refl (same_Some _ v j) (char_stands Unsigned c x is))
   converted_stands scalars.Unsigned scalars.Int c r x v h small is j =
-      subst (λ (c : CoreTermTree). Stands scalars.Int v (term_value (term_tree c) st)) (some_same _ r h)
-      (stands_at _ _ (integer x) v _ refl (some_same _ v j) (record {
+      subst (λ (c : CoreTermTree). Stands scalars.Int v (term_value (term_tree c) st)) (same_Some _ r h)
+      (stands_at _ _ (integer x) v _ refl (same_Some _ v j) (record {
         integer = refl;
         number = wrapped_bits Signed (term_value (term_tree c) st) x (reads_like Unsigned (term_tree c) x is) ∙ again x;
       }))
@@ -252,8 +253,8 @@ module _ (st : State) where
       again : (x : ℕ) → numbered scalars.Int (x % 4294967296) ≡ numbered scalars.Int x
       again x = let e : x % 4294967296 % 4294967296 ≡ x % 4294967296 = omega arith in ap signed e
   converted_stands scalars.Unsigned scalars.Unsigned c r x v h small is j =
-      stands_at _ _ (integer x) v _ refl (some_same _ v j)
-      (record { integer = refl; number = sym (ap (λ (c : CoreTermTree). term_value (term_tree c) st) (some_same c r h)) ∙ is })
+      stands_at _ _ (integer x) v _ refl (same_Some _ v j)
+      (record { integer = refl; number = sym (ap (λ (c : CoreTermTree). term_value (term_tree c) st) (same_Some c r h)) ∙ is })
   converted_stands scalars.Unsigned scalars.Pointer c r x v h small is j = cc
   converted_stands scalars.Pointer to c r x v h small is j = cc
 
@@ -277,7 +278,7 @@ module _ (st : State) where
   both_terms op s left right r h =
       let a = followed left _ r h in
       let b = followed right _ r a.then in
-      record { first = a.value; second = b.value; left_is = a.first; right_is = b.first; is = some_same _ r b.then }
+      record { first = a.value; second = b.value; left_is = a.first; right_is = b.first; is = same_Some _ r b.then }
 
   divisor_is : (bits : Option ℕ) (k y : ℕ) → IsLiteral bits y → divisor bits ≡ Some k → (k ≡ y) × (1 ≤ k)
   divisor_is bits k y is h =
@@ -295,7 +296,7 @@ module _ (st : State) where
 
   -- the result of an operation that may be undefined
   calculated : (test : Bool) (n : ℕ) (v : Value) → (only_if test (Some n) >>= λ n. Some (integer n)) ≡ Some v → integer n ≡ v
-  calculated true n v h = some_same _ v h
+  calculated true n v h = same_Some _ v h
   calculated false n v h = cc
 
   by_other : (y : ℕ) (a b : ℕ) → 1 ≤ y → (if y == 0 then a else b) ≡ b
@@ -318,7 +319,7 @@ module _ (st : State) where
   quotient_case Unsigned left by r x n v h small reads e =
       let a = followed left _ r h in
       let b = followed by _ r a.then in
-      at_core scalars.Unsigned v (core_terms.quotient a.value b.value) r (some_same _ r b.then)
+      at_core scalars.Unsigned v (core_terms.quotient a.value b.value) r (same_Some _ r b.then)
       (stands_at scalars.Unsigned scalars.Unsigned _ v _ refl (e b.value b.first refl) (quotient_stands (term_tree a.value) x b.value small (reads a.value a.first)))
 
   divide_case :
@@ -346,7 +347,7 @@ module _ (st : State) where
       let e : integer (x % b.value) ≡ v =
       ap (λ k. integer (x % k)) d.0 ∙ sym (ap integer (by_other y x (x % y) (subst (λ k. 1 ≤ k) d.0 d.1)))
       ∙ calculated (divides Unsigned x y) (integers.remainder Unsigned x y) v j in
-      at_core scalars.Unsigned v (remainder_of a.value b.value) r (some_same _ r b.then)
+      at_core scalars.Unsigned v (remainder_of a.value b.value) r (same_Some _ r b.then)
       (stands_at scalars.Unsigned scalars.Unsigned _ v _ refl e (remainder_stands (term_tree a.value) x b.value (let l = d.1 in omega (arith, l)) small (reads a.value a.first)))
 
   left_case :
@@ -361,7 +362,7 @@ module _ (st : State) where
       let e : integer (words.mul x b.value) ≡ v =
       ap (λ k. integer (x * k % 4294967296)) (d.0 ∙ ap (λ n. 2 ^ n) (sym (count_same y d.1)))
       ∙ calculated (is_count y) (words.sll x y) v j in
-      at_core (integer_type s) v (wrapped s (times a.value b.value)) r (some_same _ r b.then)
+      at_core (integer_type s) v (wrapped s (times a.value b.value)) r (same_Some _ r b.then)
       (stands_at (integer_type s) (integer_type s) _ v _ refl e
       (multiplied s (term_tree a.value) (number (pos b.value)) x b.value (reads_like s (term_tree a.value) x (reads a.value a.first)) (record { times = pos 0; is = omega (arith, ints) })))
 
@@ -393,15 +394,15 @@ module _ (st : State) where
       → Stands (integer_type s) v (term_value (term_tree r) st)
   arithmetic_stands arithmetics.Add s tb left right bits r x y v h takes xs ys is reads seconds j =
       let a = both_terms Add s left right r h in
-      at_core (integer_type s) v _ r a.is (stands_at _ _ _ v _ refl (some_same _ v j)
+      at_core (integer_type s) v _ r a.is (stands_at _ _ _ v _ refl (same_Some _ v j)
       (added s (term_tree a.first) (term_tree a.second) x y (reads_like s (term_tree a.first) x (reads a.first a.left_is)) (second_counts s tb right y takes seconds a.second a.right_is)))
   arithmetic_stands arithmetics.Subtract s tb left right bits r x y v h takes xs ys is reads seconds j =
       let a = both_terms Subtract s left right r h in
-      at_core (integer_type s) v _ r a.is (stands_at _ _ _ v _ refl (some_same _ v j)
+      at_core (integer_type s) v _ r a.is (stands_at _ _ _ v _ refl (same_Some _ v j)
       (subtracted s (term_tree a.first) (term_tree a.second) x y ys (reads_like s (term_tree a.first) x (reads a.first a.left_is)) (second_counts s tb right y takes seconds a.second a.right_is)))
   arithmetic_stands arithmetics.Multiply s tb left right bits r x y v h takes xs ys is reads seconds j =
       let a = both_terms Multiply s left right r h in
-      at_core (integer_type s) v _ r a.is (stands_at _ _ _ v _ refl (some_same _ v j)
+      at_core (integer_type s) v _ r a.is (stands_at _ _ _ v _ refl (same_Some _ v j)
       (multiplied s (term_tree a.first) (term_tree a.second) x y (reads_like s (term_tree a.first) x (reads a.first a.left_is)) (second_counts s tb right y takes seconds a.second a.right_is)))
   arithmetic_stands arithmetics.Divide s tb left right bits r x y v h takes xs ys is reads seconds j = divide_case s left bits r x y v h xs is reads j
   arithmetic_stands arithmetics.Remainder s tb left right bits r x y v h takes xs ys is reads seconds j = remainder_case s left bits r x y v h xs is reads j
@@ -432,15 +433,15 @@ module _ (st : State) where
       → apply_unary op m p ≡ Some v → Stands (unary_type op) v (term_value (term_tree c) st)
   unary_stands (unaries.Plus s) m ta o c p v takes h typed operand j =
       let b = same_integer s ta p takes typed in
-      let same : p ≡ v = b.is ∙ some_same (integer b.bits) v (ap (on_integer (λ x. x)) (sym b.is) ∙ j) in
+      let same : p ≡ v = b.is ∙ same_Some (integer b.bits) v (ap (on_integer (λ x. x)) (sym b.is) ∙ j) in
       stands_at ta (integer_type s) p v _ (scalar_same ta (integer_type s) takes) same (operand c h)
   unary_stands (unaries.Minus s) m ta o c p v takes h typed operand j =
       let b = same_integer s ta p takes typed in
       let type = scalar_same ta (integer_type s) takes in
       let a = followed o _ c h in
-      let same : integer (minus b.bits) ≡ v = some_same (integer (minus b.bits)) v (ap (on_integer minus) (sym b.is) ∙ j) in
+      let same : integer (minus b.bits) ≡ v = same_Some (integer (minus b.bits)) v (ap (on_integer minus) (sym b.is) ∙ j) in
       let low = wide_small s b.bits (subst (λ (s : Scalar). b.bits < size s) type b.small) in
-      at_core (integer_type s) v _ c (some_same _ c a.then) (stands_at _ _ _ v _ refl same
+      at_core (integer_type s) v _ c (same_Some _ c a.then) (stands_at _ _ _ v _ refl same
       (subtracted s (number (pos 0)) (term_tree a.value) 0 b.bits low (record { times = pos 0; is = omega (arith, ints) })
       (reads_like s (term_tree a.value) b.bits (first_reads s ta o p b.bits type b.is operand a.value a.first))))
   unary_stands (unaries.Complement s) m ta o c p v takes h typed operand j = cc
@@ -481,7 +482,7 @@ module _ (st : State) where
       → Operand ta left p → Operand tb right q
       → apply_binary op m p q ≡ Some v → Stands (binary_type op) v (term_value (term_tree c) st)
   binary_stands (binaries.Arithmetic op s) m ta tb left right bits c p q v takes h ptyped qtyped lit first second j =
-      let fit = both (same_scalar ta (integer_type s)) (right_takes op s tb) takes in
+      let fit = and_parts (same_scalar ta (integer_type s)) (right_takes op s tb) takes in
       let a = same_integer s ta p fit.0 ptyped in
       let b = bits_of tb q (right_integer op s tb fit.1) qtyped in
       arithmetic_stands op s tb left right bits c a.bits b.bits v h fit.1 (size_wide ta a.bits a.small) (size_wide tb b.bits b.small)
@@ -514,7 +515,7 @@ literal_number scalars.Unsigned n i h = sym (unsigned_numbered n (grind (arith, 
 literal_number scalars.Pointer n i h = cc
 
 literal_bits : (b : CoreExprTree) (l : Locals) (m : Memory) (q : Value) (k : ℕ) → value b l m ≡ Some q → literal_of b ≡ Some k → integer k ≡ q
-literal_bits (literal s n) l m q k h is = ap integer (sym (some_same n k is)) ∙ some_same (integer n) q h
+literal_bits (literal s n) l m q k h is = ap integer (sym (same_Some n k is)) ∙ same_Some (integer n) q h
 literal_bits _ l m q k h is = cc
 
 -- ---- expressions
@@ -540,7 +541,7 @@ module _ (u : CoreUnitTree) (f : CoreFunctionTree) (l : Locals) (w : World) (ran
   pub stands : (e : CoreExprTree) (c : CoreTermTree) (v : Value) → expr_fits u f e ≡ true → term_of e ≡ Some c → value e l w.memory ≡ Some v → Stands (type_of e) v (term_value (term_tree c) state)
   stands (literal s n) c v fits h j =
       let k = integer_only s _ c h in
-      at_core state s v _ c k.1 (stands_at s s _ v _ refl (some_same (integer n) v j) (record { integer = k.0; number = literal_number s n k.0 fits }))
+      at_core state s v _ c k.1 (stands_at s s _ v _ refl (same_Some (integer n) v j) (record { integer = k.0; number = literal_number s n k.0 fits }))
   stands null_pointer c v fits h j = cc
   stands (variable s x) c v fits h j =
       let k = integer_only s _ c h in
@@ -552,19 +553,19 @@ module _ (u : CoreUnitTree) (f : CoreFunctionTree) (l : Locals) (w : World) (ran
   stands (load s a) c v fits h j = cc
   stands (member offset a) c v fits h j = cc
   stands (unary op a) c v fits h j =
-      let fit = both (expr_fits u f a) (unary_takes op (type_of a)) fits in
+      let fit = and_parts (expr_fits u f a) (unary_takes op (type_of a)) fits in
       let p = followed (value a l w.memory) _ v j in
       unary_stands state op w.memory (type_of a) (term_of a) c p.value v fit.1 h (typed a p.value fit.0 p.first) (λ t is. stands a t p.value fit.0 is p.first) p.then
   stands (binary op a b) c v fits h j =
-      let takes = both (expr_fits u f a && expr_fits u f b) (binary_takes op (type_of a) (type_of b)) fits in
-      let fit = both (expr_fits u f a) (expr_fits u f b) takes.0 in
+      let takes = and_parts (expr_fits u f a && expr_fits u f b) (binary_takes op (type_of a) (type_of b)) fits in
+      let fit = and_parts (expr_fits u f a) (expr_fits u f b) takes.0 in
       let p = followed (value a l w.memory) _ v j in
       let q = followed (value b l w.memory) _ v p.then in
       binary_stands state op w.memory (type_of a) (type_of b) (term_of a) (term_of b) (literal_of b) c p.value q.value v takes.1 h
       (typed a p.value fit.0 p.first) (typed b q.value fit.1 q.first) (λ k is. literal_bits b l w.memory q.value k q.first is)
       (λ t is. stands a t p.value fit.0 is p.first) (λ t is. stands b t q.value fit.1 is q.first) q.then
   stands (conversion s a) c v fits h j =
-      let fit = both (expr_fits u f a) (conversion_takes s (type_of a)) fits in
+      let fit = and_parts (expr_fits u f a) (conversion_takes s (type_of a)) fits in
       let p = followed (value a l w.memory) _ v j in
       conversion_stands state (type_of a) s (term_of a) c p.value v h (typed a p.value fit.0 p.first) (λ t is. stands a t p.value fit.0 is p.first) p.then
   stands (logical_and a b) c v fits h j = cc
@@ -577,4 +578,4 @@ module _ (u : CoreUnitTree) (f : CoreFunctionTree) (l : Locals) (w : World) (ran
     where
       by : (o : Option CoreTermTree) → term_of e ≡ o → option_map term_tree o ≡ Some t → Stands (type_of e) v (term_value t state)
       by None is h = cc
-      by (Some c) is h = subst (λ (t : TermTree). Stands (type_of e) v (term_value t state)) (some_same (term_tree c) t h) (stands e c v fits is j)
+      by (Some c) is h = subst (λ (t : TermTree). Stands (type_of e) v (term_value t state)) (same_Some (term_tree c) t h) (stands e c v fits is j)

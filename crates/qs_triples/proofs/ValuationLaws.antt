@@ -3,7 +3,7 @@ use Rattle.std.proofs.Common.{◌≡◌, ℕ, ◌%◌, Bool, true, false, if◌t
 use Rattle.std.specs.Prelude.{ℤ, pos, negsuc, ◌-ℤ◌, ◌≤ℤ◌, ◌&&◌, not, is_none, nat_lt}
 use Rattle.std.proofs.lemmas.Int.{ints}
 use Rattle.std.proofs.lemmas.Bool.Decides.{nat_tests}
-use Rattle.std.proofs.lemmas.Bool.{eqb-true}
+use Rattle.std.proofs.lemmas.Bool.{eqb-true, not-false}
 use Rattle.qs_base.specs.Words.{signed}
 use Rattle.qs_memory.specs.Values.{Value, integer, address}
 use Rattle.qs_events.specs.Weights.{Costs}
@@ -28,7 +28,7 @@ use Rattle.qs_core.specs.Trees.{CoreFunctionTree}
 use Rattle.qs_triples.specs.Valuations.{number_of, number_or_zero, own_type, is_number_type, is_own, Valuation, value_of, number_at}
 use Rattle.qs_triples.specs.Mentions.{may_mention, first_other, first_of}
 use Rattle.qs_triples.specs.Rules.{replaced}
-use Rattle.qs_triples.proofs.Answers.{Gives, ok_same, unless_ok, none_found, not_false, some_there}
+use Rattle.qs_triples.proofs.Answers.{Gives, ok_same, unless_ok, none_found, some_there}
 use Rattle.qs_triples.proofs.Names.{seen}
 
 -- ---- ranges
@@ -181,7 +181,7 @@ pub mentioned_alone :
     → value a (seen cost ds (number_at f v)) ≡ value a (seen cost ds (number_at f w))
 mentioned_alone f allowed a cost ds v w none same =
     of_its_variables a (seen cost ds (number_at f v)) (number_at f v) (number_at f w) (λ x mention.
-    let may : may_mention f allowed x ≡ true = not_false (may_mention f allowed x) (none_found (λ x. not (may_mention f allowed x)) (variables a) x none mention) in
+    let may : may_mention f allowed x ≡ true = not-false (may_mention f allowed x) (none_found (λ x. not (may_mention f allowed x)) (variables a) x none mention) in
     number_same f v w x (same x.kind (first_of_two (allowed x.kind) (is_own f x) may)))
   where
     first_of_two : (a b : Bool) → (a && b) ≡ true → a ≡ true

@@ -1,4 +1,5 @@
-//! Derivations of stack bounds: which are right, and that these bound the weight of every run.
+//! Derivations of stack bounds: which are right, that these bound the weight of every run, and
+//! their check.
 #![tactic(auto)]
 
 mod body;

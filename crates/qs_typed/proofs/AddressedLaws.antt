@@ -1,5 +1,5 @@
 -- The operands of `&` that are found by the nodes of a body are those of the definition.
-use Rattle.std.proofs.Common.{◌≡◌, ℕ, ◌+◌, Bool, true, false, List, [], ◌∷◌, ◌++◌, Option, Some, None, refl, sym, ap, ◌∙◌, if◌then◌else◌}
+use Rattle.std.proofs.Common.{◌≡◌, ℕ, ◌+◌, Bool, true, false, List, [], ◌∷◌, ◌++◌, Option, Some, None, refl, sym, ap, ◌∙◌, if◌then◌else◌, append-nil}
 use Rattle.std.specs.List.{flat_map}
 use Rattle.std.proofs.lemmas.List.Concat.{flat_map-append}
 use Rattle.qs_base.specs.Bytes.{same_bytes}
@@ -92,12 +92,8 @@ at_sites ss = flat_map (λ (s : Site). addressed s.context s.expression) ss
 split : (xs ys : List Site) → at_sites (xs ++ ys) ≡ at_sites xs ++ at_sites ys
 split xs ys = flat_map-append (λ (s : Site). addressed s.context s.expression) xs ys
 
-end : (xs : List ℕ) → xs ≡ xs ++ []
-end [] = refl
-end (x ∷ xs) = ap (λ rest. x ∷ rest) (end xs)
-
 site_same : (k : Known) (c : Context) (e : ExprTree) → Stand k (of_nodes (its_type c) e) (of_nodes (its_referent c) e) → known.addressed_known k.referents e ≡ at_sites (site c e)
-site_same k c e n = expr_same k c e (nodes_known k c e n.0 n.1) ∙ end (addressed c e)
+site_same k c e n = expr_same k c e (nodes_known k c e n.0 n.1) ∙ sym (append-nil (addressed c e))
 
 option_same : (k : Known) (c : Context) (e : Option ExprTree) → Stand k (of_option declared_type its_type c e) (of_option no_referent its_referent c e)
     → known.option_addressed k.referents e ≡ at_sites (option_sites c e)
@@ -117,7 +113,7 @@ each_same k c (e ∷ es) n =
 mutual
   initialiser_same : (k : Known) (c : Context) (t : Option TypeTree) (i : InitialiserTree) → Stand k (of_initialiser declared_type its_type c i) (of_initialiser no_referent its_referent c i)
       → known.initialiser_addressed k.referents i ≡ at_sites (initialiser_sites false c t i)
-  initialiser_same k c t (trees.value e) n = expr_same k c e (nodes_known k c e n.0 n.1) ∙ end (addressed c e)
+  initialiser_same k c t (trees.value e) n = expr_same k c e (nodes_known k c e n.0 n.1) ∙ sym (append-nil (addressed c e))
   initialiser_same k c t (trees.list node is) n = elements_same k c t 0 is (n.0.1, n.1.1)
 
   elements_same : (k : Known) (c : Context) (t : Option TypeTree) (j : ℕ) (is : Initialisers) → Stand k (of_initialisers declared_type its_type c is) (of_initialisers no_referent its_referent c is)

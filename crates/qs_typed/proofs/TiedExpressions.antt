@@ -1,5 +1,6 @@
 -- Where the definition gives an expression a typed tree, what is known by the numbers of its nodes gives the same.
 use Rattle.std.proofs.Common.{◌≡◌, ℕ, Bool, true, false, List, [], ◌∷◌, Option, Some, None, map, refl, sym, ap, ◌∙◌, if◌then◌else◌}
+use Rattle.std.proofs.lemmas.Option.{same_Some}
 use Rattle.qs_memory.specs.Partial.{◌>>=◌}
 use Rattle.qs_memory.specs.declared.scalar.Scalar.{Scalar}
 use Rattle.qs_base.specs.Bytes.{same_bytes}
@@ -27,7 +28,7 @@ use Rattle.qs_meaning.specs.Names.{Scope, Designator as Designated, local_lvalue
 use Rattle.qs_meaning.specs.Expressions.{text_form, name_form, arguments_of, subscript_form, member_form, step_form, unary_form, size_form, cast_form, binary_form, conditional_form, assign_form, comma_form, typed, form_of, all_typed}
 use Rattle.qs_typed_nodes.specs.Known.{Known, at_number, referent_lvalue, name_known, text_known, with_tags, named_known, named_size_known, Designator, designated_by, with_conversion, with_argument, known, form_known, type_known, arguments_known}
 use Rattle.qs_typed_nodes.specs.Agrees.{Keeps, NodesKnown, PartsKnown, AllKnown, Agrees, GivenAreGiven}
-use Rattle.qs_typed_nodes.proofs.KeptAgreement.{nothing, same, kept, kept_by, then_kept, is_kept, equal_kept}
+use Rattle.qs_typed_nodes.proofs.KeptAgreement.{nothing, kept, kept_by, then_kept, is_kept, equal_kept}
 use Rattle.qs_typed.proofs.UnitStructs.{size_form_kept, subscript_kept, binary_kept, member_kept, assign_kept, step_kept}
 
 -- ---- names
@@ -69,7 +70,7 @@ named_size_kept k s g n =
 -- the type of a cast is the one that it names
 unless_is : (b : Bool) (t u : TypeTree) → (if b then None else Some t) ≡ Some u → t ≡ u
 unless_is true t u e = nothing u e
-unless_is false t u e = same t u e
+unless_is false t u e = same_Some t u e
 
 cast_type : (c : Context) (node : Node) (n : TypeName) (a : ExprTree) (t u : TypeTree) → named_type c n ≡ Some t → type_of c (expr node (trees.cast n a)) ≡ Some u → u ≡ t
 cast_type c node n a t u p q = go (type_of c a) q
@@ -105,8 +106,8 @@ designated_kept k s g h x (Some (function node None body)) p d e = nothing d e
 designated_kept k s g h x (Some (function node (Some f) body)) p d e =
     ap (λ o. o >>= function_designator k.functions x) (g.headers x node f body p)
     ∙ ap (λ names. function_designator names x (map scalar_of f.parameters)) g.functions
-    ∙ ap (λ d. Some (in_scalars d)) (same _ d e)
-designated_kept k s g h x (Some (given f)) p d e = given_is k x (same_bytes x putchar_name) f (h x f p) ∙ ap (λ d. Some (in_scalars d)) (same _ d e)
+    ∙ ap (λ d. Some (in_scalars d)) (same_Some _ d e)
+designated_kept k s g h x (Some (given f)) p d e = given_is k x (same_bytes x putchar_name) f (h x f p) ∙ ap (λ d. Some (in_scalars d)) (same_Some _ d e)
 
 -- the arguments of a call, where the first one and the others are kept
 argument_kept : (k : Known) (s : Scope) (e : ExprTree) (es : Exprs) → Keeps (typed s e) (known k e)
@@ -127,7 +128,7 @@ more_kept : (k : Known) (s : Scope) (e : ExprTree) (es : Exprs) → Keeps (typed
 more_kept k s e es first others ts args None q rest r f = nothing args f
 more_kept k s e es first others ts args (Some a) q None r f = nothing args f
 more_kept k s e es first others ts args (Some a) q (Some rest) r f =
-    λ x i. argument_kept k s e es first others ts a rest q r x (ap (arguments_of ts) (same (a ∷ rest) args f) ∙ i)
+    λ x i. argument_kept k s e es first others ts a rest q r x (ap (arguments_of ts) (same_Some (a ∷ rest) args f) ∙ i)
 
 no_more_kept : (k : Known) (ts : List TypeTree) (args : List TypedExpr) → [] ≡ args → Keeps (arguments_of ts args) (arguments_known k (map scalar_of ts) no_exprs)
 no_more_kept k [] args e = λ x f. ap (arguments_of []) e ∙ f
@@ -212,6 +213,6 @@ mutual
 
   arguments_kept : (k : Known) (s : Scope) → Agrees k s → GivenAreGiven s → (ts : List TypeTree) (es : Exprs) → AllKnown k s.context es → (args : List TypedExpr) → all_typed s es ≡ Some args
       → Keeps (arguments_of ts args) (arguments_known k (map scalar_of ts) es)
-  arguments_kept k s g h ts no_exprs parts args p = no_more_kept k ts args (same [] args p)
+  arguments_kept k s g h ts no_exprs parts args p = no_more_kept k ts args (same_Some [] args p)
   arguments_kept k s g h ts (expr_and e es) parts args p =
       more_kept k s e es (typed_kept k s g h e parts.0) (λ ts rest r. arguments_kept k s g h ts es parts.1 rest r) ts args (typed s e) refl (all_typed s es) refl p

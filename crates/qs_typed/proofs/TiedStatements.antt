@@ -20,6 +20,7 @@ use Rattle.qs_meaning.specs.Statements.{initialised, behind_variable, variable_t
 use Rattle.qs_typed_forms.specs.Between.{between}
 use Rattle.qs_typed_nodes.specs.Known.{Known, at_number, known}
 use Rattle.qs_typed_nodes.specs.KnownStatements.{text_set_known, assigned_set_known, piece_set_known, pieces_set_known, filled_known, object_set_known, local_set_known, initialised_known, variable_known, variables_known, effect_known, option_effect_known, condition_known, option_condition_known, start_known, return_known, statement_known, statements_known, else_known}
+use Rattle.std.proofs.lemmas.Option.{same_Some}
 use Rattle.qs_typed_nodes.specs.Agrees.{Keeps, Grown, Agrees, ExpressionAt, OptionAt, InitialiserAt, InitialisersAt, ResultIs, InitialAt, VariableAt, VariablesAt, StartAt, StatementAt, StatementsAt, ElseAt}
 use Rattle.qs_typed_nodes.proofs.KeptAgreement.{kept, kept_by, is_kept, equal_kept, choice_kept}
 use Rattle.qs_typed_nodes.proofs.KeptAgreement as options
@@ -84,7 +85,7 @@ first_at : (k : Known) (s : Scope) (structs : Structs) (t : TypeTree) (offset i 
 first_at k s structs t offset i first rest h f ps u at None q later r e = options.nothing ps e
 first_at k s structs t offset i first rest h f ps u at (Some now) q None r e = options.nothing ps e
 first_at k s structs t offset i first rest h f ps u at (Some now) q (Some later) r e =
-    subst (λ ps. PiecesAt k s ps) (options.same (now ++ later) ps e) (both_at k s now later (h u at now q) (f later r))
+    subst (λ ps. PiecesAt k s ps) (same_Some (now ++ later) ps e) (both_at k s now later (h u at now q) (f later r))
 
 list_at : (k : Known) (s : Scope) (structs : Structs) (t : TypeTree) (offset i : ℕ) (first : InitialiserTree) (rest : Initialisers)
     → ((u : TypeTree) (at : ℕ) (now : List Piece) → pieces structs u at first ≡ Some now → PiecesAt k s now) → ((later : List Piece) → pieces_from structs t offset (i + 1) rest ≡ Some later → PiecesAt k s later)
@@ -98,12 +99,12 @@ list_at k s structs t offset i first rest h f ps (Some u) (Some at) e =
 mutual
   pieces_at : (k : Known) (s : Scope) (structs : Structs) (t : TypeTree) (offset : ℕ) (i : InitialiserTree) → InitialiserAt k s i → (ps : List Piece) → pieces structs t offset i ≡ Some ps
       → PiecesAt k s ps
-  pieces_at k s structs t offset (trees.value e) h ps p = subst (λ ps. PiecesAt k s ps) (options.same (record { offset = offset; type = t; expression = e } ∷ []) ps p) (h, tt)
+  pieces_at k s structs t offset (trees.value e) h ps p = subst (λ ps. PiecesAt k s ps) (same_Some (record { offset = offset; type = t; expression = e } ∷ []) ps p) (h, tt)
   pieces_at k s structs t offset (trees.list node is) h ps p = from_at k s structs t offset 0 is h ps p
 
   from_at : (k : Known) (s : Scope) (structs : Structs) (t : TypeTree) (offset i : ℕ) (is : Initialisers) → InitialisersAt k s is → (ps : List Piece) → pieces_from structs t offset i is ≡ Some ps
       → PiecesAt k s ps
-  from_at k s structs t offset i no_initialisers h ps p = subst (λ ps. PiecesAt k s ps) (options.same [] ps p) tt
+  from_at k s structs t offset i no_initialisers h ps p = subst (λ ps. PiecesAt k s ps) (same_Some [] ps p) tt
   from_at k s structs t offset i (initialiser_and first rest) h ps p =
       list_at k s structs t offset i first rest (λ u at now q. pieces_at k s structs u at first h.0 now q) (λ later r. from_at k s structs t offset (i + 1) rest h.1 later r) ps
       (part_type structs t i) (part_offset structs t i) p

@@ -1,5 +1,6 @@
 -- The blocks of file-scope variables that are found by the numbers of a unit's nodes are those of its typed tree.
 use Rattle.std.proofs.Common.{◌≡◌, ℕ, true, List, [], ◌∷◌, ◌++◌, Option, Some, None, map, refl, sym, ap, ◌∙◌}
+use Rattle.std.proofs.lemmas.Option.{same_Some}
 use Rattle.qs_memory.specs.Partial.{◌>>=◌}
 use Rattle.qs_memory.specs.Values.{Pointer, null, width}
 use Rattle.qs_memory.specs.Memory.{Cell, BlankTree, bytes_of, parts_of, blank_cells}
@@ -33,7 +34,7 @@ use Rattle.qs_typed.specs.BlockLaws.{UnitBlocksAreTyped}
 use Rattle.qs_typed_nodes.specs.Known.{Known, at_number}
 use Rattle.qs_typed_units.specs.KnownBlocks.{referent_pointer, name_pointer, named_pointer_known, address_constant_known, pointer_constant_known, pointer_cells_known, integer_cells_known, constant_cells_known, piece_cells_known, pieces_over_known, initialised_cells_known, initial_cells_known, variable_block_known, file_variables_known, blocks_known}
 use Rattle.qs_typed_units.specs.KnownPrograms.{Tables}
-use Rattle.qs_typed_nodes.proofs.KeptAgreement.{nothing, same, kept, kept_by, is_kept, equal_kept, choice_kept}
+use Rattle.qs_typed_nodes.proofs.KeptAgreement.{nothing, kept, kept_by, is_kept, equal_kept, choice_kept}
 use Rattle.qs_typed.proofs.LaterStructs.{grown}
 use Rattle.qs_typed.proofs.TiedStatements.{pieces_kept}
 use Rattle.qs_typed.proofs.KnownNodes.{at_node, nodes_known}
@@ -240,7 +241,7 @@ joined now rest = Some (record { functions = now.functions ++ rest.functions; bl
 alone : (known : Option (List StaticBlock)) (o : Option TypedProgram) (fs : List Function) (p : TypedProgram) → (o >>= joined (record { functions = fs; blocks = [] })) ≡ Some p
     → ((q : TypedProgram) → o ≡ Some q → known ≡ Some q.blocks) → known ≡ Some p.blocks
 alone known None fs p e h = nothing p e
-alone known (Some q) fs p e h = h q refl ∙ ap (λ (p : TypedProgram). Some p.blocks) (same (record { functions = fs ++ q.functions; blocks = q.blocks }) p e)
+alone known (Some q) fs p e h = h q refl ∙ ap (λ (p : TypedProgram). Some p.blocks) (same_Some (record { functions = fs ++ q.functions; blocks = q.blocks }) p e)
 
 function_alone : (known : Option (List StaticBlock)) (fs : Option (List Function)) (o : Option TypedProgram) (p : TypedProgram) → (no_blocks fs >>= λ now. o >>= joined now) ≡ Some p
     → ((q : TypedProgram) → o ≡ Some q → known ≡ Some q.blocks) → known ≡ Some p.blocks
@@ -251,7 +252,7 @@ beside : (known : Option (List StaticBlock)) (bs : List StaticBlock) (o : Option
     → ((q : TypedProgram) → o ≡ Some q → known ≡ Some q.blocks) → (known >>= λ rest. Some (bs ++ rest)) ≡ Some p.blocks
 beside known bs None p e h = nothing p e
 beside known bs (Some q) p e h =
-    ap (λ o. o >>= λ rest. Some (bs ++ rest)) (h q refl) ∙ ap (λ (p : TypedProgram). Some p.blocks) (same (record { functions = q.functions; blocks = bs ++ q.blocks }) p e)
+    ap (λ o. o >>= λ rest. Some (bs ++ rest)) (h q refl) ∙ ap (λ (p : TypedProgram). Some p.blocks) (same_Some (record { functions = q.functions; blocks = bs ++ q.blocks }) p e)
 
 variables_beside : (known : Option (List StaticBlock)) (typed now : Option (List StaticBlock)) (o : Option TypedProgram) (p : TypedProgram) → Keeps typed now
     → (no_functions typed >>= λ now. o >>= joined now) ≡ Some p → ((q : TypedProgram) → o ≡ Some q → known ≡ Some q.blocks)
@@ -265,7 +266,7 @@ knows t s c ds g e = record { goes = further c (context_after c ds) (context_wit
 blocks_same : (t : Tables) (s : Scope) → t.statics ≡ s.statics → (ds : UnitTree) (c : Context) → GoesTo (context_after c ds) (context_with t.structs t.tags)
     → Stand (outside t) (of_declarations declared_type its_type c ds) (of_declarations no_referent its_referent c ds)
     → (p : TypedProgram) → declarations_typed (within s c) ds ≡ Some p → blocks_known t ds ≡ Some p.blocks
-blocks_same t s st [] c g n p e = ap (λ (p : TypedProgram). Some p.blocks) (same (record { functions = []; blocks = [] }) p e)
+blocks_same t s st [] c g n p e = ap (λ (p : TypedProgram). Some p.blocks) (same_Some (record { functions = []; blocks = [] }) p e)
 blocks_same t s st (structure d ∷ ds) c g n p e =
     let td = of_declaration declared_type its_type c (structure d) in
     let rd = of_declaration no_referent its_referent c (structure d) in
@@ -300,8 +301,8 @@ with_texts : (unit : UnitTree) (known : Option (List StaticBlock)) (o : Option T
     → (p : TypedProgram) → (o >>= λ (u : TypedProgram). Some (record u { blocks = u.blocks ++ map text_block (literal_blocks unit) })) ≡ Some p → p.blocks ≡ bs ++ map text_block (literal_blocks unit)
 with_texts unit known None h bs k p e = nothing p e
 with_texts unit known (Some q) h bs k p e =
-    sym (ap (λ (p : TypedProgram). p.blocks) (same (record q { blocks = q.blocks ++ map text_block (literal_blocks unit) }) p e))
-    ∙ ap (λ bs. bs ++ map text_block (literal_blocks unit)) (same q.blocks bs (sym (h q refl) ∙ k))
+    sym (ap (λ (p : TypedProgram). p.blocks) (same_Some (record q { blocks = q.blocks ++ map text_block (literal_blocks unit) }) p e))
+    ∙ ap (λ bs. bs ++ map text_block (literal_blocks unit)) (same_Some q.blocks bs (sym (h q refl) ∙ k))
 
 pub blocks_typed : UnitBlocksAreTyped
 blocks_typed unit n t h bs k p e =

@@ -1,6 +1,7 @@
 -- What is known of a unit agrees with the scope in which each of its bodies stands.
 use Rattle.std.proofs.Common.{◌≡◌, ℕ, zero, suc, Bool, true, false, not, ◌&&◌, List, [], ◌∷◌, Option, Some, None, sym, ap, ◌∙◌, arith, if◌then◌else◌}
 use Rattle.std.specs.Prelude.{◌==◌}
+use Rattle.std.proofs.lemmas.Option.{same_Some}
 use Rattle.qs_memory.specs.declared.scalar.Scalar.{Scalar}
 use Rattle.qs_memory.specs.declared.scalar.Scalar.TheVariants as scalars
 use Rattle.qs_syntax.specs.declared.types.Base.{Base}
@@ -16,7 +17,7 @@ use Rattle.qs_meaning.specs.Units.{result_scalar, in_body}
 use Rattle.qs_typed_nodes.specs.Known.{Known, with_tags}
 use Rattle.qs_typed_nodes.specs.KnownFunctions.{base_scalar, named_scalar, returns_nothing}
 use Rattle.qs_typed_nodes.specs.Agrees.{Keeps}
-use Rattle.qs_typed_nodes.proofs.KeptAgreement.{nothing, same}
+use Rattle.qs_typed_nodes.proofs.KeptAgreement.{nothing}
 use Rattle.qs_typed.proofs.LaterStructs.{IsLater, grown}
 use Rattle.qs_typed.proofs.InnerScopes.{Inside, local_inside}
 use Rattle.qs_typed.proofs.UnitHeaders.{HeadersFound}
@@ -31,20 +32,20 @@ abbrev starred_scalar : Base → ℕ → Scalar
 starred_scalar base stars = if stars == 0 then base_scalar base else scalars.Pointer
 
 starred_is : (c : Context) (base : Base) (stars : ℕ) (t : TypeTree) → starred_type c base stars ≡ Some t → starred_scalar base stars ≡ scalar_of t
-starred_is c bases.Void zero t e = ap scalar_of (same void t e)
-starred_is c bases.Int zero t e = ap scalar_of (same int t e)
-starred_is c bases.Unsigned zero t e = ap scalar_of (same unsigned t e)
-starred_is c bases.Char zero t e = ap scalar_of (same char t e)
+starred_is c bases.Void zero t e = ap scalar_of (same_Some void t e)
+starred_is c bases.Int zero t e = ap scalar_of (same_Some int t e)
+starred_is c bases.Unsigned zero t e = ap scalar_of (same_Some unsigned t e)
+starred_is c bases.Char zero t e = ap scalar_of (same_Some char t e)
 starred_is c (bases.Struct tag) zero t e = go (tag_place c tag) e
   where
     go : (o : Option ℕ) → and_then (and_then o (λ k. Some (struct k))) (λ t. Some t) ≡ Some t → scalars.Pointer ≡ scalar_of t
     go None p = nothing t p
-    go (Some k) p = ap scalar_of (same (struct k) t p)
+    go (Some k) p = ap scalar_of (same_Some (struct k) t p)
 starred_is c base (suc stars) t e = ap (λ b. if b then base_scalar base else scalars.Pointer) (not_zero stars) ∙ go (base_type c base) e
   where
     go : (o : Option TypeTree) → and_then o (λ u. Some (pointer (pointers stars u))) ≡ Some t → scalars.Pointer ≡ scalar_of t
     go None p = nothing t p
-    go (Some u) p = ap scalar_of (same (pointer (pointers stars u)) t p)
+    go (Some u) p = ap scalar_of (same_Some (pointer (pointers stars u)) t p)
 
 pub result_is : (c : Context) (f : FunctionTree) (t : TypeTree) → result_type c f ≡ Some t → named_scalar f.result_type ≡ scalar_of t
 result_is c f t e = by (is_void_pointer f) e
@@ -59,7 +60,7 @@ pointer_done c base stars t e = go (base_type c base) e
   where
     go : (o : Option TypeTree) → and_then o (λ u. Some (pointer (pointers stars u))) ≡ Some t → Some scalars.Pointer ≡ result_scalar (Some t)
     go None p = nothing t p
-    go (Some u) p = ap (λ t. result_scalar (Some t)) (same (pointer (pointers stars u)) t p)
+    go (Some u) p = ap (λ t. result_scalar (Some t)) (same_Some (pointer (pointers stars u)) t p)
 
 starred_done : (c : Context) (base : Base) (stars : ℕ) (t : TypeTree) (b z : Bool) → z ≡ false → (if b && not z then None else starred_type c base (suc stars)) ≡ Some t
     → (if b && z then None else Some (if z then base_scalar base else scalars.Pointer)) ≡ result_scalar (Some t)
@@ -74,15 +75,15 @@ starred_done c base stars t false false q e = pointer_done c base stars t e
 result_done : (c : Context) (base : Base) (stars : ℕ) (t : TypeTree) → (if is_void_base base && not (stars == 0) then None else starred_type c base stars) ≡ Some t
     → (if is_void_base base && (stars == 0) then None else Some (starred_scalar base stars)) ≡ result_scalar (Some t)
 result_done c base (suc stars) t e = starred_done c base stars t (is_void_base base) (suc stars == 0) (not_zero stars) e
-result_done c bases.Void zero t e = ap (λ t. result_scalar (Some t)) (same void t e)
-result_done c bases.Int zero t e = ap (λ t. result_scalar (Some t)) (same int t e)
-result_done c bases.Unsigned zero t e = ap (λ t. result_scalar (Some t)) (same unsigned t e)
-result_done c bases.Char zero t e = ap (λ t. result_scalar (Some t)) (same char t e)
+result_done c bases.Void zero t e = ap (λ t. result_scalar (Some t)) (same_Some void t e)
+result_done c bases.Int zero t e = ap (λ t. result_scalar (Some t)) (same_Some int t e)
+result_done c bases.Unsigned zero t e = ap (λ t. result_scalar (Some t)) (same_Some unsigned t e)
+result_done c bases.Char zero t e = ap (λ t. result_scalar (Some t)) (same_Some char t e)
 result_done c (bases.Struct tag) zero t e = go (tag_place c tag) e
   where
     go : (o : Option ℕ) → and_then (and_then o (λ k. Some (struct k))) (λ t. Some t) ≡ Some t → Some scalars.Pointer ≡ result_scalar (Some t)
     go None p = nothing t p
-    go (Some k) p = ap (λ t. result_scalar (Some t)) (same (struct k) t p)
+    go (Some k) p = ap (λ t. result_scalar (Some t)) (same_Some (struct k) t p)
 
 pub result_kept : (c : Context) (f : FunctionTree) (t : TypeTree) → result_type c f ≡ Some t
     → (if returns_nothing f then None else Some (named_scalar f.result_type)) ≡ result_scalar (result_type c f)

@@ -3,6 +3,7 @@ use Rattle.std.proofs.Common.{◌≡◌, ℕ, Bool, true, false, not, ◌||◌, 
 use Rattle.std.specs.Prelude.{◌==◌}
 use Rattle.std.specs.List.{list_any}
 use Rattle.std.proofs.lemmas.Cmp.{nat_eq_equiv}
+use Rattle.std.proofs.Math.Bool.{or_assoc, or-false}
 use Rattle.qs_syntax.specs.Trees.{FunctionTree, Stmts}
 use Rattle.qs_types.specs.Types.{TypeTree}
 use Rattle.qs_types.specs.Contexts.{inner_scope}
@@ -29,16 +30,8 @@ use Rattle.qs_typed.proofs.UnitBodies.{KnownAt, body_inside, result_is, result_k
 
 -- ---- sets of nodes
 
-or_assoc : (a b c : Bool) → ((a || b) || c) ≡ (a || (b || c))
-or_assoc true b c = refl
-or_assoc false b c = refl
-
-or_false : (a : Bool) → (a || false) ≡ a
-or_false true = refl
-or_false false = refl
-
 one_more : (n m : ℕ) (done : List ℕ) → is_one_of n (done ++ m ∷ []) ≡ (is_one_of n done || (m == n))
-one_more n m [] = or_false (m == n)
+one_more n m [] = or-false (m == n)
 one_more n m (d ∷ done) = ap (λ b. (d == n) || b) (one_more n m done) ∙ sym (or_assoc (d == n) (is_one_of n done) (m == n))
 
 is_any : (n : ℕ) (ms : List ℕ) → list_any (nat_eq n) ms ≡ is_one_of n ms
@@ -55,7 +48,7 @@ there_already n m (d ∷ done) e = by (d == m) refl e (there_already n m done)
   where
     or_self : (a b : Bool) → ((a || b) || a) ≡ (a || b)
     or_self true b = refl
-    or_self false b = or_false b
+    or_self false b = or-false b
 
     by : (b : Bool) → (d == m) ≡ b → (b || is_one_of m done) ≡ true → (is_one_of m done ≡ true → (is_one_of n done || (m == n)) ≡ is_one_of n done)
         → (((d == n) || is_one_of n done) || (m == n)) ≡ ((d == n) || is_one_of n done)
@@ -65,7 +58,7 @@ there_already n m (d ∷ done) e = by (d == m) refl e (there_already n m done)
     by false q p rest = or_assoc (d == n) (is_one_of n done) (m == n) ∙ ap (λ x. (d == n) || x) (rest p)
 
 one_of_each : (n : ℕ) (done ns : List ℕ) → is_one_of n (each_once done ns) ≡ (is_one_of n done || is_one_of n ns)
-one_of_each n done [] = sym (or_false (is_one_of n done))
+one_of_each n done [] = sym (or-false (is_one_of n done))
 one_of_each n done (m ∷ ns) = by (list_any (nat_eq m) done) (is_any m done) (one_of_each n done ns) (one_of_each n (done ++ m ∷ []) ns)
   where
     by : (b : Bool) → b ≡ is_one_of m done → is_one_of n (each_once done ns) ≡ (is_one_of n done || is_one_of n ns)

@@ -2,6 +2,7 @@
 use Rattle.std.proofs.Common.{◌≡◌, ℕ, Bool, true, false, List, [], ◌∷◌, ◌++◌, Option, Some, None, map, is_some, refl, sym, ap, ◌∙◌, if◌then◌else◌}
 use Rattle.std.specs.Prelude.{◌==◌}
 use Rattle.std.proofs.lemmas.Cmp.{nat_eq_equiv}
+use Rattle.std.proofs.lemmas.Option.{same_Some}
 use Rattle.qs_memory.specs.Partial.{◌>>=◌}
 use Rattle.qs_memory.specs.declared.scalar.Scalar.{Scalar}
 use Rattle.qs_base.specs.Bytes.{same_bytes}
@@ -18,7 +19,7 @@ use Rattle.qs_typed_nodes.specs.Known.{Header, at_number, parameters_of}
 use Rattle.qs_typed_nodes.specs.KnownFunctions.{parameters_nodes, locals_at}
 use Rattle.qs_typed_units.specs.KnownUnits.{header_known, header_behind, with_header}
 use Rattle.qs_typed_nodes.specs.Agrees.{Keeps}
-use Rattle.qs_typed_nodes.proofs.KeptAgreement.{nothing, same}
+use Rattle.qs_typed_nodes.proofs.KeptAgreement.{nothing}
 
 -- each parameter has at its node the type that it is declared with
 abbrev pub ParametersDeclared : (types : List (Option TypeTree)) → Context → List ParameterTree → Type 0
@@ -54,7 +55,7 @@ header_kept types f hs more e n = go (header_known types f) (parameters_of f.nod
   where
     go : (o : Option Header) (there : Option (List Scalar)) → (o >>= header_behind hs there) ≡ Some more → Keeps (parameters_of n hs) (parameters_of n more)
     go None there p = nothing more p
-    go (Some h) None p = λ x q. ap (parameters_of n) (sym (same (hs ++ h ∷ []) more p)) ∙ found_still n hs (h ∷ []) x q
+    go (Some h) None p = λ x q. ap (parameters_of n) (sym (same_Some (hs ++ h ∷ []) more p)) ∙ found_still n hs (h ∷ []) x q
     go (Some h) (Some ps) p = nothing more p
 
 -- and so is the new one
@@ -66,14 +67,14 @@ header_there types f hs more ps e q =
   where
     go : (there : Option (List Scalar)) → parameters_of f.node.id hs ≡ there → header_behind hs there (record { node = f.node.id; parameters = ps }) ≡ Some more
         → parameters_of f.node.id more ≡ Some ps
-    go None r p = ap (parameters_of f.node.id) (sym (same (hs ++ record { node = f.node.id; parameters = ps } ∷ []) more p)) ∙ found_last (record { node = f.node.id; parameters = ps }) hs r
+    go None r p = ap (parameters_of f.node.id) (sym (same_Some (hs ++ record { node = f.node.id; parameters = ps } ∷ []) more p)) ∙ found_last (record { node = f.node.id; parameters = ps }) hs r
     go (Some qs) r p = nothing more p
 
 -- ---- its parameters
 
 scalars_all : (types : List (Option TypeTree)) (c : Context) (ps : List ParameterTree) → ParametersDeclared types c ps → (us : List TypeTree) → all_of (parameter_types c ps) ≡ Some us
     → scalars_of (locals_at types (parameters_nodes ps)) ≡ Some (map scalar_of us)
-scalars_all types c [] d us e = ap (λ us. Some (map scalar_of us)) (same [] us e)
+scalars_all types c [] d us e = ap (λ us. Some (map scalar_of us)) (same_Some [] us e)
 scalars_all types c (p ∷ ps) d us e =
     ap (λ o. o >>= λ t. scalars_of (locals_at types (parameters_nodes ps)) >>= λ rest. Some (scalar_of t ∷ rest)) d.0
     ∙ go (parameter_declared c p).type (all_of (parameter_types (after_parameter c p) ps)) (λ vs. scalars_all types (after_parameter c p) ps d.1 vs) e
@@ -84,13 +85,13 @@ scalars_all types c (p ∷ ps) d us e =
     go None rest h q = nothing us q
     go (Some t) None h q = nothing us q
     go (Some t) (Some vs) h q =
-        ap (λ o. o >>= λ rest. Some (scalar_of t ∷ rest)) (h vs refl) ∙ ap (λ us. Some (map scalar_of us)) (same (t ∷ vs) us q)
+        ap (λ o. o >>= λ rest. Some (scalar_of t ∷ rest)) (h vs refl) ∙ ap (λ us. Some (map scalar_of us)) (same_Some (t ∷ vs) us q)
 
 signature_parts : (ps : Option (List TypeTree)) (r : Option TypeTree) (g : Signature) → and_then ps (λ ts. and_then r (λ t. Some (record { parameters = ts; result = t }))) ≡ Some g
     → ps ≡ Some g.parameters
 signature_parts None r g e = nothing g e
 signature_parts (Some ts) None g e = nothing g e
-signature_parts (Some ts) (Some t) g e = ap (λ (s : Signature). Some s.parameters) (same (record { parameters = ts; result = t }) g e)
+signature_parts (Some ts) (Some t) g e = ap (λ (s : Signature). Some s.parameters) (same_Some (record { parameters = ts; result = t }) g e)
 
 -- ---- what is in scope behind a header
 

@@ -1,6 +1,7 @@
 -- The functions of a program that are found by the numbers of the unit's nodes are those of its typed tree.
 use Rattle.std.proofs.Common.{◌≡◌, ℕ, Bool, true, false, List, [], ◌∷◌, ◌++◌, Option, Some, None, is_some, map, refl, sym, ap, ◌∙◌, arith, if◌then◌else◌}
 use Rattle.std.specs.List.{slice_get}
+use Rattle.std.proofs.lemmas.Option.{same_Some}
 use Rattle.qs_memory.specs.Partial.{◌>>=◌}
 use Rattle.qs_base.specs.Bytes.{same_bytes}
 use Rattle.qs_syntax.specs.declared.types.Base.{Base}
@@ -28,7 +29,7 @@ use Rattle.qs_typed_units.specs.KnownPrograms.{Tables, known_in, body_known, opt
 use Rattle.qs_typed.specs.UnitVariables.{function_variables, unit_variables_from, variables_of, variables_known}
 use Rattle.qs_typed_nodes.specs.Agrees.{Keeps}
 use Rattle.qs_typed.specs.AgreesFunctions.{FunctionAt}
-use Rattle.qs_typed_nodes.proofs.KeptAgreement.{nothing, same, kept, is_kept}
+use Rattle.qs_typed_nodes.proofs.KeptAgreement.{nothing, kept, is_kept}
 use Rattle.qs_typed.proofs.LaterStructs.{IsLater}
 use Rattle.qs_typed.proofs.KnownNodes.{Each, each_left, each_right, StandsIn}
 use Rattle.qs_typed.proofs.KnownBodies.{Typing, Naming, declared_type, no_referent, its_type, its_referent}
@@ -43,7 +44,7 @@ use Rattle.qs_typed.proofs.UnitFunctions.{function_at}
 -- ---- headers
 
 headers_kept : (types : List (Option TypeTree)) (hs : List Header) (ds : UnitTree) (all : List Header) → headers_behind types hs ds ≡ Some all → (n : ℕ) → Keeps (parameters_of n hs) (parameters_of n all)
-headers_kept types hs [] all e n = λ x p. ap (parameters_of n) (sym (same hs all e)) ∙ p
+headers_kept types hs [] all e n = λ x p. ap (parameters_of n) (sym (same_Some hs all e)) ∙ p
 headers_kept types hs (structure d ∷ ds) all e n = headers_kept types hs ds all e n
 headers_kept types hs (forward d ∷ ds) all e n = headers_kept types hs ds all e n
 headers_kept types hs (variables d ∷ ds) all e n = headers_kept types hs ds all e n
@@ -170,13 +171,13 @@ joined now rest = Some (record { functions = now.functions ++ rest.functions; bl
 alone : (known : Option (List Function)) (o : Option TypedProgram) (bs : List StaticBlock) (p : TypedProgram) → (o >>= joined (record { functions = []; blocks = bs })) ≡ Some p
     → ((q : TypedProgram) → o ≡ Some q → known ≡ Some q.functions) → known ≡ Some p.functions
 alone known None bs p e h = nothing p e
-alone known (Some q) bs p e h = h q refl ∙ ap (λ (p : TypedProgram). Some p.functions) (same (record { functions = q.functions; blocks = bs ++ q.blocks }) p e)
+alone known (Some q) bs p e h = h q refl ∙ ap (λ (p : TypedProgram). Some p.functions) (same_Some (record { functions = q.functions; blocks = bs ++ q.blocks }) p e)
 
 beside : (known : Option (List Function)) (fs : List Function) (o : Option TypedProgram) (p : TypedProgram) → (o >>= joined (record { functions = fs; blocks = [] })) ≡ Some p
     → ((q : TypedProgram) → o ≡ Some q → known ≡ Some q.functions) → (known >>= λ rest. Some (fs ++ rest)) ≡ Some p.functions
 beside known fs None p e h = nothing p e
 beside known fs (Some q) p e h =
-    ap (λ o. o >>= λ rest. Some (fs ++ rest)) (h q refl) ∙ ap (λ (p : TypedProgram). Some p.functions) (same (record { functions = fs ++ q.functions; blocks = q.blocks }) p e)
+    ap (λ o. o >>= λ rest. Some (fs ++ rest)) (h q refl) ∙ ap (λ (p : TypedProgram). Some p.functions) (same_Some (record { functions = fs ++ q.functions; blocks = q.blocks }) p e)
 
 variables_alone : (known : Option (List Function)) (blocks : Option (List StaticBlock)) (o : Option TypedProgram) (p : TypedProgram) → (no_functions blocks >>= λ now. o >>= joined now) ≡ Some p
     → ((q : TypedProgram) → o ≡ Some q → known ≡ Some q.functions) → known ≡ Some p.functions
@@ -198,7 +199,7 @@ body_kept t s c f (Some b) h =
     (function_kept (known_in t f b) (within s c) f b (addressed_in c f b) (parameters_in c f) (statements_locals (body_context c f) b) h) (λ g. is_kept (Some (g ∷ [])))
 
 pub functions_same : (t : Tables) (s : Scope) (ds : UnitTree) (c : Context) → BodiesAt t s c ds → (p : TypedProgram) → declarations_typed (within s c) ds ≡ Some p → functions_known t ds ≡ Some p.functions
-functions_same t s [] c h p e = ap (λ (p : TypedProgram). Some p.functions) (same (record { functions = []; blocks = [] }) p e)
+functions_same t s [] c h p e = ap (λ (p : TypedProgram). Some p.functions) (same_Some (record { functions = []; blocks = [] }) p e)
 functions_same t s (structure d ∷ ds) c h p e =
     alone (functions_known t ds) (declarations_typed (within s (after_struct c d)) ds) [] p e (functions_same t s ds (after_struct c d) h)
 functions_same t s (forward d ∷ ds) c h p e = alone (functions_known t ds) (declarations_typed (within s (with_tag c d.name)) ds) [] p e (functions_same t s ds (with_tag c d.name) h)

@@ -1,6 +1,7 @@
 -- The functions of a well typed unit that are found by the numbers of its nodes are those of its typed tree.
 use Rattle.std.proofs.Common.{◌≡◌, ℕ, zero, suc, Bool, true, false, List, [], ◌∷◌, ◌++◌, Option, Some, None, map, refl, sym, ap, ◌∙◌, subst, arith, if◌then◌else◌}
 use Rattle.std.specs.List.{slice_get}
+use Rattle.std.proofs.lemmas.Option.{same_Some}
 use Rattle.qs_memory.specs.Partial.{◌>>=◌}
 use Rattle.qs_base.specs.Bytes.{same_bytes}
 use Rattle.qs_syntax.specs.declared.nodes.Node.{Node}
@@ -27,7 +28,7 @@ use Rattle.qs_typed.specs.UnitLaws.{IsNumberedUnit}
 use Rattle.qs_typed.proofs.UnitContexts.{GoesTo}
 use Rattle.qs_typed_units.specs.TablesOf.{AreOf}
 use Rattle.qs_typed.specs.UnitVariables.{unit_variables, variables_known}
-use Rattle.qs_typed_nodes.proofs.KeptAgreement.{nothing, same}
+use Rattle.qs_typed_nodes.proofs.KeptAgreement.{nothing}
 use Rattle.qs_typed.proofs.KnownNodes.{Each, StandsIn}
 use Rattle.qs_typed.proofs.KnownBodies as bodies
 use Rattle.qs_typed.proofs.UnitGiven.{start_given}
@@ -77,7 +78,7 @@ functions_are unit t h p e = go (declarations_typed (start_scope unit) unit) (fu
     go : (o : Option TypedProgram) → ((q : TypedProgram) → o ≡ Some q → functions_known t unit ≡ Some q.functions)
         → (o >>= λ (u : TypedProgram). Some (record u { blocks = u.blocks ++ map initial.text_block (literal_blocks unit) })) ≡ Some p → functions_known t unit ≡ Some p.functions
     go None k r = nothing p r
-    go (Some q) k r = k q refl ∙ ap (λ (p : TypedProgram). Some p.functions) (same (record q { blocks = q.blocks ++ map initial.text_block (literal_blocks unit) }) p r)
+    go (Some q) k r = k q refl ∙ ap (λ (p : TypedProgram). Some p.functions) (same_Some (record q { blocks = q.blocks ++ map initial.text_block (literal_blocks unit) }) p r)
 
 -- ---- of tables that are those of the unit
 
@@ -88,7 +89,7 @@ bodies_of unit w n m t h =
 
 pub typed_are : (unit : UnitTree) → WellTyped unit → IsByNumber declared_type type_of unit (unit_types unit) → IsByNumber no_referent referent_of unit (unit_referents unit) → (t : Tables) → AreOf t unit
     → (fs : List Function) → functions_known t unit ≡ Some fs → (p : TypedProgram) → typed_of unit ≡ Some p → p.functions ≡ fs
-typed_are unit w n m t h fs e p q = same p.functions fs (sym (functions_are unit t (bodies_of unit w n m t h) p q) ∙ e)
+typed_are unit w n m t h fs e p q = same_Some p.functions fs (sym (functions_are unit t (bodies_of unit w n m t h) p q) ∙ e)
 
 pub variables_are : (unit : UnitTree) → WellTyped unit → IsByNumber declared_type type_of unit (unit_types unit) → IsByNumber no_referent referent_of unit (unit_referents unit) → (t : Tables) → AreOf t unit
     → variables_known t unit ≡ unit_variables unit

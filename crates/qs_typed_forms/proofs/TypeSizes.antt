@@ -1,11 +1,9 @@
 -- Sizes of types.
 use Rattle.std.proofs.Common.{◌≡◌, Bool, true, false, Option, Some, None, nat_le, refl, sym, ap, ◌∙◌, if◌then◌else◌}
+use Rattle.std.proofs.lemmas.Option.{same_Some}
 use Rattle.qs_types.specs.declared.extent.Extent.{Extent}
 use Rattle.qs_types.specs.Types.{TypeTree, int, unsigned, char, void, pointer, array, struct, Structs}
 use Rattle.qs_types.specs.Layout.{and_then, Layouts, StructLayout, extent_by, extent_of, sized_by, layout_of, extent_within, array_extent, struct_extent, size_limit}
-
-same : {A : Type 0} (x y : A) → Some x ≡ Some y → x ≡ y
-same x y e = cc
 
 nothing : {A B : Type 0} (x : A) → None ≡ Some x → B
 nothing x e = absurd (no x e)
@@ -17,7 +15,7 @@ within_is : (x e : Extent) → extent_within x ≡ Some e → x ≡ e
 within_is x e = go (nat_le x.size size_limit)
   where
     go : (b : Bool) → (if b then Some x else None) ≡ Some e → x ≡ e
-    go true p = same x e p
+    go true p = same_Some x e p
     go false p = nothing e p
 
 -- a size within the limit is the size

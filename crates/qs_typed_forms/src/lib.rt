@@ -1,4 +1,5 @@
-//! What an expression is before it is known how it is used; sizes of types and conversions.
+//! What an expression is before it is known how it is used, its uses, sizes of types, and
+//! conversions.
 #![tactic(auto)]
 
 mod forms;

@@ -1,6 +1,8 @@
 -- Blanks of structs, one member at a time.
 use Rattle.std.proofs.Common.{◌≡◌, ℕ, zero, suc, ◌+◌, ◌-◌, ◌<◌, ◌≤◌, List, [], ◌∷◌, ◌++◌, Option, Some, length, map, drop, sym, ap, ◌∙◌, add-one, arith}
 use Rattle.std.specs.List.{slice_get}
+use Rattle.std.proofs.lemmas.List.{drop_all}
+use Rattle.std.proofs.lemmas.Option.{same_Some}
 use Rattle.qs_memory.specs.Partial.{◌>>=◌}
 use Rattle.qs_memory.specs.Memory.{BlankTree, zeros, nothing, joined}
 use Rattle.qs_memory.specs.BlankOf.{joined_of}
@@ -12,7 +14,7 @@ use Rattle.qs_types.specs.TypeOf.{type_tree}
 use Rattle.qs_meaning.specs.Blanks.{Blanks, blank_by, members_blank, struct_blank, blanks_within}
 use Rattle.qs_typed_nodes.specs.Behind.{behind}
 use Rattle.qs_typed_nodes.proofs.KeptAgreement as options
-use Rattle.qs_typed_nodes.proofs.Loops.{before_more, drop_past, all_blanks, member_turn}
+use Rattle.qs_typed_nodes.proofs.Loops.{before_more, all_blanks, member_turn}
 
 -- ---- members by their places
 
@@ -22,7 +24,7 @@ record Dropped (es : List (List ℕ × CType)) (i : ℕ) (t : CType) : Type 0 wh
 
 dropped : (es : List (List ℕ × CType)) (i : ℕ) (t : CType) → slice_get (map (λ e. e.1) es) i ≡ Some t → Dropped es i t
 dropped [] i t e = options.nothing t e
-dropped (p ∷ es) zero t e = record { name = p.0; is = (λ j. (p.0, options.same p.1 t e j) ∷ es) ∙ ap (λ n. (p.0, t) ∷ drop n (p ∷ es)) (sym (add-one zero)) }
+dropped (p ∷ es) zero t e = record { name = p.0; is = (λ j. (p.0, same_Some p.1 t e j) ∷ es) ∙ ap (λ n. (p.0, t) ∷ drop n (p ∷ es)) (sym (add-one zero)) }
 dropped (p ∷ es) (suc i) t e =
     let r : Dropped es i t = dropped es i t e in
     record { name = r.name; is = r.is ∙ ap (λ n. (r.name, t) ∷ drop n es) (add-one i) ∙ ap (λ n. (r.name, t) ∷ drop n (p ∷ es)) (sym (add-one (suc i))) }
@@ -43,7 +45,7 @@ blank_turn structs blanks es os i at size o n end t b done new whole h e f p q r
 pub blank_finish : (structs : Structs) (blanks : Blanks) (es : List (List ℕ × CType)) (os : List ℕ) (i at size : ℕ) (done all : List BlankTree) (whole : Option BlankTree)
     → whole ≡ behind joined done (members_blank structs blanks at size (map member_tree (drop i es)) (drop i os)) → length es ≤ i → all ≡ done ++ zeros (size - at) ∷ [] → whole ≡ Some (joined_of all)
 blank_finish structs blanks es os i at size done all whole h l p =
-    h ∙ ap (λ ds. behind joined done (members_blank structs blanks at size (map member_tree ds) (drop i os))) (drop_past es i l)
+    h ∙ ap (λ ds. behind joined done (members_blank structs blanks at size (map member_tree ds) (drop i os))) (drop_all i es l)
     ∙ ap Some (sym (before_more joined done (zeros (size - at)) nothing) ∙ all_blanks (done ++ zeros (size - at) ∷ []) ∙ ap joined_of (sym p))
 
 -- ---- structs

@@ -3,15 +3,13 @@ use Rattle.std.proofs.Common.{◌≡◌, Bool, true, false, Option, Some, None, 
 use Rattle.qs_memory.specs.Partial.{◌>>=◌}
 use Rattle.qs_types.specs.Layout.{and_then}
 use Rattle.qs_typed_nodes.specs.Agrees.{Keeps}
+pub use Rattle.std.proofs.lemmas.Option.{same_Some as same}
 
 pub nothing : {A B : Type 0} (x : A) → None ≡ Some x → B
 nothing x e = absurd (no x e)
   where
     no : {A : Type 0} (x : A) → None ≡ Some x → ⊥
     no x e = cc
-
-pub same : {A : Type 0} (x y : A) → Some x ≡ Some y → x ≡ y
-same x y e = cc
 
 -- where the next step knows what was had
 pub kept_by : {A B : Type 0} (o p : Option A) (f g : A → Option B) → Keeps o p → ((x : A) → o ≡ Some x → Keeps (f x) (g x)) → Keeps (o >>= f) (p >>= g)

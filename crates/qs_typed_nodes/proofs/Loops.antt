@@ -1,8 +1,8 @@
 -- Loops that build from the left what is defined from the right.
-use Rattle.std.proofs.Common.{◌≡◌, ℕ, zero, suc, ◌+◌, ◌-◌, ◌<◌, ◌≤◌, List, [], ◌∷◌, ◌++◌, Option, Some, None, length, map, drop, get_or, drop-cons, refl, sym, ap, ◌∙◌, append_assoc, add-one, arith}
+use Rattle.std.proofs.Common.{◌≡◌, ℕ, ◌+◌, ◌-◌, ◌<◌, ◌≤◌, List, [], ◌∷◌, ◌++◌, Option, Some, None, length, map, drop, get_or, drop-cons, refl, sym, ap, ◌∙◌, append_assoc, add-one}
 use Rattle.std.specs.List.{slice_get}
 use Rattle.std.proofs.lemmas.Option.{slice_get_within, get_or_from_slice_get}
-use Rattle.std.proofs.lemmas.List.{map-append}
+use Rattle.std.proofs.lemmas.List.{map-append, drop_all}
 use Rattle.qs_memory.specs.Partial.{◌>>=◌}
 use Rattle.qs_memory.specs.declared.scalar.Scalar.{Scalar}
 use Rattle.qs_syntax.specs.declared.expressions.Expr.{Expr}
@@ -23,6 +23,7 @@ use Rattle.qs_meaning.specs.Conversions.{scalar_of}
 use Rattle.qs_meaning.specs.Units.{scalars_of}
 use Rattle.qs_typed_nodes.specs.Behind.{before, behind, followed}
 use Rattle.qs_typed_nodes.specs.Known.{Known, known, with_conversion, with_argument, arguments_known}
+pub use Rattle.std.proofs.lemmas.List.{drop_more as drop_read}
 
 -- ---- one element more
 
@@ -39,17 +40,8 @@ behind_more cons xs x (Some b) = ap Some (before_more cons xs x b)
 pub drop_item : {A : Type 0} (xs : List A) (i : ℕ) (x : A) → i < length xs → x ≡ get_or xs i x → drop i xs ≡ x ∷ drop (i + 1) xs
 drop_item xs i x h e = drop-cons xs i x h ∙ (λ j. sym e j ∷ drop (sym (add-one i) j) xs)
 
-pub drop_read : {A : Type 0} (xs : List A) (i : ℕ) (d : A) → i < length xs → drop i xs ≡ get_or xs i d ∷ drop (i + 1) xs
-drop_read xs i d h = drop-cons xs i d h ∙ ap (λ j. get_or xs i d ∷ drop j xs) (sym (add-one i))
-
 pub drop_got : {A : Type 0} (xs : List A) (i : ℕ) (x : A) → slice_get xs i ≡ Some x → drop i xs ≡ x ∷ drop (i + 1) xs
 drop_got xs i x e = drop_item xs i x (slice_get_within xs i x e) (sym (get_or_from_slice_get xs i x x e))
-
-pub drop_past : {A : Type 0} (xs : List A) (i : ℕ) → length xs ≤ i → drop i xs ≡ []
-drop_past [] zero h = refl
-drop_past [] (suc i) h = refl
-drop_past (x ∷ xs) zero h = absurd (omega arith)
-drop_past (x ∷ xs) (suc i) h = drop_past xs i (omega arith)
 
 pub pushed : {A B : Type 0} (f : A → B) (new old : List A) (x : A) → new ≡ old ++ x ∷ [] → map f new ≡ map f old ++ f x ∷ []
 pushed f new old x e = ap (map f) e ∙ map-append f old (x ∷ [])
@@ -68,7 +60,7 @@ turn cons one rest xs i item done new x whole h d e f p =
 -- nothing is left
 pub finish : {A X B : Type 0} (cons : X → B → B) (rest : List A → Option B) (xs : List A) (i : ℕ) (done : List X) (b : B) (whole : Option B)
     → whole ≡ behind cons done (rest (drop i xs)) → length xs ≤ i → rest [] ≡ Some b → whole ≡ Some (before cons done b)
-finish cons rest xs i done b whole h l e = h ∙ ap (λ ys. behind cons done (rest ys)) (drop_past xs i l) ∙ ap (behind cons done) e
+finish cons rest xs i done b whole h l e = h ∙ ap (λ ys. behind cons done (rest ys)) (drop_all i xs l) ∙ ap (behind cons done) e
 
 -- ---- the whole
 
@@ -98,7 +90,7 @@ arguments_turn k ps es i s e a done new whole h d q f p =
 pub arguments_finish : (k : Known) (ps : List Scalar) (es : List Expr) (i : ℕ) (done : List ArgumentTree) (whole : Option trees.Arguments)
     → whole ≡ behind with_argument done (arguments_known k (drop i ps) (exprs_tree (drop i es))) → length ps ≤ i → length es ≤ i → whole ≡ Some (arguments_of done)
 arguments_finish k ps es i done whole h l m =
-    h ∙ (λ j. behind with_argument done (arguments_known k (drop_past ps i l j) (exprs_tree (drop_past es i m j)))) ∙ ap Some (all_arguments done)
+    h ∙ (λ j. behind with_argument done (arguments_known k (drop_all i ps l j) (exprs_tree (drop_all i es m j)))) ∙ ap Some (all_arguments done)
 
 -- ---- pieces, some at a time
 

@@ -17,6 +17,7 @@ use Rattle.qs_typed_nodes.specs.Known.{parameters_of}
 use Rattle.qs_typed_nodes.specs.KnownOf.{headers_tree}
 use Rattle.std.specs.Prelude.{◌++◌}
 use Rattle.std.proofs.lemmas.List.Elements.{filter-append}
+use Rattle.std.proofs.lemmas.Option.{same_Some}
 use Rattle.qs_types.specs.Placed.{Local, is_placed}
 use Rattle.qs_meaning.specs.Names.{Locals}
 use Rattle.qs_meaning.specs.Units.{nodes_of, placed_among, plain_among}
@@ -59,14 +60,11 @@ tag_found tag tags i e = sym (tag_position tag tags) ∙ e
 
 -- ---- headers
 
-same : {A : Type 0} (x y : A) → Some x ≡ Some y → x ≡ y
-same x y e = cc
-
 -- the table that is looked up goes on as the list does
 found_first : (node : ℕ) (h : ℕ × Vec Scalar Global) (hs : List (ℕ × Vec Scalar Global)) (ps : Vec Scalar Global) (b : Bool) → cond b (Some h.1) (lookup (nat_eq node) hs) ≡ Some ps
     → (lookup (nat_eq node) hs ≡ Some ps → parameters_of node (headers_tree hs) ≡ Some ps.items)
     → (if b then Some h.1.items else parameters_of node (headers_tree hs)) ≡ Some ps.items
-found_first node h hs ps true e rest = ap (λ (v : Vec Scalar Global). Some v.items) (same h.1 ps e)
+found_first node h hs ps true e rest = ap (λ (v : Vec Scalar Global). Some v.items) (same_Some h.1 ps e)
 found_first node h hs ps false e rest = rest e
 
 pub header_found : (node : ℕ) (hs : List (ℕ × Vec Scalar Global)) (ps : Vec Scalar Global) → lookup (nat_eq node) hs ≡ Some ps

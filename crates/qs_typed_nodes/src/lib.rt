@@ -1,4 +1,5 @@
-//! What is known in a unit by the numbers of its nodes, and of the parts of objects.
+//! What is known in a unit by the numbers of its nodes, the typed tree over that, and the parts of
+//! objects.
 #![tactic(auto)]
 
 mod blanks;

@@ -1,4 +1,4 @@
-//! What operators make of the forms of their operands.
+//! What operators, assignments and steps by one make of the forms of their operands.
 #![tactic(auto)]
 
 mod assignments;

@@ -1,8 +1,8 @@
 -- Data in the order of their bytes, one after another.
-use Rattle.std.proofs.Common.{◌≡◌, ℕ, zero, suc, ◌+◌, ◌-◌, ◌*◌, ◌/◌, ◌%◌, ◌<◌, ◌≤◌, List, [], ◌∷◌, ◌++◌, Some, length, map, take, drop, refl, sym, ap, ◌∙◌, append_assoc, arith}
+use Rattle.std.proofs.Common.{◌≡◌, ℕ, zero, suc, ◌+◌, ◌-◌, ◌*◌, ◌/◌, ◌%◌, ◌<◌, List, [], ◌∷◌, ◌++◌, Some, length, map, take, drop, refl, sym, ap, ◌∙◌, append_assoc, arith, take_all, drop-drop}
 use Rattle.std.specs.Prelude.{replicate}
 use borrow.Rule.Slice.PartMut.{put_mid}
-use Rattle.std.proofs.lemmas.List.{append-nil, map-append}
+use Rattle.std.proofs.lemmas.List.{append-nil, map-append, take-map, drop-map, length-map}
 use Rattle.qs_memory.specs.Values.{Pointer, null}
 use Rattle.qs_memory.specs.Memory as cells
 use Rattle.qs_memory.specs.Partial.{◌>>=◌}
@@ -20,16 +20,6 @@ use Rattle.qs_meaning.specs.InitialValues.{array_cells, length_in, text_cells, w
 use Rattle.qs_typed_units.specs.CellsOf.{cell_tree}
 
 -- ---- lists
-
-pub map_take : {A B : Type 0} (f : A → B) (n : ℕ) (xs : List A) → map f (take n xs) ≡ take n (map f xs)
-map_take f zero xs = refl
-map_take f (suc n) [] = refl
-map_take f (suc n) (x ∷ xs) = ap (λ rest. f x ∷ rest) (map_take f n xs)
-
-pub map_drop : {A B : Type 0} (f : A → B) (n : ℕ) (xs : List A) → map f (drop n xs) ≡ drop n (map f xs)
-map_drop f zero xs = refl
-map_drop f (suc n) [] = refl
-map_drop f (suc n) (x ∷ xs) = map_drop f n xs
 
 -- ---- the same so many times
 
@@ -86,12 +76,6 @@ nulls_more whole bytes a n m cs e =
 pub once_more : (new old start cs : List cells.Cell) (n : ℕ) → new ≡ old ++ cs → old ≡ start ++ times n cs → new ≡ start ++ times (n + 1) cs
 once_more new old start cs n e f = e ∙ ap (λ x. x ++ cs) f ∙ append_assoc start (times n cs) cs ∙ ap (λ rest. start ++ rest) (times_last n cs)
 
-take_all : {A : Type 0} (n : ℕ) (xs : List A) → length xs ≤ n → take n xs ≡ xs
-take_all zero [] h = refl
-take_all zero (x ∷ xs) h = absurd (omega arith)
-take_all (suc n) [] h = refl
-take_all (suc n) (x ∷ xs) h = ap (λ rest. x ∷ rest) (take_all n xs (omega arith))
-
 pub zeros_more : (whole : List cells.Cell) (bs new : List ℕ) (len n nulls : ℕ) (cs : List cells.Cell) → nulls ≡ 0 → length bs ≡ len → new ≡ take (len + n) bs ++ replicate (len + n - len) 0
     → whole ++ (map cells.byte new ++ times nulls cs) ≡ (whole ++ (map cells.byte bs ++ times nulls cs)) ++ times n (cells.byte 0 ∷ [])
 zeros_more whole bs new len n nulls cs e l h =
@@ -115,32 +99,14 @@ part_more contents begun p k e =
 
 -- ---- cells over others
 
-drop_drop : {A : Type 0} (m n : ℕ) (xs : List A) → drop m (drop n xs) ≡ drop (n + m) xs
-drop_drop m zero xs =
-    let e : m ≡ 0 + m = omega arith in
-    ap (λ k. drop k xs) e
-drop_drop zero (suc n) [] =
-    let e : suc (n + 0) ≡ suc n + 0 = omega arith in
-    ap (λ k. drop k []) e
-drop_drop (suc m) (suc n) [] =
-    let e : suc (n + suc m) ≡ suc n + suc m = omega arith in
-    ap (λ k. drop k []) e
-drop_drop m (suc n) (x ∷ xs) =
-    let e : suc (n + m) ≡ suc n + m = omega arith in
-    drop_drop m n xs ∙ ap (λ k. drop k (x ∷ xs)) e
-
-length_map : {A B : Type 0} (f : A → B) (xs : List A) → length (map f xs) ≡ length xs
-length_map f [] = refl
-length_map f (x ∷ xs) = ap suc (length_map f xs)
-
 pub over : (at k : ℕ) (old new : List Cell) → k ≡ length new → map cell_tree (put_mid at k old new) ≡ written_over (map cell_tree old) at (map cell_tree new)
 over at k old new e =
     map-append cell_tree (take at old) (new ++ drop k (drop at old))
-    ∙ (λ i. map_take cell_tree at old i
+    ∙ (λ i. sym (take-map cell_tree at old) i
     ++ (map-append cell_tree new (drop k (drop at old))
     ∙ ap (λ xs. map cell_tree new ++ xs)
-    (map_drop cell_tree k (drop at old) ∙ ap (drop k) (map_drop cell_tree at old) ∙ drop_drop k at (map cell_tree old)
-    ∙ ap (λ n. drop (at + n) (map cell_tree old)) (e ∙ sym (length_map cell_tree new)))) i)
+    ((sym (drop-map cell_tree k (drop at old))) ∙ ap (drop k) (sym (drop-map cell_tree at old)) ∙ drop-drop k at (map cell_tree old)
+    ∙ ap (λ n. drop (at + n) (map cell_tree old)) (e ∙ sym (length-map new cell_tree)))) i)
 
 -- ---- blanks in code
 
@@ -165,4 +131,4 @@ pub text_taken : (t : TypeTree) (e : ExprTree) (bytes : List ℕ) (n : ℕ) (new
     → array_cells t e ≡ Some (map cell_tree new)
 text_taken t e bytes n new pushed h l p q =
     ap (λ o. o >>= λ bytes. Some (take (length_in t) (text_cells bytes))) h
-    ∙ ap Some (ap (λ k. take k (text_cells bytes)) (sym l) ∙ ap (take n) (sym q) ∙ sym (map_take cell_tree n pushed) ∙ ap (map cell_tree) (sym p))
+    ∙ ap Some (ap (λ k. take k (text_cells bytes)) (sym l) ∙ ap (take n) (sym q) ∙ sym (sym (take-map cell_tree n pushed)) ∙ ap (map cell_tree) (sym p))

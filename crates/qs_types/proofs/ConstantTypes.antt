@@ -1,6 +1,7 @@
 -- The type of an expression that is built as a constant expression is: it is an integer type, and `unsigned` exactly where the operands say so.
-use Rattle.std.proofs.Common.{◌≡◌, ℕ, ◌==◌, Bool, true, false, ◌&&◌, ◌||◌, List, Option, Some, None, refl, sym, subst, if◌then◌else◌}
+use Rattle.std.proofs.Common.{◌≡◌, ℕ, ◌==◌, Bool, true, false, ◌&&◌, ◌||◌, List, Option, Some, None, sym, subst, if◌then◌else◌}
 use Rattle.std.proofs.lemmas.Bool.Decides.{Decides-eqb}
+use Rattle.std.specs.Cmp.{first_so, second_so}
 use Rattle.qs_syntax_vocabulary.specs.declared.operators.UnaryOperator.TheVariants as unaries
 use Rattle.qs_syntax_vocabulary.specs.declared.operators.BinaryOperator.{BinaryOperator}
 use Rattle.qs_syntax_vocabulary.specs.declared.operators.BinaryOperator.TheVariants as binaries
@@ -270,14 +271,6 @@ with_three (Some s) (Some t) (Some u) p q w v judge h g k go = go s t u h g k
 
 -- ---- expressions
 
-left : (a b : Bool) → a && b ≡ true → a ≡ true
-left true b h = refl
-left false b h = absurd (cc)
-
-right : (a b : Bool) → a && b ≡ true → b ≡ true
-right true b h = h
-right false b h = absurd (cc)
-
 unless_typed : (ts : List Test) (t : TypeTree) (u : Bool) → Integer t u → Typed (type_unless ts t) u
 unless_typed ts t u h = go (breaks_one ts)
   where
@@ -288,8 +281,8 @@ unless_typed ts t u h = go (breaks_one ts)
 starred_cast_typed : (c : Context) (base : Base) (stars : ℕ) (a : ExprTree) (t : TypeTree) (u : Bool) → (stars == 0) && is_integer_base base ≡ true → Integer t u → Typed (judged_type (Some (cast_judged c (record { base = base; stars = stars }) a (decayed t)))) (is_unsigned_base base)
 starred_cast_typed c base stars a t u h i =
     subst (λ k. Typed (judged_type (Some (cast_judged c (record { base = base; stars = k }) a (decayed t)))) (is_unsigned_base base))
-    (sym ((Decides-eqb stars 0).0 (left (stars == 0) (is_integer_base base) h)))
-    (cast_typed c base a t u (right (stars == 0) (is_integer_base base) h) i)
+    (sym ((Decides-eqb stars 0).0 (first_so (stars == 0) (is_integer_base base) h)))
+    (cast_typed c base a t u (second_so (stars == 0) (is_integer_base base) h) i)
 
 named_cast_typed : (c : Context) (n : TypeName) (a : ExprTree) (t : TypeTree) (u : Bool) → is_integer_name n ≡ true → Integer t u → Typed (judged_type (Some (cast_judged c n a (decayed t)))) (is_unsigned_base n.base)
 named_cast_typed c n a t u h i = starred_cast_typed c n.base n.stars a t u h i
@@ -319,15 +312,15 @@ mutual
   shape_typed c (trees.unary unaries.Minus a) built = with_one (type_of c a) (is_unsigned a) (is_unsigned a) (λ t. unary_judged c.structs unaries.Minus a t (decayed t)) (constant_typed c a built) (λ t h. minus_typed c.structs a t (is_unsigned a) h)
   shape_typed c (trees.unary unaries.Complement a) built = with_one (type_of c a) (is_unsigned a) (is_unsigned a) (λ t. unary_judged c.structs unaries.Complement a t (decayed t)) (constant_typed c a built) (λ t h. complement_typed c.structs a t (is_unsigned a) h)
   shape_typed c (trees.unary unaries.Not a) built = with_one (type_of c a) (is_unsigned a) false (λ t. unary_judged c.structs unaries.Not a t (decayed t)) (constant_typed c a built) (λ t h. not_typed c.structs a t (is_unsigned a) h)
-  shape_typed c (trees.cast n a) built = with_one (type_of c a) (is_unsigned a) (is_unsigned_base n.base) (λ t. cast_judged c n a (decayed t)) (constant_typed c a (right (is_integer_name n) (is_built a) built)) (λ t h. named_cast_typed c n a t (is_unsigned a) (left (is_integer_name n) (is_built a) built) h)
+  shape_typed c (trees.cast n a) built = with_one (type_of c a) (is_unsigned a) (is_unsigned_base n.base) (λ t. cast_judged c n a (decayed t)) (constant_typed c a (second_so (is_integer_name n) (is_built a) built)) (λ t h. named_cast_typed c n a t (is_unsigned a) (first_so (is_integer_name n) (is_built a) built) h)
   shape_typed c (trees.sizeof_type n) built = size_typed c n
   shape_typed c (trees.binary operator a b) built =
       with_two (type_of c a) (type_of c b) (is_unsigned a) (is_unsigned b) (is_unsigned_by operator (is_unsigned a) (is_unsigned b)) (λ t u. binary_judged c.structs operator a (decayed t) b (decayed u))
-      (constant_typed c a (left (is_built a) (is_built b) built)) (constant_typed c b (right (is_built a) (is_built b) built))
+      (constant_typed c a (first_so (is_built a) (is_built b) built)) (constant_typed c b (second_so (is_built a) (is_built b) built))
       (λ t u h g. binary_typed c.structs operator a b t u (is_unsigned a) (is_unsigned b) h g)
   shape_typed c (trees.conditional d a b) built =
       with_three (type_of c d) (type_of c a) (type_of c b) (is_unsigned d) (is_unsigned a) (is_unsigned b) (is_unsigned a || is_unsigned b) (λ s t u. conditional_judged (decayed s) a (decayed t) b (decayed u))
-      (constant_typed c d (left (is_built d) (is_built a && is_built b) built))
-      (constant_typed c a (left (is_built a) (is_built b) (right (is_built d) (is_built a && is_built b) built)))
-      (constant_typed c b (right (is_built a) (is_built b) (right (is_built d) (is_built a && is_built b) built)))
+      (constant_typed c d (first_so (is_built d) (is_built a && is_built b) built))
+      (constant_typed c a (first_so (is_built a) (is_built b) (second_so (is_built d) (is_built a && is_built b) built)))
+      (constant_typed c b (second_so (is_built a) (is_built b) (second_so (is_built d) (is_built a && is_built b) built)))
       (λ s t u h g k. conditional_typed d a b s t u (is_unsigned d) (is_unsigned a) (is_unsigned b) h g k)

@@ -1,11 +1,12 @@
 -- The extents of types are aligned, and layouts stay where structs are added or given members.
 use Rattle.std.proofs.Common.{◌≡◌, ◌≤◌, inl, inr, ℕ, zero, suc, ◌*◌, ◌%◌, nat_le, List, [], ◌∷◌, Option, Some, None, IfSome, refl, sym, ap, ◌∙◌, subst, arith}
 use Rattle.std.proofs.lemmas.Nat.{mul-mod}
+use Rattle.std.proofs.lemmas.Option.{same_Some}
 use Rattle.qs_types.specs.declared.extent.Extent.{Extent}
 use Rattle.qs_types.specs.Types.{TypeTree, int, unsigned, char, void, pointer, array, struct, MemberTree, Structs}
 use Rattle.qs_types.specs.Layout.{and_then, Layouts, StructLayout, extent_by, extents_by, scalar_extent, array_extent, struct_extent, extent_within, struct_layout, members_layout, member_types, struct_of, layouts_within, layout_of, extent_of, size_of, alignment_of, sized_by, defined_structs, size_limit}
 use Rattle.qs_types.specs.LayoutLaws.{IsAlignment, IsAligned, IsLaidOut, IsSmall, SizesAligned, StructsLaidOut}
-use Rattle.qs_types.proofs.Options.{nothing, same, went, goes, passed}
+use Rattle.qs_types.proofs.Options.{nothing, went, goes, passed}
 use Rattle.qs_types.proofs.Layouts.{Aligned, lays_out}
 
 abbrev pub AlignedLayouts : Layouts → Type 0
@@ -30,32 +31,32 @@ times size n a e = mul-mod size n a ∙ (ap (λ x. (x * (n % a)) % a) e ∙ zero
         low a = grind arith
 
 extent_aligned : (layouts : Layouts) → AlignedLayouts layouts → (t : TypeTree) (e : Extent) → extent_by layouts t ≡ Some e → IsAligned e
-extent_aligned layouts h int e p = subst IsAligned (same (scalar_extent 4) e p) four
-extent_aligned layouts h unsigned e p = subst IsAligned (same (scalar_extent 4) e p) four
-extent_aligned layouts h char e p = subst IsAligned (same (scalar_extent 1) e p) one
+extent_aligned layouts h int e p = subst IsAligned (same_Some (scalar_extent 4) e p) four
+extent_aligned layouts h unsigned e p = subst IsAligned (same_Some (scalar_extent 4) e p) four
+extent_aligned layouts h char e p = subst IsAligned (same_Some (scalar_extent 1) e p) one
 extent_aligned layouts h void e p = nothing e p
-extent_aligned layouts h (pointer t) e p = subst IsAligned (same (scalar_extent 4) e p) four
+extent_aligned layouts h (pointer t) e p = subst IsAligned (same_Some (scalar_extent 4) e p) four
 extent_aligned layouts h (array t n) e p =
     let w = went (extent_by layouts t) (λ element. Some (array_extent element n)) e p in
     let k = extent_aligned layouts h t w.value w.had in
-    subst IsAligned (same (array_extent w.value n) e w.gave) (record { alignment = k.alignment; multiple = times w.value.size n w.value.alignment k.multiple })
+    subst IsAligned (same_Some (array_extent w.value n) e w.gave) (record { alignment = k.alignment; multiple = times w.value.size n w.value.alignment k.multiple })
 extent_aligned layouts h (struct k) e p =
     let w = went (layouts k) (λ l. Some (struct_extent l)) e p in
-    subst IsAligned (same (struct_extent w.value) e w.gave) (h k w.value w.had)
+    subst IsAligned (same_Some (struct_extent w.value) e w.gave) (h k w.value w.had)
 
 none_aligned : Aligned []
 none_aligned i e p = nothing e p
 
 one_more : (e : Extent) (es : List Extent) → IsAlignment e.alignment → Aligned es → Aligned (e ∷ es)
-one_more e es h hs zero f p = subst (λ (z : Extent). IsAlignment z.alignment) (same e f p) h
+one_more e es h hs zero f p = subst (λ (z : Extent). IsAlignment z.alignment) (same_Some e f p) h
 one_more e es h hs (suc i) f p = hs i f p
 
 pub extents_aligned : (layouts : Layouts) → AlignedLayouts layouts → (ts : List TypeTree) (es : List Extent) → extents_by layouts ts ≡ Some es → Aligned es
-extents_aligned layouts h [] es p = subst Aligned (same [] es p) none_aligned
+extents_aligned layouts h [] es p = subst Aligned (same_Some [] es p) none_aligned
 extents_aligned layouts h (t ∷ ts) es p =
     let w = went (extent_by layouts t) (λ e. and_then (extents_by layouts ts) (λ es. Some (e ∷ es))) es p in
     let r = went (extents_by layouts ts) (λ es. Some (w.value ∷ es)) es w.gave in
-    subst Aligned (same (w.value ∷ r.value) es r.gave)
+    subst Aligned (same_Some (w.value ∷ r.value) es r.gave)
     (one_more w.value r.value (extent_aligned layouts h t w.value w.had).alignment (extents_aligned layouts h ts r.value r.had))
 
 layout_aligned : (es : List Extent) → Aligned es → IsAligned (struct_extent (struct_layout es))
@@ -66,7 +67,7 @@ layouts_aligned zero structs k l p = nothing l p
 layouts_aligned (suc depth) structs k l p =
     let m = went (struct_of structs k) (members_layout (layouts_within depth structs)) l p in
     let w = went (extents_by (layouts_within depth structs) (member_types m.value)) (λ es. Some (struct_layout es)) l m.gave in
-    subst (λ l. IsAligned (struct_extent l)) (same (struct_layout w.value) l w.gave)
+    subst (λ l. IsAligned (struct_extent l)) (same_Some (struct_layout w.value) l w.gave)
     (layout_aligned w.value (extents_aligned (layouts_within depth structs) (layouts_aligned depth structs) (member_types m.value) w.value w.had))
 
 pub sizes_aligned : SizesAligned
@@ -122,7 +123,7 @@ members_of_layout zero structs k ms l m p = nothing l p
 members_of_layout (suc depth) structs k ms l m p =
     let w = went (struct_of structs k) (members_layout (layouts_within depth structs)) l p in
     layout_kept (layouts_within depth structs) (layouts_within (suc depth) structs) (layouts_kept depth (suc depth) (omega arith) structs structs (λ k ms e. e)) ms l
-    (ap (members_layout (layouts_within depth structs)) (same ms w.value (sym m ∙ w.had)) ∙ w.gave)
+    (ap (members_layout (layouts_within depth structs)) (same_Some ms w.value (sym m ∙ w.had)) ∙ w.gave)
 
 pub structs_laid_out : StructsLaidOut
 structs_laid_out structs k ms l m p =
@@ -131,7 +132,7 @@ structs_laid_out structs k ms l m p =
     record {
       extents = w.value;
       of_members = w.had;
-      laid_out = subst (λ l. IsLaidOut w.value l) (same (struct_layout w.value) l w.gave) (lays_out w.value aligned);
+      laid_out = subst (λ l. IsLaidOut w.value l) (same_Some (struct_layout w.value) l w.gave) (lays_out w.value aligned);
     }
 
 -- ---- within the limit
@@ -158,11 +159,11 @@ size_within e f p =
     subst (λ (z : Extent). z.size ≤ size_limit) k.is (grind arith)
 
 sized_small : (layouts : Layouts) (t : TypeTree) (e : Extent) → sized_by layouts t ≡ Some e → e.size ≤ size_limit
-sized_small layouts int e p = let s = ap (λ (e : Extent). e.size) (same (scalar_extent 4) e p) in omega arith
-sized_small layouts unsigned e p = let s = ap (λ (e : Extent). e.size) (same (scalar_extent 4) e p) in omega arith
-sized_small layouts char e p = let s = ap (λ (e : Extent). e.size) (same (scalar_extent 1) e p) in omega arith
+sized_small layouts int e p = let s = ap (λ (e : Extent). e.size) (same_Some (scalar_extent 4) e p) in omega arith
+sized_small layouts unsigned e p = let s = ap (λ (e : Extent). e.size) (same_Some (scalar_extent 4) e p) in omega arith
+sized_small layouts char e p = let s = ap (λ (e : Extent). e.size) (same_Some (scalar_extent 1) e p) in omega arith
 sized_small layouts void e p = nothing e p
-sized_small layouts (pointer t) e p = let s = ap (λ (e : Extent). e.size) (same (scalar_extent 4) e p) in omega arith
+sized_small layouts (pointer t) e p = let s = ap (λ (e : Extent). e.size) (same_Some (scalar_extent 4) e p) in omega arith
 sized_small layouts (array t n) e p =
     let w = went (sized_by layouts t) (λ element. extent_within (array_extent element n)) e p in
     size_within (array_extent w.value n) e w.gave

@@ -1,11 +1,12 @@
 -- A layout is made member by member, and no further where the limit is passed.
-use Rattle.std.proofs.Common.{◌≡◌, ◌≤◌, ◌<◌, ℕ, zero, suc, ◌+◌, max, nat_le, drop, length, map, Bool, true, false, List, [], ◌∷◌, ◌++◌, Option, Some, None, refl, sym, ap, ◌∙◌, subst, arith, if◌then◌else◌}
+use Rattle.std.proofs.Common.{◌≡◌, ◌≤◌, ◌<◌, ℕ, zero, suc, ◌+◌, max, nat_le, drop, length, map, Bool, true, false, List, [], ◌∷◌, ◌++◌, Option, Some, None, refl, sym, ap, ◌∙◌, subst, arith, if◌then◌else◌, add-one}
 use Rattle.std.specs.List.{slice_get}
 use Rattle.std.proofs.lemmas.List.{append_assoc, append-nil}
+use Rattle.std.proofs.lemmas.Option.{same_Some}
 use Rattle.qs_types.specs.declared.extent.Extent.{Extent}
 use Rattle.qs_types.specs.Types.{TypeTree}
 use Rattle.qs_types.specs.Layout.{and_then, Layouts, StructLayout, rounded_up, offsets_from, end_from, strictest, struct_layout, size_limit, layout_within, sized_by, all_sized_by, sized_layout, extents_by}
-use Rattle.qs_types.proofs.Options.{nothing, same, went, goes, passed}
+use Rattle.qs_types.proofs.Options.{nothing, went, goes, passed}
 use Rattle.qs_types.proofs.Rounding.{rounds}
 use Rattle.qs_types.proofs.Layouts.{ends_after}
 use Rattle.qs_types.proofs.Extents.{AlignedLayouts, extents_aligned, sized_is}
@@ -151,11 +152,8 @@ sized_is_layout layouts ts l p =
 
 drop_at : {X : Type 0} (xs : List X) (i : ℕ) (x : X) → slice_get xs i ≡ Some x → drop i xs ≡ x ∷ drop (suc i) xs
 drop_at [] i x p = nothing x p
-drop_at (y ∷ ys) zero x p = ap (λ z. z ∷ ys) (same y x p)
+drop_at (y ∷ ys) zero x p = ap (λ z. z ∷ ys) (same_Some y x p)
 drop_at (y ∷ ys) (suc i) x p = drop_at ys i x p
-
-next : (i : ℕ) → suc i ≡ i + 1
-next i = omega arith
 
 abbrev pub From : Layouts → List TypeTree → ℕ → List ℕ → (end alignment : ℕ) → Type 0
 From layouts ts i offsets end alignment = laid_out layouts (drop i ts) offsets end alignment ≡ laid_out layouts ts [] 0 1
@@ -172,7 +170,7 @@ ends_over layouts ts i t offsets end alignment e at so h p over =
 
 pub goes_on : (layouts : Layouts) (ts : List TypeTree) (i : ℕ) (t : TypeTree) (offsets : List ℕ) (end alignment : ℕ) (e : Extent) → slice_get ts i ≡ Some t → From layouts ts i offsets end alignment → sized_by layouts t ≡ Some e → rounded_up end e.alignment + e.size ≤ size_limit → From layouts ts (i + 1) (offsets ++ rounded_up end e.alignment ∷ []) (rounded_up end e.alignment + e.size) (max alignment e.alignment)
 goes_on layouts ts i t offsets end alignment e at so p within =
-    ap (λ k. laid_out layouts (drop k ts) (offsets ++ rounded_up end e.alignment ∷ []) (rounded_up end e.alignment + e.size) (max alignment e.alignment)) (sym (next i))
+    ap (λ k. laid_out layouts (drop k ts) (offsets ++ rounded_up end e.alignment ∷ []) (rounded_up end e.alignment + e.size) (max alignment e.alignment)) (sym (sym (add-one i)))
     ∙ (sym (step_on layouts t (drop (suc i) ts) offsets end alignment e p within)
     ∙ (ap (λ l. laid_out layouts l offsets end alignment) (sym (drop_at ts i t at)) ∙ so))
 

@@ -2,10 +2,11 @@
 use Rattle.std.proofs.Common.{◌≡◌, ◌≤◌, ◌<◌, ℕ, zero, suc, ◌+◌, ◌%◌, inl, inr, List, [], ◌∷◌, Some, max, refl, sym, ap, ◌∙◌, subst, arith, length}
 use Rattle.std.specs.List.{slice_get}
 use Rattle.std.proofs.Math.Nat.{le-max_left, le-max_right}
+use Rattle.std.proofs.lemmas.Option.{same_Some}
 use Rattle.qs_types.specs.declared.extent.Extent.{Extent}
 use Rattle.qs_types.specs.Layout.{rounded_up, offsets_from, end_from, strictest, struct_layout}
 use Rattle.qs_types.specs.LayoutLaws.{IsAlignment, IsLaidOut, Lies}
-use Rattle.qs_types.proofs.Options.{nothing, same}
+use Rattle.qs_types.proofs.Options.{nothing}
 use Rattle.qs_types.proofs.Rounding.{rounds}
 
 abbrev pub Aligned : List Extent → Type 0
@@ -43,7 +44,7 @@ first_placed e es start h at p =
 placed : (es : List Extent) (start i : ℕ) (e : Extent) (at : ℕ) → Aligned es → slice_get es i ≡ Some e → slice_get (offsets_from start es) i ≡ Some at → Placed es start e at
 placed [] start i e at h p q = nothing e p
 placed (x ∷ es) start zero e at h p q =
-    subst (λ y. Placed (x ∷ es) start y at) (same x e p) (first_placed x es start h at (same _ at q))
+    subst (λ y. Placed (x ∷ es) start y at) (same_Some x e p) (first_placed x es start h at (same_Some _ at q))
 placed (x ∷ es) start (suc i) e at h p q =
     let k = placed es (rounded_up start x.alignment + x.size) i e at (rest x es h) p q in
     let r = rounds start x.alignment (positive (h zero x refl)) in
@@ -57,8 +58,8 @@ apart (x ∷ es) start i zero e f at behind lt h p q r s = absurd (omega arith)
 apart (x ∷ es) start zero (suc j) e f at behind lt h p q r s =
     let k = placed es (rounded_up start x.alignment + x.size) j f behind (rest x es h) r s in
     let after = k.after in
-    let o = same _ at q in
-    let z = ap (λ (n : Extent). n.size) (same x e p) in
+    let o = same_Some _ at q in
+    let z = ap (λ (n : Extent). n.size) (same_Some x e p) in
     omega arith
 apart (x ∷ es) start (suc i) (suc j) e f at behind lt h p q r s =
     apart es (rounded_up start x.alignment + x.size) i j e f at behind (omega arith) (rest x es h) p q r s
@@ -67,17 +68,17 @@ apart (x ∷ es) start (suc i) (suc j) e f at behind lt h p q r s =
 second_least : (x : Extent) (es : List Extent) (start : ℕ) (f : Extent) (next n : ℕ) → Aligned es → slice_get es 0 ≡ Some f → slice_get (offsets_from (rounded_up start x.alignment + x.size) es) 0 ≡ Some next → n % f.alignment ≡ 0 → rounded_up start x.alignment + x.size ≤ n → next ≤ n
 second_least x [] start f next n h p q d le = nothing f p
 second_least x (y ∷ es) start f next n h p q d le =
-    let a : y.alignment ≡ f.alignment = ap (λ (n : Extent). n.alignment) (same y f p) in
+    let a : y.alignment ≡ f.alignment = ap (λ (n : Extent). n.alignment) (same_Some y f p) in
     let r = rounds (rounded_up start x.alignment + x.size) y.alignment (positive (h zero y refl)) in
     let least = r.least n (ap (λ k. n % k) a ∙ d) le in
-    let o = same _ next q in
+    let o = same_Some _ next q in
     omega arith
 
 least : (es : List Extent) (start i : ℕ) (e f : Extent) (at next n : ℕ) → Aligned es → slice_get es i ≡ Some e → slice_get (offsets_from start es) i ≡ Some at → slice_get es (suc i) ≡ Some f → slice_get (offsets_from start es) (suc i) ≡ Some next → n % f.alignment ≡ 0 → at + e.size ≤ n → next ≤ n
 least [] start i e f at next n h p q r s d le = nothing e p
 least (x ∷ es) start zero e f at next n h p q r s d le =
-    let o = same _ at q in
-    let z = ap (λ (n : Extent). n.size) (same x e p) in
+    let o = same_Some _ at q in
+    let z = ap (λ (n : Extent). n.size) (same_Some x e p) in
     second_least x es start f next n (rest x es h) r s d (omega arith)
 least (x ∷ es) start (suc i) e f at next n h p q r s d le =
     least es (rounded_up start x.alignment + x.size) i e f at next n (rest x es h) p q r s d le
@@ -95,7 +96,7 @@ strictest_alignment (e ∷ es) h = max_alignment e.alignment (strictest es) (h z
 
 at_most_strictest : (es : List Extent) (i : ℕ) (e : Extent) → slice_get es i ≡ Some e → e.alignment ≤ strictest es
 at_most_strictest [] i e p = nothing e p
-at_most_strictest (x ∷ es) zero e p = let a = ap (λ (n : Extent). n.alignment) (same x e p) in let b = le-max_left x.alignment (strictest es) in omega arith
+at_most_strictest (x ∷ es) zero e p = let a = ap (λ (n : Extent). n.alignment) (same_Some x e p) in let b = le-max_left x.alignment (strictest es) in omega arith
 at_most_strictest (x ∷ es) (suc i) e p = let a = at_most_strictest es i e p in let b = le-max_right x.alignment (strictest es) in omega arith
 
 strict : (a b : ℕ) → IsAlignment a → IsAlignment b → a ≤ b → b % a ≡ 0
@@ -109,7 +110,7 @@ every (e ∷ es) start = ap suc (every es (rounded_up start e.alignment + e.size
 
 first : (es : List Extent) (e : Extent) (at : ℕ) → Aligned es → slice_get es 0 ≡ Some e → slice_get (offsets_from 0 es) 0 ≡ Some at → at ≡ 0
 first [] e at h p q = nothing e p
-first (x ∷ es) e at h p q = sym (same _ at q) ∙ up x.alignment (h zero x refl)
+first (x ∷ es) e at h p q = sym (same_Some _ at q) ∙ up x.alignment (h zero x refl)
   where
     up : (a : ℕ) → IsAlignment a → rounded_up 0 a ≡ 0
     up a (inl e) = ap (rounded_up 0) e

@@ -1,5 +1,6 @@
 -- Options that follow one another, and tests before an answer.
 use Rattle.std.proofs.Common.{◌≡◌, Bool, true, false, Option, Some, None, refl, ap, ◌∙◌, if◌then◌else◌}
+use Rattle.std.proofs.lemmas.Option.{same_Some}
 use Rattle.qs_types.specs.Layout.{and_then}
 
 pub nothing : {A B : Type 0} (x : A) → None ≡ Some x → B
@@ -7,9 +8,6 @@ nothing x e = absurd (no x e)
   where
     no : {A : Type 0} (x : A) → None ≡ Some x → ⊥
     no x e = cc
-
-pub same : {A : Type 0} (x y : A) → Some x ≡ Some y → x ≡ y
-same x y e = cc
 
 -- what an option that goes on had
 pub record Went {A B : Type 0} (o : Option A) (go : A → Option B) (y : B) : Type 0 where
@@ -30,5 +28,5 @@ pub record Passed {A : Type 0} (b : Bool) (x y : A) : Type 0 where
   pub is : x ≡ y
 
 pub passed : {A : Type 0} (b : Bool) (x y : A) → (if b then Some x else None) ≡ Some y → Passed b x y
-passed true x y e = record { test = refl; is = same x y e }
+passed true x y e = record { test = refl; is = same_Some x y e }
 passed false x y e = nothing y e

@@ -2,7 +2,7 @@
 use Rattle.std.proofs.Common.{◌≡◌, ◌<◌, ◌⊎◌, inl, inr, ℕ, zero, suc, Bool, true, false, List, [], ◌∷◌, ◌++◌, Option, Some, None, is_some, map, option_map, slice_set, refl, sym, ap, ◌∙◌, subst, arith, Bor, if◌then◌else◌}
 use Rattle.std.specs.Prelude.{option_copied}
 use Rattle.std.specs.List.{ItemBy}
-use Rattle.std.proofs.lemmas.Option.{slice_get_past, slice_get-get_or}
+use Rattle.std.proofs.lemmas.Option.{slice_get_past, slice_get-get_or, same_Some}
 use Rattle.std.specs.List.{slice_get}
 use Rattle.std.proofs.lemmas.List.{map-append, map-set}
 use Rattle.std.specs.Map.{values_of}
@@ -13,7 +13,7 @@ use Rattle.qs_types.specs.StructsOf.{member_tree, struct_tree, structs_tree, lay
 use Rattle.qs_types.specs.TypeOf.{type_tree}
 use Rattle.qs_types.specs.declared.types.CType.{CType}
 use Rattle.qs_types.specs.declared.structs.StructType.{StructType}
-use Rattle.qs_types.proofs.Options.{nothing, same}
+use Rattle.qs_types.proofs.Options.{nothing}
 use Rattle.qs_types.proofs.LayoutSteps.{sized_is_layout}
 use Rattle.qs_types.proofs.Extents.{Extends, layout_kept, layouts_kept}
 
@@ -36,7 +36,7 @@ set_elsewhere (x ∷ xs) (suc k) (suc j) y other = set_elsewhere xs k j y (λ e.
 one_more : (structs : Structs) (k : ℕ) (ms : List MemberTree) → slice_get structs k ≡ Some None → defined_structs (slice_set structs k (Some ms)) ≡ suc (defined_structs structs)
 one_more [] k ms p = nothing None p
 one_more (None ∷ structs) zero ms p = refl
-one_more (Some old ∷ structs) zero ms p = nothing old (sym (same (Some old) None p))
+one_more (Some old ∷ structs) zero ms p = nothing old (sym (same_Some (Some old) None p))
 one_more (None ∷ structs) (suc k) ms p = one_more structs k ms p
 one_more (Some old ∷ structs) (suc k) ms p = ap suc (one_more structs k ms p)
 

@@ -3,6 +3,7 @@
 use Rattle.std.specs.Prelude.{◌≡◌, ◌≤◌, ℕ, ◌+◌, max, nat_lt, true, List, [], ◌∷◌, ◌++◌, Option, Some, None, length, map, sum_by, if◌then◌else◌}
 use Rattle.std.specs.List.{slice_get}
 use Rattle.std.specs.Option.{option_or}
+use Rattle.qs_base.specs.Parameters.{most_parameters}
 use Rattle.qs_syntax.specs.Nodes.{unit_count}
 use Rattle.qs_syntax.specs.Units.{IsRead}
 use Rattle.qs_syntax.specs.declared.types.Base.{Base}
@@ -55,7 +56,7 @@ first_past_functions limit unit = header_past limit [] unit
 -- ---- parameters of a header
 
 abbrev pub parameter_limit : ℕ
-parameter_limit = 8
+parameter_limit = most_parameters
 
 -- the most of one header
 abbrev pub parameter_count : UnitTree → ℕ

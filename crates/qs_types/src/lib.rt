@@ -1,4 +1,5 @@
-//! The types of the language, how their objects lie in memory, and the typing rules.
+//! The types of the language, how their objects lie in memory, what names stand for, constants, and
+//! the typing rules and limits as definitions.
 #![tactic(auto)]
 
 mod constants;

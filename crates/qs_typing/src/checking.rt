@@ -17,7 +17,7 @@ ghost use Rattle.qs_typing_findings.specs.declared.type_fault.TypeFault.TheVaria
 
 use crate::units::walk_declarations;
 use indexmap::IndexSet;
-use qs_base::{Name, NoMemory};
+use qs_base::{MOST_PARAMETERS, Name, NoMemory};
 use qs_syntax::{Decl, Function, Unit};
 use qs_syntax_copies::copy_unit;
 use qs_types::LimitKind;
@@ -34,9 +34,6 @@ const FUNCTION_LIMIT: usize = 512;
 
 /// The most bytes of data.
 const GLOBAL_LIMIT: u32 = 16_777_216;
-
-/// The most parameters of a function.
-const PARAMETER_LIMIT: usize = 8;
 
 fn first_past_nodes(unit: &Unit) -> Option<u32>
     ensures { result ≡ first_past kinds.Nodes (unit_tree unit.now) }
@@ -66,7 +63,7 @@ fn first_past_functions(alloc: Global, ds: &[Decl]) -> Result<Option<u32>, NoMem
 fn ninth_parameter(f: &Function) -> Option<u32>
     ensures { result ≡ limits.parameter_past limits.parameter_limit (function_tree f.now) }
 {
-    Some(f.parameters.get(PARAMETER_LIMIT)?.node.id)
+    Some(f.parameters.get(MOST_PARAMETERS as usize)?.node.id)
 }
 
 fn first_past_parameters(ds: &[Decl]) -> Option<u32>

@@ -1,5 +1,6 @@
 -- What a walk adds to what was found and noted before: the faults of the parts that it goes over, and what stands in their expressions.
 use Rattle.std.proofs.Common.{◌≡◌, ℕ, ◌+◌, Bool, true, false, ◌&&◌, List, [], ◌∷◌, ◌++◌, Option, Some, None, is_some, flat_map, refl, sym, subst, ap, ◌∙◌, append_assoc, append-nil}
+use Rattle.std.proofs.lemmas.Grind.{flat_map-append}
 use Rattle.qs_syntax.specs.declared.types.Base.{Base}
 use Rattle.qs_syntax.specs.declared.nodes.Node.{Node}
 use Rattle.qs_syntax.specs.Trees.{ExprTree, DeclaratorTree, InitialiserTree, value, list, Initialisers, no_initialisers, initialiser_and, VariableTree, ParameterTree, MembersTree, StartTree, no_start, start_expression, start_declaration, StmtTree, empty, expression, declaration, block, branch, while_loop, do_loop, for_loop, break, continue, return, Stmts, no_stmts, stmt_and, Else, no_else, else_by, StructTree, FunctionTree, DeclTree, structure, forward, function, variables, UnitTree}
@@ -29,10 +30,6 @@ site_addressed s = addressed s.context s.expression
 
 abbrev pub site_calls : Site → List (List ℕ)
 site_calls s = expr_calls s.expression
-
-pub flat_map-append : {A B : Type 0} (g : A → List B) (xs ys : List A) → flat_map g (xs ++ ys) ≡ flat_map g xs ++ flat_map g ys
-flat_map-append g [] ys = refl
-flat_map-append g (x ∷ xs) ys = ap (λ l. g x ++ l) (flat_map-append g xs ys) ∙ sym (append_assoc (g x) (flat_map g xs) (flat_map g ys))
 
 -- a walk adds these faults, and what stands in the expressions of these sites
 pub record Adds (f : WalkTree → WalkTree) (faults : List Fault) (places : List Site) (nodes : NodeTypes) : Type 0 where

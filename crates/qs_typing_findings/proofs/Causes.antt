@@ -1,5 +1,5 @@
 -- A unit is refused for the first of the causes that there are, in their order, and for none exactly where there is none.
-use Rattle.std.proofs.Common.{◌≡◌, ◌≤◌, ◌⊎◌, inl, inr, ℕ, suc, ◌==◌, nat_lt, Bool, true, false, ◌&&◌, ◌||◌, [], Option, Some, None, refl, sym, ap, ◌∙◌, subst, arith, if◌then◌else◌}
+use Rattle.std.proofs.Common.{◌≡◌, ◌≤◌, ◌⊎◌, inl, inr, ℕ, suc, ◌==◌, nat_lt, Bool, true, false, ◌&&◌, ◌||◌, [], Option, Some, None, refl, sym, ap, ◌∙◌, subst, arith, if◌then◌else◌, le_antisymm}
 use Rattle.std.proofs.lemmas.Bool.Decides.{nat_tests}
 use Rattle.std.specs.Option.{option_or}
 use Rattle.qs_syntax.specs.Trees.{UnitTree}
@@ -252,14 +252,11 @@ same_limit unit k kind n m p q e =
     let nodes_alike : n ≡ m = cc in
     λ i. faults.Limit (kinds_alike i) (nodes_alike i)
 
-same_number : (x y : ℕ) → x ≤ y → y ≤ x → x ≡ y
-same_number x y h i = omega arith
-
 same_violation : (unit : UnitTree) (n m : ℕ) (r s : Rule) → IsLeastViolation unit n r → IsLeastViolation unit m s → faults.Rule n r ≡ faults.Rule m s
 same_violation unit n m r s v w =
-    let node : n ≡ m = same_number n m (v.least_node m s w.violates) (w.least_node n r v.violates) in
+    let node : n ≡ m = le_antisymm (v.least_node m s w.violates) (w.least_node n r v.violates) in
     let here : IsLeastViolation unit m r = subst (λ k. IsLeastViolation unit k r) node v in
-    let rule : r ≡ s = numbers_differ r s (same_number (rule_number r) (rule_number s) (here.least_rule s w.violates) (w.least_rule r here.violates)) in
+    let rule : r ≡ s = numbers_differ r s (le_antisymm (here.least_rule s w.violates) (w.least_rule r here.violates)) in
     λ i. faults.Rule (node i) (rule i)
 
 same_cause : (unit : UnitTree) (f g : TypeFault) → HasCause unit f → HasCause unit g → place_of f ≡ place_of g → f ≡ g
@@ -295,4 +292,4 @@ cause_told unit f h least = by (first_refusal unit) refl
     by None e = absurd (no_cause unit e f h)
     by (Some g) e =
         let c = cause_is unit g e in
-        e ∙ ap Some (same_cause unit g f c.is_there h (same_number (place_of g) (place_of f) (c.none_before f h) (least g c.is_there)))
+        e ∙ ap Some (same_cause unit g f c.is_there h (le_antisymm (c.none_before f h) (least g c.is_there)))

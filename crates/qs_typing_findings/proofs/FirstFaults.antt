@@ -2,6 +2,7 @@
 use Rattle.std.proofs.Common.{◌≡◌, ℕ, ◌⊎◌, inl, inr, Bool, true, false, ◌&&◌, ◌||◌, ◌==◌, nat_lt, if◌then◌else◌, List, [], ◌∷◌, Some, None, refl, sym, ap, ◌∙◌, subst, arith}
 use Rattle.std.specs.Cmp.{first_so, second_so}
 use Rattle.std.proofs.lemmas.Bool.Decides.{nat_tests, Decides-eqb}
+use Rattle.std.proofs.lemmas.Bool.{or_cases}
 use Rattle.qs_types.specs.declared.rules.Rule.{Rule}
 use Rattle.qs_types.specs.Rules.{rule_number, same_rule, Fault}
 use Rattle.qs_types.specs.UnitRules.{is_among}
@@ -19,10 +20,6 @@ not_before_self : (f : Fault) → is_before f f ≡ false
 not_before_self f = irreflexive f.node (rule_number f.rule)
 
 -- ---- one of two
-
-either : (a b : Bool) → (a || b) ≡ true → (a ≡ true) ⊎ (b ≡ true)
-either true b h = inl refl
-either false b h = inr h
 
 abbrev fault_at : ℕ → Rule → Fault
 fault_at n r = record { node = n; rule = r }
@@ -88,7 +85,7 @@ least_of g f (x ∷ fs) e =
     record {
       one = one_of g x (lesser (Some g) x) f fs l.one r.one;
       not_g = not_before g (lesser (Some g) x) f l.not_g r.not_g;
-      not_others = λ n k h. none_of g x (lesser (Some g) x) f fs l r.not_g r.not_others n k (either ((x.node == n) && same_rule x.rule k) (is_among n k fs) h);
+      not_others = λ n k h. none_of g x (lesser (Some g) x) f fs l r.not_g r.not_others n k (or_cases ((x.node == n) && same_rule x.rule k) (is_among n k fs) h);
     }
 
 some_left : (g : Fault) (fs : List Fault) → least_with (Some g) fs ≡ None → ⊥
@@ -107,7 +104,7 @@ first_found (x ∷ fs) f e =
     let r : LeastOf x fs f = least_of x f fs e in
     record {
       found = elim r.one [ inl q ↦ at_head f x fs q | inr i ↦ behind x f.node f.rule fs i ];
-      least = λ n k h. by n k (either ((x.node == n) && same_rule x.rule k) (is_among n k fs) h) r;
+      least = λ n k h. by n k (or_cases ((x.node == n) && same_rule x.rule k) (is_among n k fs) h) r;
     }
   where
     by : (n : ℕ) (k : Rule) → ((((x.node == n) && same_rule x.rule k) ≡ true) ⊎ (is_among n k fs ≡ true)) → LeastOf x fs f → is_before (fault_at n k) f ≡ false

@@ -1,5 +1,6 @@
 -- A function's name stands for the latest header of that name; putchar and getchar have the types that they are given with.
 use Rattle.std.proofs.Common.{◌≡◌, ℕ, Bool, true, false, List, [], ◌∷◌, ◌++◌, Option, Some, None, is_some, refl, sym, ap, ◌∙◌, subst, append_assoc, append-nil, slice_get, if◌then◌else◌}
+use Rattle.std.proofs.lemmas.Option.{same_Some}
 use Rattle.qs_syntax.specs.declared.types.Base.{Base}
 use Rattle.qs_base.specs.Bytes.{same_bytes}
 use Rattle.qs_syntax.specs.Trees.{VariableTree, ParameterTree, StructTree, FunctionTree, structure, forward, function, variables, UnitTree}
@@ -38,9 +39,6 @@ declared_here (Some (file_variable k t)) n m s r b d e = (cc, cc)
 declared_here (Some (contexts.function k q earlier)) n m s r b d e = (cc, cc)
 declared_here (Some (given g)) n m s r b d e = absurd (cc)
 
-some_is : {A : Type 0} (x y : A) → Some x ≡ Some y → x ≡ y
-some_is x y e = cc
-
 now_latest : (c : Context) (f : FunctionTree) (hs : List FunctionHeader) (x : List ℕ) (node : ℕ) (s : Option Signature) (has_body : Bool) → same_bytes f.name x ≡ true
     → declared_function (lookup f.name c.inner) f.node.id (signature_by (header_of c f)) (is_some f.body) ≡ contexts.function node s has_body
     → IsLatest (hs ++ header_at c f ∷ []) x node s
@@ -60,7 +58,7 @@ function_latest c f hs l = record { each = λ x node s has_body e. by x node s h
         → IsLatest (hs ++ header_at c f ∷ []) x node s
     by x node s has_body true same e =
         now_latest c f hs x node s has_body same
-        (some_is (declared_function (lookup f.name c.inner) f.node.id (signature_by (header_of c f)) (is_some f.body)) (contexts.function node s has_body) e)
+        (same_Some (declared_function (lookup f.name c.inner) f.node.id (signature_by (header_of c f)) (is_some f.body)) (contexts.function node s has_body) e)
     by x node s has_body false other e = still_latest hs (header_at c f) x node s other (l.each x node s has_body e)
 
 -- ---- what declares no function
@@ -85,7 +83,7 @@ pub name_same : (c : Context) (y : List ℕ) (e : Entity) → is_called e ≡ fa
 name_same c y e none = record { same = λ x f called p. by x f called (same_bytes y x) p }
   where
     by : (x : List ℕ) (f : Entity) → is_called f ≡ true → (b : Bool) → (if b then Some e else entity_of c x) ≡ Some f → entity_of c x ≡ Some f
-    by x f called true p = absurd (let q : true ≡ false = sym called ∙ ap is_called (sym (some_is e f p)) ∙ none in cc)
+    by x f called true p = absurd (let q : true ≡ false = sym called ∙ ap is_called (sym (same_Some e f p)) ∙ none in cc)
     by x f called false p = p
 
 variable_none : (at_file_scope : Bool) (n : ℕ) (t : Option TypeTree) → is_called (entity_at at_file_scope n t) ≡ false
@@ -209,7 +207,7 @@ function_given c f g = record { each = λ x s e. by x s (same_bytes f.name x) re
     by : (x : List ℕ) (s : Signature) (b : Bool) → same_bytes f.name x ≡ b → (if b then Some declared else entity_of c x) ≡ Some (given s) → s ≡ given_type x
     by x s true same e =
         let before : lookup f.name c.inner ≡ Some (given s) =
-        still_given (lookup f.name c.inner) f.node.id (signature_by (header_of c f)) (is_some f.body) s (some_is declared (given s) e) in
+        still_given (lookup f.name c.inner) f.node.id (signature_by (header_of c f)) (is_some f.body) s (same_Some declared (given s) e) in
         g.each f.name s (found_within f.name c.inner c.outer (given s) before) ∙ ap given_type ((bytes_exact f.name x).0 same)
     by x s false other e = g.each x s e
 

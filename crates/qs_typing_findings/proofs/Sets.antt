@@ -3,6 +3,7 @@ use Rattle.std.proofs.Common.{◌≡◌, ℕ, ◌==◌, Bool, true, false, not, 
 use Rattle.std.specs.List.{list_any}
 use Rattle.std.specs.Cmp.{IsEquivalence}
 use Rattle.std.proofs.lemmas.Cmp.{nat_list_eq_equiv, nat_eq_equiv}
+use Rattle.std.proofs.Math.Bool.{or-false, or-true, or_assoc}
 use Rattle.indexmap.specs.IndexSet.{insert_all, insert_key}
 use Rattle.qs_base.specs.Bytes.{same_bytes}
 use Rattle.qs_syntax.specs.Trees.{structure, forward, function, variables, UnitTree}
@@ -13,21 +14,9 @@ use Rattle.qs_types.specs.WellTyped.{undefined_from}
 use Rattle.qs_typing_findings.specs.Noted.{LocalTree, is_block, local_past_by}
 use Rattle.qs_typing_findings.specs.Sets.{nodes_once, names_once}
 
-or_false : (a : Bool) → (a || false) ≡ a
-or_false true = refl
-or_false false = refl
-
-or_true : (a : Bool) → (a || true) ≡ true
-or_true true = refl
-or_true false = refl
-
-or_or : (a b c : Bool) → ((a || b) || c) ≡ (a || (b || c))
-or_or true b c = refl
-or_or false b c = refl
-
 any_behind : {K : Type 0} (test : K → Bool) (ks : List K) (y : K) → list_any test (ks ++ y ∷ []) ≡ (list_any test ks || test y)
-any_behind test [] y = or_false (test y)
-any_behind test (k ∷ ks) y = ap (λ b. test k || b) (any_behind test ks y) ∙ sym (or_or (test k) (list_any test ks) (test y))
+any_behind test [] y = or-false (test y)
+any_behind test (k ∷ ks) y = ap (λ b. test k || b) (any_behind test ks y) ∙ sym (or_assoc (test k) (list_any test ks) (test y))
 
 module _ {K : Type 0} (eq : K → K → Bool) (laws : IsEquivalence eq) where
   same_any : (x y : K) (ks : List K) → eq x y ≡ true → list_any (eq x) ks ≡ list_any (eq y) ks
@@ -38,16 +27,16 @@ module _ {K : Type 0} (eq : K → K → Bool) (laws : IsEquivalence eq) where
   any_inserted x y ks = by (list_any (eq y) ks) (eq x y) refl refl
     where
       by : (b a : Bool) → list_any (eq y) ks ≡ b → eq x y ≡ a → list_any (eq x) (if b then ks else ks ++ y ∷ []) ≡ (list_any (eq x) ks || a)
-      by true true p q = same_any x y ks q ∙ p ∙ sym (or_true (list_any (eq x) ks))
-      by true false p q = sym (or_false (list_any (eq x) ks))
+      by true true p q = same_any x y ks q ∙ p ∙ sym (or-true (list_any (eq x) ks))
+      by true false p q = sym (or-false (list_any (eq x) ks))
       by false a p q = any_behind (eq x) ks y ∙ ap (λ b. list_any (eq x) ks || b) q
 
   all_inserted : (x : K) (ks xs : List K) → list_any (eq x) (insert_all eq ks xs) ≡ (list_any (eq x) ks || list_any (eq x) xs)
-  all_inserted x ks [] = sym (or_false (list_any (eq x) ks))
+  all_inserted x ks [] = sym (or-false (list_any (eq x) ks))
   all_inserted x ks (y ∷ ys) =
       all_inserted x (insert_key eq ks y) ys
       ∙ ap (λ b. b || list_any (eq x) ys) (any_inserted x y ks)
-      ∙ or_or (list_any (eq x) ks) (eq x y) (list_any (eq x) ys)
+      ∙ or_assoc (list_any (eq x) ks) (eq x y) (list_any (eq x) ys)
 
   among_once : (x : K) (xs : List K) → list_any (eq x) (insert_all eq [] xs) ≡ list_any (eq x) xs
   among_once x xs = all_inserted x [] xs

@@ -1,4 +1,5 @@
-//! What typing finds: what names stand for, the types of expressions, and a unit with its types.
+//! What typing finds: what names stand for, the types of expressions, the rules that are broken in
+//! them, a unit with its types, and the causes of refusals.
 #![tactic(auto)]
 
 mod assignments;

@@ -29,13 +29,13 @@ use Rattle.qs_driver_session.specs.declared.status.Status.TheVariants.{Done, Tra
 use Rattle.qs_driver_session.proofs.LaterLaws.{both_untouched, unread_later, was_read_before}
 use Rattle.qs_driver_session.proofs.StartingLaws.{no_load, stands_at}
 use Rattle.qs_driver_session.proofs.StepsLaws.{due_of, put_goes_on, put_fails, log_last, then_log, out_fails}
-use Rattle.qs_driver.specs.Bounds.{bytes_by, if_finite, seen_runs}
+use Rattle.qs_driver.specs.Bounds.{bytes_by, seen_runs}
 use Rattle.qs_driver.specs.Made.{MakeWords, HasMade, IsMade, CannotMake}
 use Rattle.qs_driver.specs.commands.Exec.{ExecWords, names_of, to_make, as_run, exec, after_run, refused_after, HasStack, IsDueAt, IsDueToExec, IsSourcesEnd, CannotExec, HasStarted, Starts, IsFresh}
 use Rattle.qs_driver.specs.commands.Exec as meant
 use Rattle.qs_driver.specs.declared.commands.exec.Started.{Started}
 use Rattle.qs_driver.specs.declared.made.Made.{Made}
-use Rattle.qs_driver.proofs.BoundsLaws.{image_takes}
+use Rattle.qs_driver.proofs.BoundsLaws.{bytes_are, image_takes}
 
 -- ---- how it comes to a machine and its input
 
@@ -124,7 +124,7 @@ module _ {e : ExecWords} {s s' : StoreView} {started : Started} (h : HasStarted 
   agree : Agree (seen_runs h.has_stack.is_made.makes.image_of.compiled.program e.args started.ready.input.items) outcomes
   agree =
       let made = h.has_stack.is_made in
-      let same : bytes_by made.source h.image e.args ≡ Some started.stack = ap if_finite (sym made.is_bound) in
+      let same : bytes_by made.source h.image e.args ≡ Some started.stack = bytes_are made.source h.image e.args started.stack (sym made.is_bound) in
       made.makes.image_of.agrees.agree e.args started.ready.input.items started.stack started.stack (images_arguments made) h.bytes same (omega arith) h.has_stack.small
 
   has_run : {due : Due} → IsDueAt e started.stack (outcomes e.steps) due → IsDueToExec e s s' due

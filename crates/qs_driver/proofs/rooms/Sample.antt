@@ -32,7 +32,7 @@ use Rattle.qs_driver_session.specs.declared.status.Status.TheVariants.{Done, Tra
 use Rattle.qs_driver_session.proofs.StartingLaws.{stands_at}
 use Rattle.qs_driver_session.proofs.rooms.Follows.{untouched}
 use Rattle.qs_driver_session.proofs.StepsLaws.{log_last, out_last}
-use Rattle.qs_driver.specs.Bounds.{IsImageOf, bound_by, bytes_by, costs_in, if_finite, seen_runs}
+use Rattle.qs_driver.specs.Bounds.{IsImageOf, bound_by, bytes_by, costs_in, seen_runs}
 use Rattle.qs_driver.specs.Certified.{IsCertifiedUnit}
 use Rattle.qs_driver.specs.Made.{IsMadeOf}
 use Rattle.qs_driver.specs.commands.Exec.{as_run, IsSourcesEnd}
@@ -42,7 +42,7 @@ use Rattle.qs_driver.specs.declared.certified.CertifiedUnit.{CertifiedUnit}
 use Rattle.qs_driver.specs.declared.commands.sample.SampleStart.{SampleStart}
 use Rattle.qs_driver.specs.declared.commands.sample.SampleEnd.{SampleEnd}
 use Rattle.qs_driver.specs.declared.made.Made.{Made}
-use Rattle.qs_driver.proofs.BoundsLaws.{compiled_is_image, is_compiled}
+use Rattle.qs_driver.proofs.BoundsLaws.{bytes_are, compiled_is_image, is_compiled}
 use Rattle.qs_driver.proofs.CertifiedLaws.{HoldsCertified, holds_certified}
 use Rattle.qs_driver.proofs.rooms.Exec.{sources_end}
 
@@ -119,7 +119,7 @@ module _ {text : List ℕ} {started : SampleStart} (h : HasStarted text started)
   -- the stack is exactly the bound
   agree : Agree (seen_runs h.has_stack.image_of.compiled.program [] []) outcomes
   agree =
-      let same : bytes_by h.source h.image [] ≡ Some started.stack = ap if_finite h.has_stack.bound in
+      let same : bytes_by h.source h.image [] ≡ Some started.stack = bytes_are h.source h.image [] started.stack h.has_stack.bound in
       h.has_stack.image_of.agrees.agree [] [] started.stack started.stack h.has_stack.arguments (λ k d none. omega (arith, none)) same (omega arith) h.has_stack.small
 
   pub ends : IsSourcesEnd h.has_stack.image_of.compiled.program as_exec [] (outcome h.image started.stack)

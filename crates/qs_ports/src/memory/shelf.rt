@@ -1,41 +1,33 @@
 // Files over room that was reserved before.
-ghost use Rattle.std.specs.Prelude.{◌≡◌, ◌+◌, ◌-◌, ◌≤◌, ◌<◌, ◌/◌, ◌++◌};
-ghost use Rattle.std.specs.Prelude.{IsTrue, IfOk, OnOk, OnErr, IsSome, false, vec_len};
-ghost use Rattle.std.specs.Prelude.{vec_capacity};
+ghost use Rattle.std.specs.Prelude.{◌≡◌, ◌+◌, ◌-◌, ◌≤◌, ◌++◌};
+ghost use Rattle.std.specs.Prelude.{IsTrue, IfOk, OnOk, OnErr, IsSome, false};
 ghost use Rattle.std.specs.Prelude.{length, take, drop, min, option_copied, is_some};
-ghost use Rattle.qs_ports.specs.Shelf.{AreIn, AreWithin, OptionIn, OptionWithin, find, newest_end};
-ghost use Rattle.qs_ports.specs.ShelfProps.{are_in_prop, option_in_prop};
+ghost use Rattle.qs_ports.specs.Cells.{room_of};
+ghost use Rattle.qs_ports.specs.Shelf.{HasFiles, IsCurrent, IsWithin, OptionWithin};
+ghost use Rattle.qs_ports.specs.Shelf.{renewed, extended};
+ghost use Rattle.qs_ports.specs.ShelfProps.{is_current_prop};
 ghost use Rattle.qs_ports.specs.StoreView.{file_room};
 
+use crate::memory::cells::{Cells, FILE_ROOM};
 use crate::memory::span::Span;
 use qs_base::NoMemory;
 use std::alloc::Global;
 
-/// What a file takes of the room beside its name and its
-/// content, in bytes: as much as the place where it is noted.
-pub const FILE_ROOM: usize = 24;
-
-const _: () = prove!(size_of::<Span>() <= FILE_ROOM);
-
-/// Files in memory. To create a file or to append to it takes no memory:
-/// names and contents lie, one after the other, in room that was reserved
-/// before. Where that is too small, the shelf is `full`, and doesn't tell its
-/// files from then on. The file that is open for writing is the newest one.
+/// Files in memory. To create a file or to append to it takes no memory: the files lie, one after
+/// the other, in room that was reserved before. Where that is too small, the shelf is `full`, and
+/// doesn't tell its files from then on. The file that is open for writing is the newest one, and
+/// the one that is open for reading the newest of its name.
 #[derive(Drop)]
 pub struct Shelf {
-    pub bytes: Vec<u8>,
-    pub files: Vec<Span>,
+    pub cells: Cells,
     pub spare: usize,
     pub full: bool,
     pub reading: Option<Span>,
     pub place: usize,
     pub writing: bool,
-    ghost room: { vec_len bytes + spare ≤ vec_capacity bytes },
-    ghost slots: { vec_len files + spare / file_room ≤ vec_capacity files },
-    ghost within: { AreIn files.items bytes.items } by { are_in_prop files.items bytes.items },
-    ghost last: { newest_end files.items ≡ length bytes.items },
-    ghost reads: { OptionIn reading bytes.items } by { option_in_prop reading bytes.items },
-    ghost writes: { IsTrue writing → full ≡ false → 0 < vec_len files },
+    ghost room: { spare ≤ room_of cells },
+    ghost reads: { IsCurrent reading cells } by { is_current_prop reading cells },
+    ghost writes: { IsTrue writing → full ≡ false → HasFiles cells },
 }
 
 impl Shelf {
@@ -64,22 +56,13 @@ impl Shelf {
     pub fn new(alloc: Global, entries: &[(String, Vec<u8>)]) -> Result<Shelf, NoMemory>
         ensures { IfOk result (λ s. IsNewStore (shelf_view s 0 0) (files_in entries.now) 0) }
     {
-        let mut bytes = Vec::new(alloc);
-        let mut files = Vec::new(alloc);
+        let mut cells = Cells::new(alloc);
         for (name, content) in entries {
-            let start = bytes.len();
-            bytes.extend_from_slice(name.as_bytes())?;
-            let middle = bytes.len();
-            bytes.extend_from_slice(content)?;
-            files.push(Span {
-                name: start,
-                content: middle,
-                end: bytes.len(),
-            })?;
+            cells.start(name.as_bytes())?;
+            cells.extend(content)?;
         }
         Ok(Shelf {
-            bytes,
-            files,
+            cells,
             spare: 0,
             full: false,
             reading: None,
@@ -88,15 +71,13 @@ impl Shelf {
         })
     }
 
-    /// Has room for at least so many bytes more. Each file that is created uses `FILE_ROOM` of them
-    /// at least, so that the places that are reserved for files take no more memory than the bytes.
+    /// Has room for at least so many bytes more.
     pub fn reserve(&mut self, bytes: usize) -> Result<(), NoMemory>
         ensures reserved { OnOk result (Becomes self.old self.new (λ v. with_store_room v bytes)) }
         ensures refused { OnErr result (Becomes self.old self.new (λ v. v)) }
     {
         if self.spare < bytes {
-            self.bytes.reserve_exact(bytes)?;
-            self.files.reserve_exact(bytes / FILE_ROOM)?;
+            self.cells.reserve(bytes)?;
             self.spare = bytes;
         }
         Ok(())
@@ -108,7 +89,7 @@ impl Shelf {
         ensures opened { Becomes self.old self.new (with_found result name.now) }
     {
         self.place = 0;
-        self.reading = find(&self.bytes, &self.files, name);
+        self.reading = self.cells.find(name);
         self.reading.is_some()
     }
 
@@ -139,15 +120,8 @@ impl Shelf {
             return;
         }
         self.spare -= name.len() + FILE_ROOM;
-        let start = self.bytes.len();
-        self.bytes.extend_from_slice(name).unwrap();
-        let end = self.bytes.len();
-        let file = Span {
-            name: start,
-            content: end,
-            end,
-        };
-        self.files.push(file).unwrap();
+        let file = self.cells.start(name).unwrap();
+        self.reading = renewed(&self.cells, self.reading, file);
     }
 
     /// Appends the piece to the file for writing.
@@ -161,17 +135,17 @@ impl Shelf {
             return;
         }
         self.spare -= piece.len();
-        self.bytes.extend_from_slice(piece).unwrap();
-        let newest = self.files.len() - 1;
-        self.files[newest].end += piece.len();
+        let end = self.cells.bytes.len();
+        self.cells.extend(piece).unwrap();
+        self.reading = extended(self.reading, end, self.cells.bytes.len());
     }
 
     /// The bytes of a file.
     pub fn file(&self, name: &[u8]) -> Option<&[u8]>
         ensures { option_copied result ≡ shelf_files self.now name.now }
     {
-        let file = find(&self.bytes, &self.files, name)?;
-        Some(&self.bytes[file.content..file.end])
+        let file = self.cells.find(name)?;
+        Some(self.cells.content(file))
     }
 
     /// Reads the next bytes of the file for reading, at most so many.
@@ -181,14 +155,10 @@ impl Shelf {
         ensures bytes { FillsBuffer (shelf_view self.old 0 0) into.old into.new result }
         ensures place { Becomes self.old self.new (with_more_read result) }
     {
-        let Some(named) = self.reading else {
+        let Some(file) = self.reading else {
             unreachable!();
         };
-        let name = &self.bytes[named.name..named.content];
-        let content = match find(&self.bytes, &self.files, name) {
-            Some(file) => &self.bytes[file.content..file.end],
-            None => &[],
-        };
+        let content = self.cells.content(file);
         let count = copy_from(content, self.place, into, most);
         self.place += count;
         count
@@ -206,17 +176,26 @@ fn copy_from(content: &[u8], place: usize, into: &mut [u8], most: usize) -> usiz
     count
 }
 
-// The newest file of this name.
-fn find(bytes: &[u8], files: &[Span], name: &[u8]) -> Option<Span>
-    requires { AreWithin files.now (length bytes.now) }
-    ensures found { result ≡ find bytes.now files.now name.now }
-    ensures within { OptionWithin result (length bytes.now) }
+// The file for reading once one was created: that one, where it has the same name.
+fn renewed(cells: &Cells, reading: Option<Span>, created: Span) -> Option<Span>
+    requires reading { OptionWithin reading (length cells.now.bytes.items) }
+    requires created { IsWithin created (length cells.now.bytes.items) }
+    ensures { result ≡ renewed cells.now.bytes.items reading created }
 {
-    let mut found = None;
-    for file in files {
-        if &bytes[file.name..file.content] == name {
-            found = Some(*file);
-        }
+    let file = reading?;
+    if cells.name(file) == cells.name(created) {
+        return Some(created);
     }
-    found
+    Some(file)
+}
+
+// The file for reading once the one that ended at `end` grew, so that it ends at `to`.
+fn extended(reading: Option<Span>, end: usize, to: usize) -> Option<Span>
+    ensures { result ≡ extended reading end to }
+{
+    let mut file = reading?;
+    if file.end == end {
+        file.end = to;
+    }
+    Some(file)
 }

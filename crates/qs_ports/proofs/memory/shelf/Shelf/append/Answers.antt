@@ -1,34 +1,38 @@
-use Rattle.std.proofs.Common.{◌≡◌, ◌++◌, ◌<◌, length, false, refl, rules, arith, length-append, ap, vec_len}
+use Rattle.std.proofs.Common.{◌≡◌, ◌+◌, length, false, refl, rules, arith, length-append, ap}
 use Rattle.std.proofs.lemmas.Grind.{common_steps}
+use Rattle.qs_ports.specs.Cells.{Extends}
+use Rattle.qs_ports.specs.Shelf.{HasFiles}
 use Rattle.qs_ports.specs.ShelfView.{shelf_view}
-use Rattle.qs_ports.proofs.Shelves.{option_within_more}
-use Rattle.qs_ports.proofs.ShelfChanges.{appends, grown_within, grown_end}
+use Rattle.qs_ports.proofs.ShelfChanges.{cells_extend, extended_current, some_files}
 use Rattle.qs_ports.proofs.memory.shelf.Shelf.append.Goals as goal
 
-pub invariant_of-self-2-clause-within : goal.invariant_of-self-2-clause-within
-invariant_of-self-2-clause-within c =
+pub invariant_of-self-4-clause-reads : goal.invariant_of-self-4-clause-reads
+invariant_of-self-4-clause-reads c =
     let s = c.args.self.now in
+    let same : length s.cells.parts.items ≡ length s.cells.bytes.items = grind (arith, common_steps) in
+    let longer : Extends s.cells c.extend.new.self c.args.piece.now = search rules in
     let not_full : s.full ≡ false = search rules in
-    let some : 0 < vec_len s.files = s.writes c.requires not_full in
-    grown_within s.files.items c.index_mut.result.now c.args.piece.now _ (length s.bytes.items) _ (grind (arith, common_steps)) (grind (arith, common_steps)) c.index_mut.ensures.value (grind (arith, common_steps)) s.within s.last
+    let some : HasFiles s.cells = s.writes c.requires not_full in
+    let end : c.len-end.result ≡ length s.cells.bytes.items = grind (arith, common_steps) in
+    let to : c.len.result ≡ length s.cells.bytes.items + length c.args.piece.now = grind (arith, common_steps, ap length longer.bytes, length-append s.cells.bytes.items c.args.piece.now) in
+    extended_current s.cells c.extend.new.self c.args.piece.now s.reading _ c.len-end.result c.len.result longer c.extended-self.ensures end to s.reads same some
 
-pub invariant_of-self-2-clause-last : goal.invariant_of-self-2-clause-last
-invariant_of-self-2-clause-last c =
+pub invariant_of-self-4-clause-writes : goal.invariant_of-self-4-clause-writes
+invariant_of-self-4-clause-writes c = λ w f.
     let s = c.args.self.now in
+    let same : length s.cells.parts.items ≡ length s.cells.bytes.items = grind (arith, common_steps) in
+    let longer : Extends s.cells c.extend.new.self c.args.piece.now = search rules in
     let not_full : s.full ≡ false = search rules in
-    let some : 0 < vec_len s.files = s.writes c.requires not_full in
-    grown_end s.files.items c.index_mut.result.now c.args.piece.now _ (length s.bytes.items) _ (grind (arith, common_steps)) (grind (arith, common_steps)) c.index_mut.ensures.value (grind (arith, common_steps)) s.last
-
-pub invariant_of-self-2-clause-reads : goal.invariant_of-self-2-clause-reads
-invariant_of-self-2-clause-reads c =
-    let s = c.args.self.now in
-    let bytes : c.extend_from_slice.new.self.items ≡ s.bytes.items ++ c.args.piece.now = search rules in
-    option_within_more s.reading (length s.bytes.items) _ (omega (arith, ap length bytes, length-append s.bytes.items c.args.piece.now)) s.reads
+    let some : HasFiles s.cells = s.writes c.requires not_full in
+    some_files s.cells c.extend.new.self c.args.piece.now longer same some
 
 pub returns-clause-appended : goal.returns-clause-appended
 returns-clause-appended c = λ faults misses.
     let s = c.args.self.now in
+    let same : length s.cells.parts.items ≡ length s.cells.bytes.items = grind (arith, common_steps) in
+    let longer : Extends s.cells c.extend.new.self c.args.piece.now = search rules in
     let not_full : s.full ≡ false = search rules in
-    let some : 0 < vec_len s.files = s.writes c.requires not_full in
-    appends (shelf_view s faults misses) s.bytes.items c.args.piece.now c.extend_from_slice.new.self.items s.files.items c.index_mut.result.now _ s.reading s.writing _
-    (search rules) c.requires (grind (arith, common_steps)) (grind (arith, common_steps)) c.index_mut.ensures.value refl refl refl s.within s.last s.reads (omega arith)
+    let some : HasFiles s.cells = s.writes c.requires not_full in
+    let end : c.len-end.result ≡ length s.cells.bytes.items = grind (arith, common_steps) in
+    let to : c.len.result ≡ length s.cells.bytes.items + length c.args.piece.now = grind (arith, common_steps, ap length longer.bytes, length-append s.cells.bytes.items c.args.piece.now) in
+    cells_extend (shelf_view s faults misses) s.cells c.extend.new.self c.args.piece.now s.reading _ s.writing c.len-end.result c.len.result _ longer c.extended-self.ensures end to c.requires s.reads same some refl refl refl (omega arith)

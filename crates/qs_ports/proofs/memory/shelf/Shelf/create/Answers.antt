@@ -1,30 +1,40 @@
-use Rattle.std.proofs.Common.{◌≡◌, ◌∷◌, [], ◌++◌, length, refl, rules, arith, length-append, ap}
+use Rattle.std.proofs.Common.{◌≡◌, length, rules, arith, refl}
 use Rattle.std.proofs.lemmas.Grind.{common_steps}
+use Rattle.qs_ports.specs.Cells.{Starts}
 use Rattle.qs_ports.specs.ShelfView.{shelf_view}
-use Rattle.qs_ports.proofs.Shelves.{option_within_more}
-use Rattle.qs_ports.proofs.ShelfChanges.{creates, created_within, created_end, new_span}
+use Rattle.qs_ports.proofs.ShelfChanges.{cells_create, still_lies, started_lies, created_current, first_file}
 use Rattle.qs_ports.proofs.memory.shelf.Shelf.create.Goals as goal
 
-pub invariant_of-self-2-clause-within : goal.invariant_of-self-2-clause-within
-invariant_of-self-2-clause-within c =
+pub renewed-self-requires-clause-reading : goal.renewed-self-requires-clause-reading
+renewed-self-requires-clause-reading c =
     let s = c.args.self.now in
-    let files : c.push.new.self.items ≡ s.files.items ++ new_span c.len-start.result c.len-end.result ∷ [] = search rules in
-    created_within s.files.items _ _ _ (length s.bytes.items) _ files (grind (arith, common_steps)) (grind (arith, common_steps)) (grind (arith, common_steps)) s.within
+    let same : length s.cells.parts.items ≡ length s.cells.bytes.items = grind (arith, common_steps) in
+    let started : Starts s.cells c.start.new.self c.args.name.now c.unwrap-file.result = search rules in
+    still_lies s.cells c.start.new.self c.args.name.now c.unwrap-file.result s.reading started s.reads same
 
-pub invariant_of-self-2-clause-last : goal.invariant_of-self-2-clause-last
-invariant_of-self-2-clause-last c =
+pub renewed-self-requires-clause-created : goal.renewed-self-requires-clause-created
+renewed-self-requires-clause-created c =
     let s = c.args.self.now in
-    let files : c.push.new.self.items ≡ s.files.items ++ new_span c.len-start.result c.len-end.result ∷ [] = search rules in
-    created_end s.files.items _ _ _ _ files (grind (arith, common_steps))
+    let started : Starts s.cells c.start.new.self c.args.name.now c.unwrap-file.result = search rules in
+    started_lies s.cells c.start.new.self c.args.name.now c.unwrap-file.result started
 
 pub invariant_of-self-2-clause-reads : goal.invariant_of-self-2-clause-reads
 invariant_of-self-2-clause-reads c =
     let s = c.args.self.now in
-    let bytes : c.extend_from_slice.new.self.items ≡ s.bytes.items ++ c.args.name.now = search rules in
-    option_within_more s.reading (length s.bytes.items) _ (omega (arith, ap length bytes, length-append s.bytes.items c.args.name.now)) s.reads
+    let same : length s.cells.parts.items ≡ length s.cells.bytes.items = grind (arith, common_steps) in
+    let started : Starts s.cells c.start.new.self c.args.name.now c.unwrap-file.result = search rules in
+    created_current s.cells c.start.new.self c.args.name.now c.unwrap-file.result s.reading _ started c.renewed-self.ensures s.reads same
+
+pub invariant_of-self-2-clause-writes : goal.invariant_of-self-2-clause-writes
+invariant_of-self-2-clause-writes c = λ w f.
+    let s = c.args.self.now in
+    let same : length s.cells.parts.items ≡ length s.cells.bytes.items = grind (arith, common_steps) in
+    let started : Starts s.cells c.start.new.self c.args.name.now c.unwrap-file.result = search rules in
+    first_file s.cells c.start.new.self c.args.name.now c.unwrap-file.result started same
 
 pub returns-clause-created : goal.returns-clause-created
 returns-clause-created c = λ faults misses.
     let s = c.args.self.now in
-    creates (shelf_view s faults misses) s.bytes.items c.args.name.now c.extend_from_slice.new.self.items c.len-start.result c.len-end.result s.files.items c.push.new.self.items s.reading _
-    (search rules) (search rules) (grind (arith, common_steps)) (grind (arith, common_steps)) refl refl s.within s.reads (omega arith)
+    let same : length s.cells.parts.items ≡ length s.cells.bytes.items = grind (arith, common_steps) in
+    let started : Starts s.cells c.start.new.self c.args.name.now c.unwrap-file.result = search rules in
+    cells_create (shelf_view s faults misses) s.cells c.start.new.self c.args.name.now c.unwrap-file.result s.reading _ _ started c.renewed-self.ensures s.reads same refl refl (omega arith)

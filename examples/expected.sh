@@ -24,7 +24,7 @@ int main(int count, char **words) {
 END
 gcc -w -c "$folder/start.c" -o "$folder/start.o"
 
-for source in *.c derivations/*.c; do
+for source in *.c derivations/*.c headers/*.c; do
   name=${source%.c}
   arguments=$(sed -n 's/^args //p' "$name.run" 2>/dev/null || true)
   input=/dev/null

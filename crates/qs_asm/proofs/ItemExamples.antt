@@ -1,6 +1,7 @@
 -- Where items lie, and what is assembled of them.
-use Rattle.std.proofs.Common.{◌≡◌, inl, inr, ℕ, true, false, List, [], ◌∷◌, Option, Some, None, refl}
-use Rattle.std.specs.Prelude.{nat_eq, if◌then◌else◌}
+use Rattle.std.proofs.Common.{◌≡◌, inl, inr, ℕ, true, false, List, [], ◌∷◌, ◌++◌, Option, Some, None, refl}
+use Rattle.std.specs.Prelude.{nat_eq, if◌then◌else◌, length, replicate}
+use Rattle.std.specs.Option.{option_map}
 use Rattle.qs_isa.specs.declared.instruction.Instr.{Instr}
 use Rattle.qs_isa.specs.declared.instruction.Instr.TheVariants as instructions
 use Rattle.qs_isa.specs.declared.instruction.BranchKind.TheVariants.{Beq, Bne, Blt, Bge, Bltu, Bgeu}
@@ -9,6 +10,7 @@ use Rattle.qs_asm.specs.declared.item.Item.{Item}
 use Rattle.qs_asm.specs.declared.item.Item.TheVariants.{Plain, Label, Jump, Branch}
 use Rattle.qs_asm.specs.Items.{inverse, Lays}
 use Rattle.qs_asm.specs.Assembly.{assembled, is_reached}
+use Rattle.qs_asm.specs.Sizing.{is_near}
 
 -- ---- the inverse of each branch
 
@@ -52,15 +54,13 @@ over_a_jump = (refl, (refl, (refl, inr (refl, (refl, refl)))))
 
 -- ---- what is assembled
 
-a_loop :
-    assembled loop
-    ≡ Some (instructions.Fence ∷ instructions.Ecall ∷ instructions.Branch Bge 5 6 8 ∷ instructions.Jal 0 4294967284 ∷ [])
+a_loop : assembled loop ≡ Some (instructions.Fence ∷ instructions.Ecall ∷ instructions.Branch Blt 5 6 4294967288 ∷ [])
 a_loop = refl
 
--- over a jump on and a branch, of 12 bytes
+-- over a jump on and a branch, of 8 bytes
 forward :
     assembled (Jump 1 3 ∷ Branch Bltu 8 9 3 ∷ Label 3 ∷ [])
-    ≡ Some (instructions.Jal 1 12 ∷ instructions.Branch Bgeu 8 9 8 ∷ instructions.Jal 0 4 ∷ [])
+    ≡ Some (instructions.Jal 1 8 ∷ instructions.Branch Bltu 8 9 4 ∷ [])
 forward = refl
 
 -- a jump to itself
@@ -93,3 +93,42 @@ too_far_back = refl
 
 odd : is_reached 5 ≡ false
 odd = refl
+
+-- ---- the reach of a branch
+
+near_on : is_near 4094 ≡ true
+near_on = refl
+
+far_on : is_near 4096 ≡ false
+far_on = refl
+
+near_back : is_near 4294963200 ≡ true
+near_back = refl
+
+far_back : is_near 4294963198 ≡ false
+far_back = refl
+
+-- instructions between a branch and its label
+abbrev fences : ℕ → List Item
+fences n = replicate n (Plain instructions.Fence)
+
+abbrev words_of : List Item → Option ℕ
+words_of items = option_map length (assembled items)
+
+-- a branch on is itself over 1,022 words behind it, and takes a jump over 1,023
+over_1022 : words_of (Branch Beq 5 6 0 ∷ fences 1022 ++ Label 0 ∷ []) ≡ Some 1023
+over_1022 = refl
+
+over_1023 : words_of (Branch Beq 5 6 0 ∷ fences 1023 ++ Label 0 ∷ []) ≡ Some 1025
+over_1023 = refl
+
+-- a branch that is itself only as long as the one behind it is: that over 1,023 words needs a jump, and so its label lies a
+-- word further on
+abbrev crossed : ℕ → List Item
+crossed n = Branch Beq 5 6 0 ∷ Branch Beq 5 6 1 ∷ fences 1021 ++ Label 0 ∷ fences n ++ Label 1 ∷ []
+
+both_short : words_of (crossed 1) ≡ Some 1024
+both_short = refl
+
+both_long : words_of (crossed 2) ≡ Some 1027
+both_long = refl

@@ -1,4 +1,5 @@
 pub mod LaidLaws
+pub mod SizingLaws
 pub mod AssemblyLaws
 pub mod CountingLaws
 mod ItemExamples

@@ -1,4 +1,4 @@
--- The words of items: each branch stands turned round over a jump, so that where a label stands depends on no distance.
+-- The words of items.
 use Rattle.std.specs.Prelude.{◌≡◌, ℕ, ◌+◌, ◌*◌, ◌%◌, ◌^◌, ◌==◌, ◌&&◌, nat_eq, nat_lt, Bool, if◌then◌else◌, List, [], ◌∷◌, ◌++◌, length, map, Option, Some, None, unwrap_or}
 use Rattle.std.specs.Option.{option_or}
 use Rattle.std.specs.HashMap.{HashMap, get}
@@ -12,8 +12,10 @@ use Rattle.qs_isa.specs.Table.{decode_of}
 use Rattle.qs_asm.specs.declared.fault.AssemblyFault.{AssemblyFault}
 use Rattle.qs_asm.specs.declared.fault.AssemblyFault.TheVariants.{BadLabel}
 use Rattle.qs_asm.specs.declared.item.Item.{Item}
-use Rattle.qs_asm.specs.declared.item.Item.TheVariants.{Plain, Label, Jump, Branch}
+use Rattle.qs_asm.specs.declared.sized_item.SizedItem.{SizedItem}
+use Rattle.qs_asm.specs.declared.sized_item.SizedItem.TheVariants as sizes
 use Rattle.qs_asm.specs.Items.{inverse, Lays}
+use Rattle.qs_asm.specs.Sizing.{item_bytes, label_of, label_among, branch_distance, sized_items}
 
 -- ---- where labels stand
 
@@ -21,31 +23,16 @@ use Rattle.qs_asm.specs.Items.{inverse, Lays}
 abbrev pub places : {S : Type 0} → HashMap ℕ ℕ S → (l : ℕ) → Option ℕ
 places labels = get nat_eq labels
 
-abbrev pub item_bytes : Item → ℕ
-item_bytes (Plain i) = 4
-item_bytes (Label l) = 0
-item_bytes (Jump rd l) = 4
-item_bytes (Branch kind a b l) = 8
-
--- from: where the item lies
-abbrev pub label_of : (from : ℕ) → Item → (l : ℕ) → Option ℕ
-label_of from (Plain i) l = None
-label_of from (Label k) l = if k == l then Some from else None
-label_of from (Jump rd k) l = None
-label_of from (Branch kind a b k) l = None
-
--- where the label stands last among items that lie from here on
-abbrev pub label_among : (from : ℕ) → List Item → (l : ℕ) → Option ℕ
-label_among from [] l = None
-label_among from (i ∷ items) l = option_or (label_among (from + item_bytes i) items l) (label_of from i l)
-
 -- labels as they are known with those of an item too
-pub record Notes (old new : ℕ → Option ℕ) (from : ℕ) (i : Item) : Type 0 where
+pub record Notes (old new : ℕ → Option ℕ) (from : ℕ) (i : SizedItem) : Type 0 where
   pub each : (l : ℕ) → new l ≡ option_or (label_of from i l) (old l)
+
+pub record AreLabels (labels : ℕ → Option ℕ) (items : List SizedItem) : Type 0 where
+  pub each : (l : ℕ) → labels l ≡ label_among 0 items l
 
 -- the bytes before the label
 abbrev pub label_offset : List Item → (l : ℕ) → Option ℕ
-label_offset items = label_among 0 items
+label_offset items = label_among 0 (sized_items items)
 
 pub record AreOffsets (labels : ℕ → Option ℕ) (items : List Item) : Type 0 where
   pub each : (l : ℕ) → labels l ≡ label_offset items l
@@ -64,9 +51,13 @@ abbrev pub jump_code : (rd : ℕ) → (distance : Option ℕ) → Option (List I
 jump_code rd None = None
 jump_code rd (Some distance) = Some (instructions.Jal rd distance ∷ [])
 
-abbrev pub branch_code : BranchKind → (a b : ℕ) → (distance : Option ℕ) → Option (List Instr)
-branch_code kind a b None = None
-branch_code kind a b (Some distance) =
+abbrev pub short_code : BranchKind → (a b : ℕ) → (distance : Option ℕ) → Option (List Instr)
+short_code kind a b None = None
+short_code kind a b (Some distance) = Some (instructions.Branch kind a b distance ∷ [])
+
+abbrev pub long_code : BranchKind → (a b : ℕ) → (distance : Option ℕ) → Option (List Instr)
+long_code kind a b None = None
+long_code kind a b (Some distance) =
     Some (instructions.Branch (inverse kind) a b 8 ∷ instructions.Jal 0 distance ∷ [])
 
 -- no instruction where it is so, and else no code
@@ -78,13 +69,14 @@ label_code from None = None
 label_code from (Some place) = nothing_if (place == from)
 
 -- None where a label that is jumped to stands nowhere or out of reach, and where a label stands again further on
-abbrev pub item_code : (labels : ℕ → Option ℕ) → (from : ℕ) → Item → Option (List Instr)
-item_code labels from (Plain i) = Some (i ∷ [])
-item_code labels from (Label l) = label_code from (labels l)
-item_code labels from (Jump rd l) = jump_code rd (distance_to from (labels l))
-item_code labels from (Branch kind a b l) = branch_code kind a b (distance_to (from + 4) (labels l))
+abbrev pub item_code : (labels : ℕ → Option ℕ) → (from : ℕ) → SizedItem → Option (List Instr)
+item_code labels from (sizes.Plain i) = Some (i ∷ [])
+item_code labels from (sizes.Label l) = label_code from (labels l)
+item_code labels from (sizes.Jump rd l) = jump_code rd (distance_to from (labels l))
+item_code labels from (sizes.Short kind a b l) = short_code kind a b (branch_distance from (labels l))
+item_code labels from (sizes.Long kind a b l) = long_code kind a b (distance_to (from + 4) (labels l))
 
-abbrev pub item_code_by : {S : Type 0} → HashMap ℕ ℕ S → (from : ℕ) → Item → Option (List Instr)
+abbrev pub item_code_by : {S : Type 0} → HashMap ℕ ℕ S → (from : ℕ) → SizedItem → Option (List Instr)
 item_code_by labels from item = item_code (places labels) from item
 
 abbrev pub before : List Instr → Option (List Instr) → Option (List Instr)
@@ -107,15 +99,15 @@ abbrev pub joined : Option (List Instr) → Option (List Instr) → Option (List
 joined None rest = None
 joined (Some code) rest = before code rest
 
-abbrev pub code_from : (labels : ℕ → Option ℕ) → (from : ℕ) → List Item → Option (List Instr)
+abbrev pub code_from : (labels : ℕ → Option ℕ) → (from : ℕ) → List SizedItem → Option (List Instr)
 code_from labels from [] = Some []
 code_from labels from (i ∷ items) = joined (item_code labels from i) (code_from labels (from + item_bytes i) items)
 
-abbrev pub code_by : {S : Type 0} → HashMap ℕ ℕ S → List Item → Option (List Instr)
+abbrev pub code_by : {S : Type 0} → HashMap ℕ ℕ S → List SizedItem → Option (List Instr)
 code_by labels items = code_from (places labels) 0 items
 
 abbrev pub assembled : List Item → Option (List Instr)
-assembled items = code_from (label_offset items) 0 items
+assembled items = code_from (label_offset items) 0 (sized_items items)
 
 -- ---- words
 

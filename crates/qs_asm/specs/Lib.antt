@@ -1,4 +1,5 @@
 pub mod Items
+pub mod Sizing
 pub mod Assembly
 pub mod Laws
 pub mod Counting

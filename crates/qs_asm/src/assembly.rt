@@ -7,7 +7,9 @@ ghost use Rattle.qs_asm.specs.Assembly.{places, item_code_by, Appends};
 
 use crate::fault::AssemblyFault;
 use crate::item::Item;
-use crate::labels::{Labels, item_bytes, label_offsets};
+use crate::labels::{Labels, item_bytes, labels_among};
+use crate::sized_item::SizedItem;
+use crate::sizing::{branch_distance, sized_items};
 use qs_base::{NoMemory, add32, sub32, sum};
 use qs_isa::{BranchKind, BranchOffset, Instr, JumpOffset, Register, encode};
 use std::alloc::Global;
@@ -70,15 +72,39 @@ fn put_jump(
     }
 }
 
-fn put_branch(
+fn put_short(
+    code: &mut Vec<Instr>,
+    kind: BranchKind,
+    rs1: Register,
+    rs2: Register,
+    distance: Option<BranchOffset>,
+) -> Result<(), AssemblyFault>
+    ensures ok { OnOk result (Appends code.old code.new (spec.short_code kind rs1 rs2 distance)) }
+    ensures fault { IfErr result (spec.BadLabelIsNoCode (spec.short_code kind rs1 rs2 distance)) }
+{
+    match distance {
+        None => Err(AssemblyFault::BadLabel),
+        Some(offset) => {
+            code.push(Instr::Branch {
+                kind,
+                rs1,
+                rs2,
+                offset,
+            })?;
+            Ok(())
+        }
+    }
+}
+
+fn put_long(
     code: &mut Vec<Instr>,
     kind: BranchKind,
     rs1: Register,
     rs2: Register,
     distance: Option<JumpOffset>,
 ) -> Result<(), AssemblyFault>
-    ensures ok { OnOk result (Appends code.old code.new (spec.branch_code kind rs1 rs2 distance)) }
-    ensures fault { IfErr result (spec.BadLabelIsNoCode (spec.branch_code kind rs1 rs2 distance)) }
+    ensures ok { OnOk result (Appends code.old code.new (spec.long_code kind rs1 rs2 distance)) }
+    ensures fault { IfErr result (spec.BadLabelIsNoCode (spec.long_code kind rs1 rs2 distance)) }
 {
     match distance {
         None => Err(AssemblyFault::BadLabel),
@@ -102,27 +128,31 @@ fn put_item(
     code: &mut Vec<Instr>,
     labels: &Labels,
     from: u32,
-    item: &Item,
+    item: &SizedItem,
 ) -> Result<(), AssemblyFault>
     ensures ok { OnOk result (Appends code.old code.new (item_code_by labels.now from item.now)) }
     ensures fault { IfErr result (spec.BadLabelIsNoCode (item_code_by labels.now from item.now)) }
 {
     match item {
-        Item::Plain(i) => {
+        SizedItem::Plain(i) => {
             code.push(*i)?;
             Ok(())
         }
-        Item::Label(label) => {
+        SizedItem::Label(label) => {
             if is_at(labels, from, *label) {
                 Ok(())
             } else {
                 Err(AssemblyFault::BadLabel)
             }
         }
-        Item::Jump(rd, label) => put_jump(code, *rd, distance_to(labels, from, *label)),
-        Item::Branch(kind, rs1, rs2, label) => {
+        SizedItem::Jump(rd, label) => put_jump(code, *rd, distance_to(labels, from, *label)),
+        SizedItem::Short(kind, rs1, rs2, label) => {
+            let distance = branch_distance(labels, from, *label);
+            put_short(code, *kind, *rs1, *rs2, distance)
+        }
+        SizedItem::Long(kind, rs1, rs2, label) => {
             let distance = distance_to(labels, sum(from, 4)?, *label);
-            put_branch(code, *kind, *rs1, *rs2, distance)
+            put_long(code, *kind, *rs1, *rs2, distance)
         }
     }
 }
@@ -130,7 +160,11 @@ fn put_item(
 // ---- all items
 
 #[tactic(auto, using(crate::proofs::AssemblyLaws::code_goes_on))]
-fn instructions(alloc: Global, labels: &Labels, items: &[Item]) -> Result<Vec<Instr>, AssemblyFault>
+fn instructions(
+    alloc: Global,
+    labels: &Labels,
+    items: &[SizedItem],
+) -> Result<Vec<Instr>, AssemblyFault>
     ensures ok { IfOk result (spec.IsCode (spec.code_by labels.now items.now)) }
     ensures fault { IfErr result (spec.BadLabelIsNoCode (spec.code_by labels.now items.now)) }
 {
@@ -154,15 +188,17 @@ fn words(alloc: Global, code: &[Instr]) -> Result<Vec<u32>, NoMemory>
     Ok(all)
 }
 
-/// The words of the items, one after the other: each branch turned round over a jump to its label.
-/// Where they lie, the items lie. `BadLabel` exactly where there are none.
+/// The words of the items, one after the other: each branch as itself where it reaches its label,
+/// else inverted over a jump to it. Where they lie, the items lie. `BadLabel` exactly where there
+/// are none.
 #[tactic(auto, using(crate::proofs::AssemblyLaws::assembly_cases))]
 pub fn assemble(alloc: Global, items: &[Item]) -> Result<Vec<u32>, AssemblyFault>
     ensures ok { IfOk result (λ words. spec.IsAssembly items.now words.items) }
     ensures small { IfOk result (λ words. All (λ word. word < 2 ^ 32) words.items) }
     ensures fault { IfErr result (spec.BadLabelIsNoCode (spec.assembled items.now)) }
 {
-    let labels = label_offsets(alloc, items)?;
-    let code = instructions(alloc, &labels, items)?;
+    let sized = sized_items(alloc, items)?;
+    let labels = labels_among(alloc, &sized)?;
+    let code = instructions(alloc, &labels, &sized)?;
     Ok(words(alloc, &code)?)
 }

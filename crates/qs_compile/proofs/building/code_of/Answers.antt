@@ -1,5 +1,6 @@
 use Rattle.std.proofs.Common.{arith}
-use Rattle.qs_compile.proofs.CodeLaws.{too_long, assembly_length}
+use Rattle.qs_asm.proofs.CountingLaws.{assembly_length}
+use Rattle.qs_compile.proofs.CodeLaws.{too_long}
 use Rattle.qs_compile.proofs.building.code_of.Goals as goal
 
 pub returns-in-Err-BadLabel-clause-fault : goal.returns-in-Err-BadLabel-clause-fault

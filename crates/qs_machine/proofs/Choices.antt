@@ -57,9 +57,9 @@ length-words_bytes [] = refl
 length-words_bytes (word ∷ words) = let rest = length-words_bytes words in omega arith
 
 pub can_write-loaded : (m : Machine) (image : Image) (size address width : ℕ) → IsLoaded m image size → can_write_in m.memory address width ≡ can_write image size address width
-can_write-loaded m image size address width l = rw (l.bytes, l.stack) refl
+can_write-loaded m image size address width l = rw (m.memory.data_begins, l.bytes, l.stack, m.memory.stack_ends) refl
 
 pub can_read-loaded : (m : Machine) (image : Image) (size address width : ℕ) → IsLoaded m image size → can_read_in m.memory address width ≡ can_read image size address width
 can_read-loaded m image size address width l =
     let code : length m.memory.code.items ≡ 4 * length image.code = ap (λ (bytes : List ℕ). length bytes) l.code ∙ length-words_bytes image.code in
-    rw (code, l.bytes, l.stack) refl
+    rw (code, m.memory.data_begins, l.bytes, l.stack, m.memory.stack_ends) refl

@@ -1,7 +1,8 @@
 pub mod Choices
+pub mod Starts
+pub mod PageLaws
 pub mod Memories
 pub mod StepParts
-pub mod Starts
 pub mod Growth
 pub mod Runs
 pub mod Puts

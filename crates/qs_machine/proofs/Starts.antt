@@ -1,22 +1,25 @@
 -- The machine at its start.
-use Rattle.std.proofs.Common.{◌≡◌, ℕ, zero, suc, ◌+◌, ◌-◌, ◌<◌, ◌≤◌, Bool, true, false, List, [], ◌∷◌, ◌++◌, length, take, drop, slice_index, refl, ap, sym, ◌∙◌, arith, inl, inr, append_assoc}
+use Rattle.std.proofs.Common.{◌≡◌, ℕ, zero, suc, ◌+◌, ◌-◌, ◌%◌, ◌^◌, ◌<◌, ◌≤◌, Bool, true, false, List, [], ◌∷◌, ◌++◌, length, take, drop, slice_index, refl, ap, sym, ◌∙◌, arith, inl, inr, append_assoc}
 use Rattle.std.specs.Prelude.{nat_eq, nat_le, nat_lt, ◌==◌, if◌then◌else◌, replicate}
-use Rattle.std.proofs.lemmas.Bool.{cases_lt, le-leb, lt-leb, lt-ltb, ne_eqb}
+use Rattle.std.proofs.lemmas.Bool.{cases_lt, cases_eq, le-leb, lt-leb, lt-ltb, ne_eqb}
 use Rattle.std.proofs.lemmas.Bool.Decides.{nat_tests}
-use Rattle.std.proofs.lemmas.List.{get_or_past, get_or-drop, get_or_append_left, get_or-append_right, get_or-replicate, length-replicate, take_more}
+use Rattle.std.proofs.lemmas.List.{get_or_past, get_or-drop, get_or_append_left, get_or-append_right, get_or-replicate, length-append, length-replicate, length-take, take_more}
 use Rattle.std.proofs.Math.Path.{fun_ext}
 use Rattle.qs_isa.specs.Addresses.{code_start, data_start}
 use Rattle.qs_image.specs.Image.{Image, word_bytes, words_bytes}
-use Rattle.qs_machine.specs.State.{stack_top, stack_base, is_inside}
+use Rattle.qs_machine.specs.State.{stack_top, with_value, is_inside}
 use Rattle.qs_machine.specs.Run.{start_registers, start_memory}
 use Rattle.qs_machine.specs.Bytes.{byte_in}
-use Rattle.qs_machine.specs.Hart.{nothing}
+use Rattle.qs_machine.specs.declared.pages.Pages.{Pages}
+use Rattle.qs_machine.specs.Hart.{byte_of, nothing}
 use Rattle.qs_machine.proofs.Choices.{length-words_bytes}
 
--- ---- registers
+-- ---- zeros
 
 pub no_byte : (n i : ℕ) → slice_index (replicate n 0) i ≡ 0
 no_byte n i = elim (cases_lt i n) [ inl lt ↦ get_or-replicate n i 0 0 lt | inr le ↦ get_or_past (replicate n 0) i 0 (omega (arith, length-replicate {A = ℕ} n 0)) ]
+
+-- ---- registers
 
 lowest : (tail : List ℕ) (n : ℕ) → n < 10 → slice_index (0 ∷ 0 ∷ stack_top ∷ 0 ∷ 0 ∷ 0 ∷ 0 ∷ 0 ∷ 0 ∷ 0 ∷ tail) n ≡ (if n == 2 then stack_top else 0)
 lowest tail zero lt = refl
@@ -75,18 +78,50 @@ pub words_bytes-more : (words bytes four : List ℕ) (i word : ℕ) → i < leng
 words_bytes-more words bytes four i word lt is are so_far =
     rw (take_more words i 0 lt, words_bytes-append (take i words) (slice_index words i ∷ []), are, so_far, is) refl
 
+-- ---- data
+
+data-more-at : (start : ℕ) (front : List ℕ) (byte address : ℕ) → byte_in start (front ++ byte ∷ []) nothing address ≡ with_value (byte_in start front nothing) (start + length front) byte address
+data-more-at start front byte address =
+    let n : length (front ++ byte ∷ []) ≡ length front + 1 = length-append front (byte ∷ []) in
+    elim (cases_lt address start) [
+      | inl lt ↦ grind (arith, nat_tests, n, lt)
+      | inr low ↦ elim (cases_lt (address - start) (length front)) [
+        | inl lt ↦ let e = get_or_append_left front (byte ∷ []) 0 (address - start) lt in grind (arith, nat_tests, n, low, lt, e)
+        | inr le ↦ elim (cases_eq address (start + length front)) [
+          | inl same ↦
+              let at : address - start ≡ length front = omega (arith, same) in
+              let e : slice_index (front ++ byte ∷ []) (address - start) ≡ byte = rw at (get_or-append_right front (byte ∷ []) (length front) (length front) 0 refl (omega arith) ∙ self_less (length front) byte) in
+              grind (arith, nat_tests, n, same, e)
+          | inr other ↦ grind (arith, nat_tests, n, low, le, other)
+        ]
+      ]
+    ]
+  where
+    self_less : (n b : ℕ) → slice_index (b ∷ []) (n - n) ≡ b
+    self_less n b = let e : n - n ≡ 0 = omega arith in rw e refl
+
+-- no data at all
+pub no_data : (items : List ℕ) → nothing ≡ byte_in data_start (take 0 items) nothing
+no_data items =
+    let n = length-take 0 items in
+    fun_ext (λ (a : ℕ). sym (same _ (slice_index (take 0 items) (a - data_start)) (get_or_past (take 0 items) (a - data_start) 0 (omega (arith, n)))))
+  where
+    same : (b : Bool) (x : ℕ) → x ≡ 0 → (if b then x else 0) ≡ 0
+    same true x e = e
+    same false x e = refl
+
+-- the data with a byte more
+pub data-more : (items : List ℕ) (i byte : ℕ) (memory : ℕ → ℕ) → i < length items → byte ≡ slice_index items i → byte < 2 ^ 8 → memory ≡ byte_in data_start (take i items) nothing → with_value memory (data_start + i) (byte % 2 ^ 8) ≡ byte_in data_start (take (i + 1) items) nothing
+data-more items i byte memory lt is small so_far =
+    let whole : byte % 2 ^ 8 ≡ byte = omega (arith, small) in
+    let n : length (take i items) ≡ i = let m = length-take i items in omega (arith, m, lt) in
+    let all = fun_ext (λ (a : ℕ). data-more-at data_start (take i items) byte a) in
+    rw (whole, so_far, take_more items i 0 lt, ← is) (ap (λ (k : ℕ). with_value (byte_in data_start (take i items) nothing) (data_start + k) byte) (sym n) ∙ sym all)
+
 -- ---- memory
 
-abbrev zeros : ℕ → List ℕ
-zeros size = replicate size 0
+memory-at : (image : Image) (address : ℕ) → start_memory image address ≡ byte_in code_start (words_bytes image.code) (byte_in data_start image.bytes nothing) address
+memory-at image address = rw (length-words_bytes image.code) refl
 
-stack-empty : (b : Bool) (size place : ℕ) → (if b then slice_index (zeros size) place else 0) ≡ 0
-stack-empty true size place = no_byte size place
-stack-empty false size place = refl
-
-memory-at : (image : Image) (size address : ℕ) → start_memory image address ≡ byte_in code_start (words_bytes image.code) (byte_in data_start image.bytes (byte_in (stack_base (length (zeros size))) (zeros size) nothing)) address
-memory-at image size address =
-    rw (length-words_bytes image.code, stack-empty (is_inside (stack_base (length (zeros size))) (stack_base (length (zeros size)) + length (zeros size)) address 1) size (address - stack_base (length (zeros size)))) refl
-
-pub memory : (image : Image) (size : ℕ) (code bytes stack : List ℕ) → code ≡ words_bytes image.code → bytes ≡ image.bytes → stack ≡ zeros size → start_memory image ≡ byte_in code_start code (byte_in data_start bytes (byte_in (stack_base (length stack)) stack nothing))
-memory image size code bytes stack code_is bytes_are stack_is = rw (code_is, bytes_are, stack_is) (fun_ext (λ address. memory-at image size address))
+pub memory : (image : Image) (code : List ℕ) (pages stack : Pages) → code ≡ words_bytes image.code → byte_of pages nothing ≡ byte_in data_start image.bytes nothing → byte_of stack nothing ≡ nothing → start_memory image ≡ byte_in code_start code (byte_of pages (byte_of stack nothing))
+memory image code pages stack code_is bytes_are stack_is = rw (code_is, stack_is, bytes_are) (fun_ext (λ address. memory-at image address))

@@ -2,6 +2,7 @@ pub mod State
 pub mod Step
 pub mod Run
 pub mod Bytes
+pub mod Pages
 pub mod Hart
 pub mod Actions
 pub mod Standing

@@ -1,5 +1,6 @@
 -- Where a machine stands, and what a step of it does.
-use Rattle.std.specs.Prelude.{◌≡◌, ℕ, List, [], ◌∷◌, ◌++◌, length, map, drop, Option, Some, None, IfSome}
+use Rattle.std.specs.Prelude.{◌≡◌, ℕ, ◌+◌, List, [], ◌∷◌, ◌++◌, length, map, drop, Option, Some, None, IfSome}
+use Rattle.qs_isa.specs.Addresses.{data_start}
 use Rattle.qs_isa.specs.Table.{decode_of}
 use Rattle.qs_image.specs.Image.{Image, words_bytes}
 use Rattle.qs_machine.specs.declared.answers.StepResult.{StepResult as Answer}
@@ -7,7 +8,7 @@ use Rattle.qs_machine.specs.declared.answers.StepResult.TheVariants.{Going, Put,
 use Rattle.qs_machine.specs.declared.answers.End.{End}
 use Rattle.qs_machine.specs.declared.answers.End.TheVariants as end
 use Rattle.qs_machine.specs.declared.machine.Machine.{Machine}
-use Rattle.qs_machine.specs.State.{State}
+use Rattle.qs_machine.specs.State.{State, stack_base}
 use Rattle.qs_machine.specs.Step.{StepResult, Next, Exits, Traps, step}
 use Rattle.qs_machine.specs.Step.{answer as answered}
 use Rattle.qs_machine.specs.Actions.{Action}
@@ -35,12 +36,13 @@ state_of m input output = record {
   output = output;
 }
 
--- It has the code of the image, as many bytes of data, and a stack of `size` bytes.
+-- It has the code of the image, as many bytes of data, and a stack of `size` bytes. That data begins where it does, and
+-- that the stack ends at its top, holds of every machine.
 pub record IsLoaded (m : Machine) (image : Image) (size : ℕ) : Type 0 where
   pub instructions : m.instructions.items ≡ map decode_of image.code
   pub code : m.memory.code.items ≡ words_bytes image.code
-  pub bytes : length m.memory.data.items ≡ length image.bytes
-  pub stack : length m.memory.stack.items ≡ size
+  pub bytes : m.memory.data.end ≡ data_start + length image.bytes
+  pub stack : m.memory.stack.start ≡ stack_base size
 
 -- It runs the image on a stack of `size` bytes, stands at this state where `input` is the input, and goes on.
 pub record Stands (m : Machine) (image : Image) (size : ℕ) (input : List ℕ) (s : State) : Type 0 where
@@ -50,8 +52,8 @@ pub record Stands (m : Machine) (image : Image) (size : ℕ) (input : List ℕ) 
 
 -- The machine `n` is what `m` became by a step whose result by the definition is the given one, from this state.
 abbrev pub Did : Machine → Machine → Image → ℕ → List ℕ → State → StepResult → Answer → Type 0
-Did m n image size input s r Going = (r ≡ Next (state_of n input s.output)) × IsLoaded n image size
-Did m n image size input s r (Put byte) = (r ≡ Next (state_of n input (s.output ++ byte ∷ []))) × IsLoaded n image size
+Did m n image size input s r Going = (r ≡ Next (state_of n input s.output)) × IsLoaded n image size × (end_of n ≡ end_of m)
+Did m n image size input s r (Put byte) = (r ≡ Next (state_of n input (s.output ++ byte ∷ []))) × IsLoaded n image size × (end_of n ≡ end_of m)
 Did m n image size input s r (Exited status) = (r ≡ Exits status) × (n ≡ m)
 Did m n image size input s r (Trapped cause pc) = (r ≡ Traps cause) × (pc ≡ s.pc) × (n ≡ m)
 
@@ -69,13 +71,6 @@ Steps m n image size input s Going = GoesOn n image size input s []
 Steps m n image size input s (Put byte) = GoesOn n image size input s (byte ∷ [])
 Steps m n image size input s (Exited status) = (step image size s ≡ Exits status) × (n ≡ ended m (end.Exited status))
 Steps m n image size input s (Trapped cause pc) = (step image size s ≡ Traps cause) × (pc ≡ s.pc) × (n ≡ ended m (end.Trapped cause pc))
-
--- how a machine has ended after a step
-abbrev pub end_after : Answer → Option End
-end_after Going = None
-end_after (Put byte) = None
-end_after (Exited status) = Some (end.Exited status)
-end_after (Trapped cause pc) = Some (end.Trapped cause pc)
 
 -- the answer of a step of a machine that has ended
 abbrev pub answer_of : End → Answer

@@ -9,6 +9,7 @@ mod loading;
 mod machine;
 mod memory;
 mod operations;
+mod pages;
 mod regions;
 mod registers;
 mod running;

@@ -1,18 +1,21 @@
 // The machine at its start.
-ghost use Rattle.std.specs.Prelude.{◌≡◌, length, map, replicate, IfOk, IfErr};
+ghost use Rattle.std.specs.Prelude.{◌≡◌, ◌≤◌, length, map, IfOk, IfErr};
 ghost use Rattle.qs_isa.specs.Table.{decode_of};
 ghost use Rattle.qs_image.specs.Image.{words_bytes};
 ghost use Rattle.qs_machine.specs.declared.loading.LoadFault.TheVariants.{NoMemory};
+ghost use Rattle.qs_machine.specs.State.{stack_top, stack_base, stack_limit};
+ghost use Rattle.qs_machine.specs.Hart.{AreZeros, HoldsData};
 ghost use Rattle.qs_machine.specs.Standing.{taken_of};
 ghost use Rattle.qs_machine.specs.Running.{StandsAtStart, MayLoad, IsLoadFault};
 
 use crate::machine::Machine;
 use crate::memory::Memory;
-use crate::regions::STACK_LIMIT;
+use crate::pages::Pages;
+use crate::regions::{STACK_LIMIT, STACK_TOP};
 use crate::registers::Registers;
 use qs_base::NoMemory;
 use qs_image::ImageView;
-use qs_isa::{Instr, decode};
+use qs_isa::{DATA_START, Instr, StoreKind, decode};
 use std::alloc::{AllocError, Global};
 use thiserror::Error;
 
@@ -58,20 +61,22 @@ fn instructions(alloc: Global, image: &ImageView<'_>) -> Result<Vec<Option<Instr
     Ok(instructions)
 }
 
-fn data_bytes(alloc: Global, image: &ImageView<'_>) -> Result<Vec<u8>, NoMemory>
-    ensures { IfOk result (λ bytes. bytes.items ≡ image.now.bytes) }
+fn data_pages(alloc: Global, image: &ImageView<'_>) -> Result<Pages, NoMemory>
+    ensures { IfOk result (HoldsData image.now.bytes) }
 {
-    let mut bytes = Vec::new(alloc);
-    for i in 0..image.byte_count() {
-        bytes.push(image.bytes(i))?;
+    let count = image.byte_count();
+    let mut pages = Pages::zeros(alloc, DATA_START, DATA_START + count)?;
+    for i in 0..count {
+        pages.write(StoreKind::Sb, DATA_START + i, u32::from(image.bytes(i)));
     }
-    Ok(bytes)
+    Ok(pages)
 }
 
-fn zeros(alloc: Global, count: usize) -> Result<Vec<u8>, NoMemory>
-    ensures { IfOk result (λ bytes. bytes.items ≡ replicate count 0) }
+fn stack_pages(alloc: Global, size: u64) -> Result<Pages, NoMemory>
+    requires { size ≤ stack_limit }
+    ensures { IfOk result (AreZeros (stack_base size) stack_top) }
 {
-    Ok(vec![in alloc; 0; count]?)
+    Pages::zeros(alloc, STACK_TOP - size as u32, STACK_TOP)
 }
 
 /// Loads an image, on a stack of so many bytes and with these arguments for its parameters, each a
@@ -98,8 +103,8 @@ pub fn load(
         instructions: instructions(alloc, image)?,
         memory: Memory {
             code: code_bytes(alloc, image)?,
-            data: data_bytes(alloc, image)?,
-            stack: zeros(alloc, stack as usize)?,
+            data: data_pages(alloc, image)?,
+            stack: stack_pages(alloc, stack)?,
         },
         registers: Registers::at_start(args),
         pc: image.entry(),

@@ -25,7 +25,7 @@ pub struct Machine {
 impl Machine {
     ghost use Rattle.std.specs.Prelude.{◌≡◌, ◌+◌, ◌<◌, ◌≤◌, ◌^◌, length};
     ghost use Rattle.qs_machine.specs.Actions as action;
-    ghost use Rattle.qs_machine.specs.Standing.{taken_of, Does, DoesForAnyInput, PutsAnswer};
+    ghost use Rattle.qs_machine.specs.Standing.{taken_of, end_of, Does, DoesForAnyInput, PutsAnswer};
     ghost use Rattle.qs_machine.specs.Standing.{StaysLoaded};
 
     fn trap(&self, cause: Cause) -> StepResult
@@ -134,6 +134,7 @@ impl Machine {
         ensures answers { PutsAnswer self.old self.new value }
         ensures loaded { StaysLoaded self.old self.new }
         ensures taken { taken_of self.new ≡ taken_of self.old }
+        ensures ended { end_of self.new ≡ end_of self.old }
     {
         self.registers.write(Register::A0, value);
         self.pc = self.next_pc();

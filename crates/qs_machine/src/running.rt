@@ -33,7 +33,7 @@ impl Machine {
             return run_end_of(end);
         }
         for _ in 0..steps {
-            match self.step(input) {
+            match self.advance(input) {
                 StepResult::Going => {}
                 StepResult::Put(byte) => {
                     if put_all(out, &[byte]).is_err() {

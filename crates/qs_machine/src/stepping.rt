@@ -1,6 +1,6 @@
 // One step.
 ghost use Rattle.std.specs.Prelude.{◌≡◌};
-ghost use Rattle.qs_machine.specs.Standing.{answer_of, end_after};
+ghost use Rattle.qs_machine.specs.Standing.{answer_of};
 
 use crate::answers::{Cause, End, StepResult};
 use crate::fetching::fetch;
@@ -12,16 +12,6 @@ fn answer_of(end: End) -> StepResult
     match end {
         End::Exited(status) => StepResult::Exited(status),
         End::Trapped(cause, pc) => StepResult::Trapped(cause, pc),
-    }
-}
-
-fn end_of(answer: StepResult) -> Option<End>
-    ensures { result ≡ end_after answer }
-{
-    match answer {
-        StepResult::Going | StepResult::Put(_) => None,
-        StepResult::Exited(status) => Some(End::Exited(status)),
-        StepResult::Trapped(cause, pc) => Some(End::Trapped(cause, pc)),
     }
 }
 
@@ -43,6 +33,27 @@ impl Machine {
         }
     }
 
+    // A step of a machine that has not ended.
+    pub(crate) fn advance(&mut self, input: &[u8]) -> StepResult
+        requires { taken_of self.old ≤ length input.now }
+        ensures steps { TakesStep self.old self.new input.now result }
+        ensures more { taken_of self.old ≤ taken_of self.new }
+        ensures within { taken_of self.new ≤ length input.now }
+    {
+        match self.take_step(input) {
+            StepResult::Going => StepResult::Going,
+            StepResult::Put(byte) => StepResult::Put(byte),
+            StepResult::Exited(status) => {
+                self.ended = Some(End::Exited(status));
+                StepResult::Exited(status)
+            }
+            StepResult::Trapped(cause, pc) => {
+                self.ended = Some(End::Trapped(cause, pc));
+                StepResult::Trapped(cause, pc)
+            }
+        }
+    }
+
     /// Takes a step. `input` is the whole input, of which the machine has taken some: the rest is
     /// what is left. Takes no memory. A machine that has ended answers as it did then, and nothing
     /// changes.
@@ -56,8 +67,6 @@ impl Machine {
         if let Some(end) = self.ended {
             return answer_of(end);
         }
-        let answer = self.take_step(input);
-        self.ended = end_of(answer);
-        answer
+        self.advance(input)
     }
 }

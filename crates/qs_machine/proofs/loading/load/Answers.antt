@@ -1,5 +1,4 @@
 use Rattle.std.proofs.Common.{◌≡◌, ℕ, ◌*◌, length, arith, refl, ap, ◌∙◌, List}
-use Rattle.std.proofs.lemmas.List.{length-replicate}
 use Rattle.qs_machine.proofs.Choices.{length-words_bytes}
 use Rattle.qs_machine.proofs.Starts.{memory}
 use Rattle.qs_machine.proofs.loading.load.Goals as goal
@@ -11,17 +10,20 @@ invariant_of-result c =
     let most_code = w.code_count.1 in
     let most_bytes = w.byte_count in
     let code : length c.in_ok-code_bytes.field-0.items ≡ 4 * length image.code = ap (λ (l : List ℕ). length l) c.in_ok-code_bytes.ensures ∙ length-words_bytes image.code in
-    let bytes : length c.in_ok-data_bytes.field-0.items ≡ length image.bytes = ap (λ (l : List ℕ). length l) c.in_ok-data_bytes.ensures in
-    let stack : length c.in_ok-zeros.field-0.items ≡ c.args.stack = ap (λ (l : List ℕ). length l) c.in_ok-zeros.ensures ∙ length-replicate {A = ℕ} c.args.stack 0 in
-    record { code_fits = omega arith; data_fits = omega arith; stack_fits = omega arith }
+    let pages = c.in_ok-data_pages.ensures in
+    let stack = c.in_ok-stack_pages.ensures in
+    let begins = pages.start in
+    let ends = pages.end in
+    let low = stack.start in
+    record { code_fits = omega arith; data_begins = pages.start; data_fits = omega arith; stack_fits = omega arith; stack_ends = stack.end }
 
 pub returns-clause-start : goal.returns-clause-start
 returns-clause-start c = λ input.
     let image = c.args.image.now in
-    let stack : length c.in_ok-zeros.field-0.items ≡ c.args.stack = ap (λ (l : List ℕ). length l) c.in_ok-zeros.ensures ∙ length-replicate {A = ℕ} c.args.stack 0 in
-    let bytes : length c.in_ok-data_bytes.field-0.items ≡ length image.bytes = ap (λ (l : List ℕ). length l) c.in_ok-data_bytes.ensures in
+    let pages = c.in_ok-data_pages.ensures in
+    let stack = c.in_ok-stack_pages.ensures in
     record {
-      loaded = record { instructions = c.in_ok-instructions.ensures; code = c.in_ok-code_bytes.ensures; bytes = bytes; stack = stack };
-      at = rw (memory image c.args.stack c.in_ok-code_bytes.field-0.items c.in_ok-data_bytes.field-0.items c.in_ok-zeros.field-0.items c.in_ok-code_bytes.ensures c.in_ok-data_bytes.ensures c.in_ok-zeros.ensures, ← c.at_start.ensures, ← c.entry.ensures.value) refl;
+      loaded = record { instructions = c.in_ok-instructions.ensures; code = c.in_ok-code_bytes.ensures; bytes = pages.end; stack = stack.start };
+      at = rw (memory image c.in_ok-code_bytes.field-0.items c.in_ok-data_pages.field-0 c.in_ok-stack_pages.field-0 c.in_ok-code_bytes.ensures pages.bytes stack.zeros, ← c.at_start.ensures, ← c.entry.ensures.value) refl;
       going = refl;
     }

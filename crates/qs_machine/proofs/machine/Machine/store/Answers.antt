@@ -23,5 +23,5 @@ returns-clause-does c = λ input image size output l.
     let inside : can_write image size c.args.address (store_width c.args.kind) ≡ true = sym (can_write-loaded m image size c.args.address (store_width c.args.kind) l) ∙ sym c.store.ensures.done ∙ c.if-not-store.false in
     let after : memory_of c.store.new.self ≡ stored c.args.kind (memory_of m.memory) c.args.address c.args.value = c.store.ensures.stored (search rules) in
     rw (store-written image size s c.args.kind c.args.address c.args.value aligned inside, ← c.next_pc-next.ensures, ← after)
-    (did_next m _ c.go_to.new.self image size input output _ c.go_to.result
-    (c.go_to.ensures.does input image size output (record { instructions = l.instructions; code = c.store.ensures.code ∙ l.code; bytes = c.store.ensures.data_count ∙ l.bytes; stack = c.store.ensures.stack_count ∙ l.stack })))
+    (did_next m _ c.go_to.new.self image size input output _ c.go_to.result refl
+    (c.go_to.ensures.does input image size output (record { instructions = l.instructions; code = c.store.ensures.code ∙ l.code; bytes = c.store.ensures.data_end ∙ l.bytes; stack = c.store.ensures.stack_start ∙ l.stack })))

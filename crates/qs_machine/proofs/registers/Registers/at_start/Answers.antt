@@ -1,9 +1,5 @@
-use Rattle.std.proofs.Common.{◌+◌, ◌-◌, length}
-use Rattle.qs_machine.proofs.Starts.{registers}
+use Rattle.std.proofs.Common.{ℕ, ap}
 use Rattle.qs_machine.proofs.registers.Registers.at_start.Goals as goal
 
-pub returns : goal.returns
-returns c =
-    let two = c.number.ensures.value in
-    let ten = c.number-first.ensures.value in
-    rw (two, ten) (registers c.args.args.now c.copy_from_slice.new.self (10 + length c.args.args.now - 10) c.copy_from_slice.ensures.after c.requires)
+pub invariant_of-result : goal.invariant_of-result
+invariant_of-result c = record { x0_is_0 = ap (λ (f : ℕ → ℕ). f 0) c.start_words-words.ensures }

@@ -1,0 +1,4 @@
+pub mod Elf
+pub mod Parts
+pub mod Faults
+pub mod Framing

@@ -1,2 +1,11 @@
+pub mod Tests
+pub mod OwnSlots
 pub mod Slots
-mod SlotExamples
+pub mod Acceptance
+pub mod UnitLaws
+pub mod RowLaws
+pub mod LiveLaws
+pub mod RegisterLaws
+pub mod ListLaws
+pub mod PackLaws
+mod PlaceExamples

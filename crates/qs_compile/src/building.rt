@@ -24,7 +24,7 @@ use crate::data::data_bytes;
 use crate::fault::BuildFault;
 use crate::parameters::{parameter_types, unsigned_set};
 use crate::records::{addresses, costs, records};
-use qs_alloc::assign_unit;
+use qs_alloc::all_slots_unit;
 use qs_asm::{AssemblyFault, Item, assemble, label_offsets};
 use qs_base::{NoMemory, count};
 use qs_core::{CoreFunction, CoreUnit};
@@ -176,7 +176,7 @@ pub fn build_image(alloc: Global, unit: &CoreUnit) -> Result<Image, BuildFault>
 {
     check_names(unit)?;
     let linear = lower(alloc, unit)?;
-    let places = assign_unit(alloc, &linear)?;
+    let places = all_slots_unit(alloc, &linear)?;
     check_fits(alloc, &linear, &places)?;
     let items = emit(alloc, &linear, &places)?;
     let code = code_of(alloc, &items)?;

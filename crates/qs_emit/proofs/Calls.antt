@@ -32,7 +32,7 @@ use Rattle.qs_emit.specs.Relation.{Setup, context, cost, entry, place, function_
 use Rattle.qs_emit.proofs.Injection.{value_here, value_there}
 use Rattle.qs_emit.proofs.Steps.{Takes, takes_on, takes_less, HasAt, straight, IsSteady, steady_on, Does, does_is, does_then, does_none, op_imm_does, stepped, takes_step, stirred_bytes, same_stirred}
 use Rattle.qs_emit.proofs.FrameLaws.{related_own, related_to, related_fewer}
-use Rattle.qs_emit.proofs.Operands.{holder, argument_scratch, saved_apart, IsAmid, amid_gets, put_does}
+use Rattle.qs_emit.proofs.Operands.{holder, argument_scratch, value_apart, IsAmid, amid_gets, put_does}
 use Rattle.qs_emit.proofs.LoopSteps.{link_acts}
 use Rattle.qs_emit.proofs.CodePlaces.{IsCode, plain_laid, HasFunction, has_function, fits_between}
 use Rattle.qs_emit.proofs.FollowedSteps.{Reaches, Moved, steady_at, amid_at}
@@ -46,6 +46,14 @@ kept_fewer file p v e = by (is_kept p) e
   where
     by : (b : Bool) → (if b then file p else None) ≡ Some v → file p ≡ Some v
     by true h = h
+    by false h = cc
+
+-- and it stands where calls leave it
+kept_stays : (file : File) (p : Place) (v : Value) → kept file p ≡ Some v → is_kept p ≡ true
+kept_stays file p v e = by (is_kept p) e
+  where
+    by : (b : Bool) → (if b then file p else None) ≡ Some v → b ≡ true
+    by true h = refl
     by false h = cc
 
 module _ (s : Setup) (a : Activation File) (w : World) (stack : List (Waiting File)) (l : Lay) (m : Watched) (h : StandsAt s a w stack l m) where
@@ -95,7 +103,7 @@ module _ (s : Setup) (a : Activation File) (w : World) (stack : List (Waiting Fi
         let bytes = stirred_bytes s m1.time (m1.now.registers 2) m1.now.memory b.steady.bytes in
         let own : SameOwn s.room sp m1.now.memory m2.now.memory = subst (λ (q : ℕ). SameOwn s.room q m1.now.memory m2.now.memory) b.x2 (same_stirred s.room m1.time (m1.now.registers 2) m1.now.memory) in
         let other : (q : ℕ) → (q ≡ 1 → ⊥) → m2.now.registers q ≡ m1.now.registers q = λ q n. value_there m1.now.registers 1 (m1.now.pc + 4) q n in
-        let r = related_own s a w.memory stack l m1.now.registers sp m1.now.memory args.amid.related m2.now.registers m2.now.memory (record { same = λ q e. other q (saved_apart q 1 e refl) }) own in
+        let r = related_own s a w.memory stack l m1.now.registers sp m1.now.memory args.amid.related m2.now.registers m2.now.memory (record { same = λ q e. other q (value_apart q 1 e refl) }) own in
         let x2 : m2.now.registers 2 ≡ sp = b.x2 in
         let ra : m2.now.registers 1 ≡ p + 4 = value_here m1.now.registers 1 (m1.now.pc + 4) 1 refl ∙ ap (λ (q : ℕ). q + 4) pc in
         let wait = is_waiting m2 p r tail al (omega (arith, low, limit)) in
@@ -134,6 +142,7 @@ module _ (s : Setup) (a : Activation File) (w : World) (stack : List (Waiting Fi
               inside = inside;
               taken = has_x;
               frame = fewer.frame;
+              stays = λ q v e. kept_stays a.held q v e;
               in_room = r.in_room;
               aligned = omega (arith, al);
               low = low;
@@ -230,7 +239,7 @@ module _ (s : Setup) (a : Activation File) (w : World) (stack : List (Waiting Fi
   taken m1 m2 n p e x v answer input moved b amid pc g stands input_bytes has code low al =
       let x2 : m2.now.registers 2 ≡ sp = g.others 2 (λ z. absurd (omega (arith, z))) ∙ b.x2 in
       let own : SameOwn s.room sp m1.now.memory m2.now.memory = subst (λ (q : ℕ). SameOwn s.room q m1.now.memory m2.now.memory) b.x2 g.own in
-      let r = related_own s a w.memory stack l m1.now.registers sp m1.now.memory amid.related m2.now.registers m2.now.memory (record { same = λ q z. g.others q (saved_apart q 10 z refl) }) own in
+      let r = related_own s a w.memory stack l m1.now.registers sp m1.now.memory amid.related m2.now.registers m2.now.memory (record { same = λ q z. g.others q (value_apart q 10 z refl) }) own in
       let rest : IsAmid s resting w.memory stack l sp m2 = record { x2 = x2; related = related_fewer s a w.memory stack l m2.now.registers sp m2.now.memory r (kept a.held) (kept_fewer a.held) } in
       let value : StandsFor w.memory l.address_of v (m2.now.registers 10) = subst (λ (q : ℕ). StandsFor w.memory l.address_of v q) (sym g.a0) stands in
       let pc2 : m2.now.pc ≡ p + 4 = g.pc ∙ ap (λ (q : ℕ). q + 4) pc in

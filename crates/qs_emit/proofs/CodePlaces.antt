@@ -1,8 +1,10 @@
 -- Where the code of a unit's functions and instructions lies, and what the unit keeps.
-use Rattle.std.proofs.Common.{◌≡◌, inl, inr, ℕ, zero, suc, ◌+◌, ◌*◌, ◌%◌, ◌<◌, ◌≤◌, Bool, true, false, List, [], ◌∷◌, length, Option, Some, refl, sym, ap, ◌∙◌, subst, arith}
-use Rattle.std.specs.Prelude.{◌&&◌, slice_get, slice_index_or}
+use Rattle.std.proofs.Common.{◌≡◌, ◌⊎◌, inl, inr, ⊎_elim, ℕ, zero, suc, ◌+◌, ◌*◌, ◌%◌, ◌==◌, ◌<◌, ◌≤◌, Bool, true, false, List, [], ◌∷◌, length, Option, Some, refl, sym, ap, ◌∙◌, subst, arith}
+use Rattle.std.specs.Prelude.{◌&&◌, if◌then◌else◌, slice_get, slice_index_or, Contains}
 use Rattle.std.specs.List.{list_all}
 use Rattle.std.proofs.lemmas.List.{length-map}
+use Rattle.std.proofs.lemmas.Bool.{cases_eq}
+use Rattle.std.proofs.lemmas.Bool.Decides.{nat_tests}
 use Rattle.qs_isa.specs.Addresses.{code_start}
 use Rattle.qs_isa.specs.declared.instruction.Instr.{Instr}
 use Rattle.qs_asm.specs.declared.item.Item.{Item}
@@ -10,17 +12,22 @@ use Rattle.qs_asm.specs.declared.item.Item.TheVariants.{Plain, Label, Jump, Bran
 use Rattle.qs_asm.specs.Items.{Lays, plain}
 use Rattle.qs_asm.proofs.LaidLaws.{laid_split, takes_words}
 use Rattle.qs_tac.specs.Trees.{InstructionTree, TacFunctionTree}
-use Rattle.qs_tac.specs.Places.{place_of, no_places, slots_from}
+use Rattle.qs_tac.specs.Places.{PlacesTree, place_of, no_places, slot_count, is_for_values, may_stand, Accepted, own_slots, keep_values, at_entry}
+use Rattle.qs_tac.specs.Holders.{is_saved_register}
+use Rattle.qs_tac.proofs.NeedLaws.{own_slot}
 use Rattle.qs_tac.specs.declared.places.Place.{Place}
-use Rattle.qs_tac.specs.declared.places.Place.TheVariants.{Slot}
+use Rattle.qs_tac.specs.declared.places.Place.TheVariants.{Slot, Register}
 use Rattle.qs_tac.specs.Fits.{instruction_fits, function_fits, parameter_fits}
-use Rattle.qs_frames.specs.Layout.{slot_count, slots_among}
+use Rattle.qs_frames.specs.Layout.{is_among, used_among, saved_registers}
+use Rattle.qs_frames.proofs.FrameLaws.{one_place_each, place_got, has_slot}
+use Rattle.qs_calls.specs.declared.parameter.Parameter.TheVariants.{Plain as plain_parameter}
 use Rattle.qs_emit_selection.specs.Operands.{Context}
 use Rattle.qs_emit_selection.specs.Emission.{Labels, enter, instruction_items, body_items, function_items, first_label, labels_of, functions_items, start_items}
 use Rattle.qs_emit_selection.specs.Data.{data_address}
 use Rattle.qs_emit_selection.proofs.Sizes.{words_are_kept}
 use Rattle.qs_emit.specs.Machine.{instruction_at}
-use Rattle.qs_emit.specs.Relation.{no_function, function_at, context, Setup, entry, place, HasPlace}
+use Rattle.qs_emit.specs.Relation.{no_function, function_at, context, Setup, entry, place, IsAmong, HasPlace}
+use Rattle.qs_emit.proofs.FrameLaws.{saved_cases}
 use Rattle.qs_emit.proofs.Steps.{HasAt, Fits}
 
 -- ---- items
@@ -106,6 +113,56 @@ module _ (at : ℕ → Option Instr) (label : ℕ → ℕ) (c : Context) (labels
               let more = goes_up at label middle (body_items c labels (k + 1) code) to back in
               omega (arith, e, up, more)
           low (suc j) le = subst (λ (n : ℕ). label (labels.instruction n) ≤ to) (next j) (b.low j (omega (arith, le)))
+
+-- ---- registers in which values stand
+
+-- a register in which a temporary stands is used
+is_used : (places : List Place) (t r : ℕ) → slice_get places t ≡ Some (Register r) → is_among places r ≡ true
+is_used [] t r e = absurd cc
+is_used (p ∷ places) zero r e =
+    let is : p ≡ Register r = cc in
+    let same : (r == r) ≡ true = grind (arith, nat_tests) in
+    ap (λ q. is_among (q ∷ places) r) is ∙ ap (λ (b : Bool). if b then true else is_among places r) same
+is_used (Slot k ∷ places) (suc t) r e = is_used places t r e
+is_used (Register q ∷ places) (suc t) r e = by (q == r) (is_used places t r e)
+  where
+    by : (b : Bool) → is_among places r ≡ true → (if b then true else is_among places r) ≡ true
+    by true h = refl
+    by false h = h
+
+used_here : (places : List Place) (registers : List ℕ) (r : ℕ) → is_among places r ≡ true → IsAmong registers r → IsAmong (used_among places registers) r
+used_here places [] r used h = h
+used_here places (q ∷ registers) r used h = by (λ k. used_here places registers r used k) h (is_among places q) refl
+  where
+    at_first : r ≡ q → is_among places q ≡ true
+    at_first e = ap (is_among places) (sym e) ∙ used
+
+    by : (IsAmong registers r → IsAmong (used_among places registers) r) → (r ≡ q) ⊎ IsAmong registers r → (b : Bool) → is_among places q ≡ b → IsAmong (if b then q ∷ used_among places registers else used_among places registers) r
+    by more (inl e) true t = inl e
+    by more (inl e) false t = let no_way : true ≡ false = sym (at_first e) ∙ t in absurd cc
+    by more (inr k) true t = inr (more k)
+    by more (inr k) false t = more k
+
+next_among : (q r : ℕ) (registers : List ℕ) → ((r ≡ q → ⊥) → IsAmong registers r) → IsAmong (q ∷ registers) r
+next_among q r registers more = ⊎_elim (λ e. inl e) (λ n. inr (more n)) (cases_eq r q)
+
+abbrev row : (first count : ℕ) → List ℕ
+row first zero = []
+row first (suc count) = first ∷ row (first + 1) count
+
+in_row : (first count r : ℕ) → first ≤ r → r < first + count → IsAmong (row first count) r
+in_row first zero r lo hi = absurd (omega (arith, lo, hi))
+in_row first (suc count) r lo hi =
+    next_among first r (row (first + 1) count) (λ n. let more : first + 1 ≤ r = grind (arith, lo, n) in in_row (first + 1) count r more (omega (arith, hi)))
+
+-- the list has all registers that a function gives back
+all_saved : (r : ℕ) → is_saved_register r ≡ true → IsAmong saved_registers r
+all_saved r h = by (saved_cases r h)
+  where
+    by : (r ≡ 8) ⊎ ((r ≡ 9) ⊎ ((18 ≤ r) × (r ≤ 27))) → IsAmong (8 ∷ 9 ∷ row 18 10) r
+    by (inl e) = inl e
+    by (inr (inl e)) = inr (inl e)
+    by (inr (inr k)) = let lo = k.0 in let hi = k.1 in inr (inr (in_row 18 10 r lo (omega (arith, hi))))
 
 -- ---- functions
 
@@ -229,30 +286,41 @@ module _ (s : Setup) where
   pub parameters_fit_there : (f : ℕ) → f < length s.unit.functions → list_all (parameter_fits (function_at s.unit f)) (function_at s.unit f).parameters ≡ true
   parameters_fit_there f lt = both_left _ _ (both_left _ _ (function_fits_there f lt))
 
-  all_are_slots : (first count : ℕ) → slots_among (slots_from first count) ≡ count
-  all_are_slots first zero = refl
-  all_are_slots first (suc count) = ap suc (all_are_slots (first + 1) count)
+  accepted_there : (f : ℕ) → f < length s.unit.functions → Accepted (function_at s.unit f) (context s f).places
+  accepted_there f lt = s.emittable.places f (function_at s.unit f) (function_there f lt)
 
-  slot_of : (first count t : ℕ) → slice_index_or (slots_from first count) t (Slot (first + t)) ≡ Slot (first + t)
-  slot_of first zero t = refl
-  slot_of first (suc count) zero = ap Slot (omega arith)
-  slot_of first (suc count) (suc t) =
-      let e : first + suc t ≡ first + 1 + t = omega arith in
-      ap (λ (k : ℕ). slice_index_or (slots_from (first + 1) count) t (Slot k)) e ∙ slot_of (first + 1) count t ∙ ap Slot (sym e)
-
-  -- each temporary stands in its own slot
-  pub own_place : (f : ℕ) → f < length s.unit.functions → (t : ℕ) → place_of (context s f).places t ≡ Slot t
-  own_place f lt t =
-      let accepted = s.emittable.places f (function_at s.unit f) (function_there f lt) in
-      let z : 0 + t ≡ t = omega arith in
-      ap (λ (l : List Place). slice_index_or l t (Slot t)) accepted.own_slots
-      ∙ subst (λ (k : ℕ). slice_index_or (slots_from 0 (function_at s.unit f).temporaries) t (Slot k) ≡ Slot k) z (slot_of 0 (function_at s.unit f).temporaries t)
-
+  -- each temporary stands in a place that the frame has
   pub has_place : (f : ℕ) → f < length s.unit.functions → (t : ℕ) → t < (function_at s.unit f).temporaries → HasPlace (context s f) (place_of (context s f).places t)
-  has_place f lt t h =
-      let accepted = s.emittable.places f (function_at s.unit f) (function_there f lt) in
-      let count : slot_count (context s f).places ≡ (function_at s.unit f).temporaries = ap slots_among accepted.own_slots ∙ all_are_slots 0 (function_at s.unit f).temporaries in
-      subst (λ (p : Place). HasPlace (context s f) p) (sym (own_place f lt t)) (omega (arith, h, count))
+  has_place f lt t h = by (place_of (context s f).places t) refl
+    where
+      p : PlacesTree
+      p = (context s f).places
+
+      for_values : (r : ℕ) → place_of p t ≡ Register r → Accepted (function_at s.unit f) p → is_for_values r ≡ true
+      for_values r is (own_slots own) = absurd (no_register (sym (own_slot (function_at s.unit f) p own t) ∙ is))
+        where
+          no_register : Slot t ≡ Register r → ⊥
+          no_register e = cc
+      for_values r is (keep_values v) = ap (may_stand (slot_count p)) (sym is) ∙ v.stand t h
+
+      by : (q : Place) → place_of p t ≡ q → HasPlace (context s f) q
+      by (Slot k) is = has_slot (function_at s.unit f) p (accepted_there f lt) t k h is
+      by (Register r) is =
+          let count = one_place_each (function_at s.unit f) p (accepted_there f lt) in (
+            for_values r is (accepted_there f lt),
+            λ saved. used_here p.at saved_registers r (is_used p.at t r (place_got p t (omega (arith, count, h)) ∙ ap Some is)) (all_saved r saved),
+          )
+
+  -- parameters stand apart
+  pub parameters_apart : (f : ℕ) → f < length s.unit.functions → (t x : ℕ) → Contains (function_at s.unit f).parameters (plain_parameter t) → Contains (function_at s.unit f).parameters (plain_parameter x) → place_of (context s f).places t ≡ place_of (context s f).places x → t ≡ x
+  parameters_apart f lt t x c d e = by (accepted_there f lt)
+    where
+      slot_same : Slot t ≡ Slot x → t ≡ x
+      slot_same i = cc
+
+      by : Accepted (function_at s.unit f) (context s f).places → t ≡ x
+      by (own_slots own) = slot_same (sym (own_slot (function_at s.unit f) (context s f).places own t) ∙ (e ∙ own_slot (function_at s.unit f) (context s f).places own x))
+      by (keep_values v) = v.apart t x (at_entry (inl c) (inl d)) e
 
   -- an instruction is at least one of the machine's
   pub some_code : (f : ℕ) → f < length s.unit.functions → (code : List Instr) (i : InstructionTree) → instruction_items (context s f) (labels_of s.unit f) i ≡ plain code → 1 ≤ length code

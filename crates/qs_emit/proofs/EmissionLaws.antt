@@ -16,7 +16,9 @@ use Rattle.qs_tac.specs.Trees.{InstructionTree, move, unary, binary, convert, ad
 use Rattle.qs_tac.specs.Trees.{copy, fill, call, jump, branch, return, TacFunctionTree, TacUnitTree}
 use Rattle.qs_tac.specs.Fits.{unit_fits}
 use Rattle.qs_tac.specs.Laws.{AreAccepted}
-use Rattle.qs_tac.specs.Places.{PlacesTree, slots_from, no_places}
+use Rattle.qs_tac.specs.Places.{PlacesTree, slots_from, no_places, place_of, slot_count, may_stand, Accepted, own_slots, keep_values}
+use Rattle.qs_tac.specs.declared.places.Place.{Place}
+use Rattle.qs_tac.specs.declared.places.Place.TheVariants.{Slot, Register}
 use Rattle.qs_tac.specs.Sizes.{unit_words}
 use Rattle.qs_tac.specs.declared.units.TacData.{TacData}
 use Rattle.qs_frames.specs.Layout.{total, layout, largest_frame}
@@ -80,6 +82,22 @@ all_short (j ∷ code) all (suc k) i at = all_short code (and_parts (passes_few 
 slots_fit : (first count : ℕ) → list_all place_fits (slots_from first count) ≡ true
 slots_fit first zero = refl
 slots_fit first (suc count) = slots_fit (first + 1) count
+
+standing_fits : (slots : ℕ) (p : Place) → may_stand slots p ≡ true → place_fits p ≡ true
+standing_fits slots (Slot k) h = refl
+standing_fits slots (Register r) h = grind (arith, nat_tests, h)
+
+all_stand : (places : List Place) → ((t : ℕ) (p : Place) → slice_get places t ≡ Some p → place_fits p ≡ true) → list_all place_fits places ≡ true
+all_stand [] h = refl
+all_stand (p ∷ places) h = both_true (place_fits p) (list_all place_fits places) (h 0 p refl) (all_stand places (λ t q e. h (suc t) q e))
+
+accepted_fit : (f : TacFunctionTree) (p : PlacesTree) → Accepted f p → places_fit p ≡ true
+accepted_fit f p (own_slots own) = ap (list_all place_fits) own ∙ slots_fit 0 f.temporaries
+accepted_fit f p (keep_values v) = all_stand p.at (λ t q e.
+    let within = slice_get_within p.at t q e in
+    let count = v.one_place_each in
+    let is : place_of p t ≡ q = get_or_from_slice_get p.at t q (Slot t) e in
+    standing_fits (slot_count p) q (ap (may_stand (slot_count p)) (sym is) ∙ v.stand t (omega (arith, within, count))))
 
 -- ---- data
 
@@ -187,7 +205,7 @@ module _ (u : TacUnitTree) (ps : List PlacesTree) (h : IsEmittable u ps) where
       let same : function_at u i ≡ g = get_or_from_slice_get u.functions i g no_function is in
       let parameters = subst (λ (x : TacFunctionTree). length x.parameters ≤ most_arguments) same (h.parameters i) in
       let code = subst (λ (x : TacFunctionTree). (k : ℕ) (j : InstructionTree) → slice_get x.code k ≡ Some j → HasFewArguments j) same (h.arguments i) in
-      let slots = ap (list_all place_fits) (h.places i g is).own_slots ∙ slots_fit 0 g.temporaries in
+      let slots = accepted_fit g (slice_index_or ps i no_places) (h.places i g is) in
       let cost = subst (λ (x : TacFunctionTree). (layout x (slice_index_or ps i no_places)).cost ≤ largest_frame) same (h.cost i (slice_get_within u.functions i g is)) in
       ap (λ (n : ℕ). function_fault g (slice_index_or ps n no_places)) number
       ∙ fault_by (has_few g) (places_fit (slice_index_or ps i no_places)) (frame_fits g (slice_index_or ps i no_places))

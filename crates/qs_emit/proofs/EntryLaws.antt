@@ -196,7 +196,7 @@ module _ (s : Setup) (f : ℕ) (vs : List Value) (w : World) (stack : List (Wait
       parameters_do s f h.known number stack lay low (function_at s.unit f).parameters vs to 10 no_values made (λ p. None) result (opened to k) (parameters_fit_there s f h.known) passed h.count (omega arith) (omega (arith, few))
       (λ i v e. subst (λ (x : ℕ). StandsFor made lay.address_of v x) (sym (k.others (10 + i) (λ z. absurd (omega (arith, z))) (λ z. absurd (omega (arith, z))) (λ z. absurd (omega (arith, z)))))
       (value_kept w.memory made l.address_of lay.address_of v (m.now.registers (10 + i)) later (h.arguments i v e)))
-      (λ t v e. cc)
+      (λ q c. c) (λ t v e. cc) (λ t v e. cc)
 
   -- the activation that begins
   abbrev pub beginning : Activation File

@@ -1,8 +1,8 @@
 -- What frames and blocks keep while registers and bytes around them change.
-use Rattle.std.proofs.Common.{◌≡◌, ◌⊎◌, inl, inr, ⊎_elim, ℕ, ◌+◌, ◌-◌, ◌*◌, ◌%◌, ◌^◌, ◌==◌, ◌<◌, ◌≤◌, Bool, true, false, List, [], ◌∷◌, length, Some, refl, sym, ap, ◌∙◌, subst, arith}
-use Rattle.std.specs.Prelude.{◌&&◌, if◌then◌else◌}
+use Rattle.std.proofs.Common.{◌≡◌, ◌⊎◌, inl, inr, ⊎_elim, ℕ, ◌+◌, ◌*◌, ◌%◌, ◌^◌, ◌==◌, ◌<◌, ◌≤◌, Bool, true, false, List, [], ◌∷◌, length, Some, refl, sym, ap, ◌∙◌, subst, arith}
+use Rattle.std.specs.Prelude.{◌&&◌, ◌||◌, nat_le, if◌then◌else◌}
 use Rattle.std.specs.List.{list_all}
-use Rattle.std.proofs.lemmas.Bool.{cases_eq, cases_lt}
+use Rattle.std.proofs.lemmas.Bool.{cases_eq, cases_lt, and_parts}
 use Rattle.std.proofs.lemmas.Bool.Decides.{nat_tests}
 use Rattle.qs_memory.specs.Values.{Value}
 use Rattle.qs_memory.specs.Memory.{Block, Memory, block_at}
@@ -12,12 +12,13 @@ use Rattle.qs_image.specs.Image.{Image}
 use Rattle.qs_machine.specs.State.{with_value, store_4}
 use Rattle.qs_tac.specs.declared.places.Place.{Place}
 use Rattle.qs_tac.specs.declared.places.Place.TheVariants.{Slot, Register}
-use Rattle.qs_tac.specs.Places.{PlacesTree}
+use Rattle.qs_tac.specs.Places.{PlacesTree, is_for_values}
 use Rattle.qs_tac.specs.Holders.{File, same_place, with_place, is_saved_register}
 use Rattle.qs_tac.specs.Values.{Activation}
 use Rattle.qs_tac.specs.Steps.{Waiting}
 use Rattle.qs_isa.specs.declared.instruction.StoreKind.TheVariants.{Sw}
-use Rattle.qs_frames.specs.Layout.{total, slot_count, is_among, used_among, saved_registers, used_registers, kept, register_at}
+use Rattle.qs_frames.specs.Layout.{total, is_among, used_among, saved_registers, used_registers, kept, HasSlot, register_at}
+use Rattle.qs_frames.proofs.FrameLaws as frame_laws
 use Rattle.qs_frames.proofs.FrameLaws.{is_cost}
 use Rattle.qs_emit_selection.specs.Operands.{Context, frame_of, slot_offset}
 use Rattle.qs_emit.specs.Machine.{Room}
@@ -37,8 +38,41 @@ pub record SameSaved (registers later : ℕ → ℕ) : Type 0 where
 pub saved_none : (registers : ℕ → ℕ) → SameSaved registers registers
 saved_none registers = record { same = λ r h. refl }
 
-pub saved_on : (a b d : ℕ → ℕ) → SameSaved a b → SameSaved b d → SameSaved a d
-saved_on a b d h k = record { same = λ r e. k.same r e ∙ h.same r e }
+-- the registers that hold values are as they were
+pub record SameValues (registers later : ℕ → ℕ) : Type 0 where
+  pub same : (r : ℕ) → is_for_values r ≡ true → later r ≡ registers r
+
+pub values_none : (registers : ℕ → ℕ) → SameValues registers registers
+values_none registers = record { same = λ r h. refl }
+
+pub values_on : (a b d : ℕ → ℕ) → SameValues a b → SameValues b d → SameValues a d
+values_on a b d h k = record { same = λ r e. k.same r e ∙ h.same r e }
+
+-- those that a function gives back are some of them
+pub saved_cases : (r : ℕ) → is_saved_register r ≡ true → (r ≡ 8) ⊎ ((r ≡ 9) ⊎ ((18 ≤ r) × (r ≤ 27)))
+saved_cases r h = by (r == 8) (r == 9) refl refl h
+  where
+    by : (x y : Bool) → (r == 8) ≡ x → (r == 9) ≡ y → x || y || (nat_le 18 r && nat_le r 27) ≡ true → (r ≡ 8) ⊎ ((r ≡ 9) ⊎ ((18 ≤ r) × (r ≤ 27)))
+    by true y e f k = inl (grind (arith, nat_tests, e))
+    by false true e f k = inr (inl (grind (arith, nat_tests, f)))
+    by false false e f k =
+        let t = and_parts (nat_le 18 r) (nat_le r 27) k in
+        inr (inr (grind (arith, nat_tests, t.0), grind (arith, nat_tests, t.1)))
+
+pub saved_is_for_values : (r : ℕ) → is_saved_register r ≡ true → is_for_values r ≡ true
+saved_is_for_values r h = by (saved_cases r h)
+  where
+    by : (r ≡ 8) ⊎ ((r ≡ 9) ⊎ ((18 ≤ r) × (r ≤ 27))) → is_for_values r ≡ true
+    by (inl e) = ap is_for_values e
+    by (inr (inl e)) = ap is_for_values e
+    by (inr (inr k)) = let lo = k.0 in let hi = k.1 in grind (arith, nat_tests, lo, hi)
+
+pub saved_of_values : (registers later : ℕ → ℕ) → SameValues registers later → SameSaved registers later
+saved_of_values registers later h = record { same = λ r e. h.same r (saved_is_for_values r e) }
+
+-- the registers in which these values stand are as they were
+abbrev pub SameHeld : File → (registers later : ℕ → ℕ) → Type 0
+SameHeld values registers later = (r : ℕ) (v : Value) → values (Register r) ≡ Some v → later r ≡ registers r
 
 among_test : (test : ℕ → Bool) (registers : List ℕ) (r : ℕ) → list_all test registers ≡ true → IsAmong registers r → test r ≡ true
 among_test test [] r h among = absurd among
@@ -103,32 +137,26 @@ frame_word : (c : Context) (g later : Ground) (from sp at : ℕ) → Onward g la
 frame_word c g later from sp at o le inside own = number_same 4 g.flat later.flat (sp + at) (λ x l u. o.same x (omega (arith, le, l)) (own x (omega (arith, l)) (omega (arith, u, inside))))
 
 -- where slots and saved registers end
-pub slot_inside : (c : Context) (k : ℕ) → slot_offset c k + 4 ≤ (frame_of c).placed
-slot_inside c k = below (kept c.places)
-  where
-    below : (n : ℕ) → 4 * n - 4 * k + 4 ≤ 4 + 4 * n
-    below n = omega arith
+pub slot_inside : (c : Context) (k : ℕ) → HasSlot c.places k → slot_offset c k + 4 ≤ (frame_of c).placed
+slot_inside c k h = let inside = frame_laws.slot_inside c.places k h in omega (arith, inside)
 
 pub register_inside : (c : Context) (i : ℕ) → i < length (used_registers c.places) → register_at i + 4 ≤ (frame_of c).placed
 register_inside c i h = omega (arith, h)
 
 -- slots lie behind the saved registers
-pub slot_behind : (c : Context) (k : ℕ) → k < slot_count c.places → 4 + 4 * length (used_registers c.places) ≤ slot_offset c k
-slot_behind c k h = by (length (used_registers c.places)) (slot_count c.places) h
-  where
-    by : (u n : ℕ) → k < n → 4 + 4 * u ≤ 4 * (u + n) - 4 * k
-    by u n h = omega (arith, h)
+pub slot_behind : (c : Context) (k : ℕ) → 4 + 4 * length (used_registers c.places) ≤ slot_offset c k
+slot_behind c k = let behind = frame_laws.slot_behind c.places k in omega (arith, behind)
 
 pub placed_inside : (c : Context) → (frame_of c).placed + total c.function.blocks ≤ (frame_of c).cost
 placed_inside c = let e = (is_cost (kept c.places) (total c.function.blocks)).enough in omega (arith, e)
 
 module _ (s : Setup) where
-  pub frame_onward : (g later : Ground) (f : ℕ) (registers other : ℕ → ℕ) (from sp number : ℕ) (values : File) → Onward g later from → from ≤ sp → SameSaved registers other → HasFrame s g f registers sp number values → HasFrame s later f other sp number values
-  frame_onward g later f registers other from sp number values o le same h =
+  pub frame_onward : (g later : Ground) (f : ℕ) (registers other : ℕ → ℕ) (from sp number : ℕ) (values : File) → Onward g later from → from ≤ sp → SameSaved registers other → SameHeld values registers other → HasFrame s g f registers sp number values → HasFrame s later f other sp number values
+  frame_onward g later f registers other from sp number values o le same standing h =
       let made = h.made in
       let longer = o.after.after.longer in
       record {
-        holds = λ p v e. let a = h.holds p v e in record { has = a.has; stands = held p v a.has a.stands };
+        holds = λ p v e. let a = h.holds p v e in record { has = a.has; stands = held p v e a.has a.stands };
         words = λ r k. let e = same.same r k in let w = h.words r k in omega (arith, e, w);
         private = λ at l u. o.frames at (omega (arith, le, l)) (h.private at l u);
         placed = λ i k. o.after.same (number + i) (omega (arith, made, k)) ∙ h.placed i k;
@@ -136,12 +164,12 @@ module _ (s : Setup) where
         apart = λ b k live. let known : b < length g.memory = omega (arith, made, k) in reach_onward s.image s.room g later (sp + cost s f) from b o known (h.apart b k (o.after.after.live b known live));
       }
     where
-      word : (p : Place) → HasPlace (context s f) p → word_in (context s f) other later.flat sp p ≡ word_in (context s f) registers g.flat sp p
-      word (Slot k) has = frame_word (context s f) g later from sp (slot_offset (context s f) k) o le (slot_inside (context s f) k) h.private
-      word (Register r) has = same.same r (used_saved (context s f).places r has)
+      word : (p : Place) (v : Value) → values p ≡ Some v → HasPlace (context s f) p → word_in (context s f) other later.flat sp p ≡ word_in (context s f) registers g.flat sp p
+      word (Slot k) v e has = frame_word (context s f) g later from sp (slot_offset (context s f) k) o le (slot_inside (context s f) k has) h.private
+      word (Register r) v e has = standing r v e
 
-      held : (p : Place) (v : Value) → HasPlace (context s f) p → StandsFor g.memory g.address_of v (word_in (context s f) registers g.flat sp p) → StandsFor later.memory later.address_of v (word_in (context s f) other later.flat sp p)
-      held p v has x = subst (λ (y : ℕ). StandsFor later.memory later.address_of v y) (sym (word p has)) (value_kept g.memory later.memory g.address_of later.address_of v (word_in (context s f) registers g.flat sp p) o.after x)
+      held : (p : Place) (v : Value) → values p ≡ Some v → HasPlace (context s f) p → StandsFor g.memory g.address_of v (word_in (context s f) registers g.flat sp p) → StandsFor later.memory later.address_of v (word_in (context s f) other later.flat sp p)
+      held p v e has x = subst (λ (y : ℕ). StandsFor later.memory later.address_of v y) (sym (word p v e has)) (value_kept g.memory later.memory g.address_of later.address_of v (word_in (context s f) registers g.flat sp p) o.after x)
 
   -- what a frame gives back
   pub caller_same : (g later : Ground) (f : ℕ) (registers other : ℕ → ℕ) (from sp : ℕ) → Onward g later from → from ≤ sp → SameSaved registers other → ((at : ℕ) → sp ≤ at → at < private_end (context s f) sp → g.owner at ≡ of_frame) → SameSaved (caller_registers (context s f) registers g.flat sp) (caller_registers (context s f) other later.flat sp)
@@ -166,7 +194,8 @@ module _ (s : Setup) where
           known = waits.known;
           inside = waits.inside;
           taken = waits.taken;
-          frame = frame_onward g later f registers other from sp w.activation.first_block w.activation.held o le same waits.frame;
+          frame = frame_onward g later f registers other from sp w.activation.first_block w.activation.held o le same (λ r v e. same.same r (waits.stays (Register r) v e)) waits.frame;
+          stays = waits.stays;
           in_room = waits.in_room;
           aligned = waits.aligned;
           low = waits.low;
@@ -202,8 +231,8 @@ module _ (s : Setup) where
 
   module _ (a : Activation File) (m : Memory) (stack : List (Waiting File)) (l : Lay) (registers : ℕ → ℕ) (sp : ℕ) (flat : ℕ → ℕ) (r : IsRelated s a m stack l registers sp flat) where
     -- nothing of frames and blocks is changed
-    related_onward : (other later : ℕ → ℕ) → SameSaved registers other → ((at : ℕ) → sp ≤ at → l.owner at ≡ of_frame → later at ≡ flat at) → SameCells m l.address_of flat later → IsRelated s a m stack l other sp later
-    related_onward other later same frames cells =
+    related_onward : (other later : ℕ → ℕ) → SameSaved registers other → SameHeld a.held registers other → ((at : ℕ) → sp ≤ at → l.owner at ≡ of_frame → later at ≡ flat at) → SameCells m l.address_of flat later → IsRelated s a m stack l other sp later
+    related_onward other later same standing frames cells =
         let g = ground m l flat in
         let h = ground m l later in
         let f = a.function in
@@ -211,7 +240,7 @@ module _ (s : Setup) where
         let word = return_same g h f sp sp o (omega arith) r.frame.private in
         record {
           known = r.known;
-          frame = frame_onward g h f registers other sp sp a.first_block a.held o (omega arith) same r.frame;
+          frame = frame_onward g h f registers other sp sp a.first_block a.held o (omega arith) same standing r.frame;
           in_room = r.in_room;
           above = subst (λ (x : ℕ). HasStack s h stack (caller_registers (context s f) other later sp) (sp + cost s f) x) (sym word)
               (stack_onward g h stack (caller_registers (context s f) registers flat sp) (caller_registers (context s f) other later sp) sp (sp + cost s f) (number_at 4 flat sp) o (omega arith) (caller_same g h f registers other sp sp o (omega arith) same r.frame.private) r.above);
@@ -220,8 +249,11 @@ module _ (s : Setup) where
         }
 
     -- others change what isn't the code's own
-    pub related_own : (other later : ℕ → ℕ) → SameSaved registers other → SameOwn s.room sp flat later → IsRelated s a m stack l other sp later
-    related_own other later same h = related_onward other later same (λ at le e. h.same at (inl le)) (λ b o live lt. h.same (l.address_of b + o) (cell_own (ground m l flat) sp b o r.blocks live lt))
+    pub related_held : (other later : ℕ → ℕ) → SameSaved registers other → SameHeld a.held registers other → SameOwn s.room sp flat later → IsRelated s a m stack l other sp later
+    related_held other later same standing h = related_onward other later same standing (λ at le e. h.same at (inl le)) (λ b o live lt. h.same (l.address_of b + o) (cell_own (ground m l flat) sp b o r.blocks live lt))
+
+    pub related_own : (other later : ℕ → ℕ) → SameValues registers other → SameOwn s.room sp flat later → IsRelated s a m stack l other sp later
+    related_own other later same h = related_held other later (saved_of_values registers other same) (λ q v e. same.same q (r.frame.holds (Register q) v e).has.0) h
 
     -- the activation goes on elsewhere
     pub related_to : (at : ℕ) → IsRelated s (record a { at = at }) m stack l registers sp flat
@@ -299,8 +331,8 @@ module _ (s : Setup) (a : Activation File) (m : Memory) (stack : List (Waiting F
       let later = store_4 flat (sp + at) x in
       let g = ground m l flat in
       let h = ground m l later in
-      let behind = slot_behind c k has in
-      let inside = slot_inside c k in
+      let behind = slot_behind c k in
+      let inside = slot_inside c k has in
       let whole = placed_inside c in
       let far : (y : ℕ) → sp + (frame_of c).cost ≤ y → later y ≡ flat y = λ y le. stored_other Sw flat (sp + at) x y (inr (omega (arith, le, inside, whole))) in
       let word : number_at 4 later sp ≡ number_at 4 flat sp = number_beside flat (sp + at) x 4 sp (inl (omega (arith, behind))) in
@@ -327,18 +359,12 @@ module _ (s : Setup) (a : Activation File) (m : Memory) (stack : List (Waiting F
       }
     where
       outside : (y b i : ℕ) → l.owner y ≡ cell_of b i → (y < sp + slot_offset c k) ⊎ (sp + slot_offset c k + 4 ≤ y)
-      outside y b i e = ⊎_elim (λ lt. inl lt) (λ ge. ⊎_elim (λ lt. absurd (not_both (l.owner y) b i (r.frame.private y (let q = slot_behind c k has in omega (arith, ge, q)) (let q = slot_inside c k in omega (arith, lt, q))) e)) (λ far. inr far) (cases_lt y (sp + slot_offset c k + 4))) (cases_lt y (sp + slot_offset c k))
-
-      slots_apart : (u n i k : ℕ) → i < n → k < n → (i ≡ k → ⊥) → (4 * (u + n) - 4 * i + 4 ≤ 4 * (u + n) - 4 * k) ⊎ (4 * (u + n) - 4 * k + 4 ≤ 4 * (u + n) - 4 * i)
-      slots_apart u n i k li lk ne = ⊎_elim (λ lt. inr (omega (arith, lt, li, lk))) (λ ge. inl (less ge)) (cases_lt i k)
-        where
-          less : k ≤ i → 4 * (u + n) - 4 * i + 4 ≤ 4 * (u + n) - 4 * k
-          less ge = let lt : k < i = grind (arith, ge, ne) in omega (arith, lt, li, lk)
+      outside y b i e = ⊎_elim (λ lt. inl lt) (λ ge. ⊎_elim (λ lt. absurd (not_both (l.owner y) b i (r.frame.private y (let q = slot_behind c k in omega (arith, ge, q)) (let q = slot_inside c k has in omega (arith, lt, q))) e)) (λ far. inr far) (cases_lt y (sp + slot_offset c k + 4))) (cases_lt y (sp + slot_offset c k))
 
       others : (k : ℕ) → HasPlace c (Slot k) → (p : Place) (u : Value) → same_place p (Slot k) ≡ false → IsHeld c m l.address_of registers flat sp p u → IsHeld c m l.address_of registers (store_4 flat (sp + slot_offset c k) x) sp p u
       others k has (Slot i) u n held =
           let ne : i ≡ k → ⊥ = λ e. let t : true ≡ false = sym (ap (λ j. same_place (Slot j) (Slot k)) e ∙ place_same (Slot k)) ∙ n in cc in
-          let apart = slots_apart (length (used_registers c.places)) (slot_count c.places) i k held.has has ne in
+          let apart = frame_laws.slots_apart c.places i k held.has has ne in
           let word = number_beside flat (sp + slot_offset c k) x 4 (sp + slot_offset c i) (shift i k apart) in
           record {
             has = held.has;
@@ -358,7 +384,7 @@ module _ (s : Setup) (a : Activation File) (m : Memory) (stack : List (Waiting F
       let here : StandsFor m l.address_of v (with_value registers q x q) = subst (λ (y : ℕ). StandsFor m l.address_of v y) (sym (value_here registers q x q refl)) stands in
       let given : SameSaved (caller_registers c registers flat sp) (caller_registers c (with_value registers q x) flat sp) = record {
         same = λ z e. ⊎_elim
-            (λ i. saved_in_among (used_registers c.places) registers (with_value registers q x) flat sp 0 z (subst (λ (y : ℕ). IsAmong (used_registers c.places) y) (sym i) has))
+            (λ i. saved_in_among (used_registers c.places) registers (with_value registers q x) flat sp 0 z (subst (λ (y : ℕ). IsAmong (used_registers c.places) y) (sym i) (has.1 (subst (λ (y : ℕ). is_saved_register y ≡ true) i e))))
             (λ n. saved_in_same (used_registers c.places) registers (with_value registers q x) flat flat sp 0 z (value_there registers q x z n) (λ i lo hi. refl))
             (cases_eq z q);
       } in

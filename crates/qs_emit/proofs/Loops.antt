@@ -16,8 +16,8 @@ use Rattle.qs_emit.specs.Lies.{AreBytes, IsOwn, SameOwn}
 use Rattle.qs_emit.specs.Relation.{Setup}
 use Rattle.qs_emit.proofs.Injection.{stored_byte, stored_other, value_here}
 use Rattle.qs_emit.proofs.Steps.{Does, does_with, does_then, does_is, op_imm_does, load_does, store_does, MayRead, MayWrite, same_on}
-use Rattle.qs_emit.proofs.FrameLaws.{SameSaved}
-use Rattle.qs_emit.proofs.Operands.{argument_scratch, saved_apart}
+use Rattle.qs_emit.proofs.FrameLaws.{SameValues}
+use Rattle.qs_emit.proofs.Operands.{argument_scratch, value_apart}
 use Rattle.qs_emit.proofs.LoopSteps.{loop_does}
 
 -- ---- a byte or a word at a time
@@ -104,7 +104,7 @@ module _ (s : Setup) (sp to size width : ℕ) (start registers : ℕ → ℕ) wh
     pub sum : done + turn_bytes width turns ≡ size
     pub a5 : m.now.registers 15 ≡ to + done
     pub a7 : m.now.registers 17 ≡ to + size
-    pub saved : SameSaved registers m.now.registers
+    pub saved : SameValues registers m.now.registers
     pub aligned : (to + done) % width ≡ 0
 
   -- ---- zeros
@@ -173,7 +173,7 @@ module _ (s : Setup) (sp to size width : ℕ) (start registers : ℕ → ℕ) wh
             sum = omega (arith, sum);
             a5 = k.got ∙ goes_on (m1.now.registers 15) (to + done) width a5_is (omega (arith, low, sum)) ∙ omega arith;
             a7 = k.others 17 (λ e. absurd (omega (arith, e))) ∙ g.others 17 (λ e. absurd (omega (arith, e))) ∙ h.at.a7;
-            saved = record { same = λ q b. k.others q (saved_apart q 15 b refl) ∙ g.others q (saved_apart q 1 b refl) ∙ h.at.saved.same q b };
+            saved = record { same = λ q b. k.others q (value_apart q 15 b refl) ∙ g.others q (value_apart q 1 b refl) ∙ h.at.saved.same q b };
             aligned = let f = aligned_on width (to + done) is.small h.at.aligned in let e : to + (done + width) ≡ to + done + width = omega arith in subst (λ (x : ℕ). x % width ≡ 0) (sym e) f;
           };
           inside = λ j lt. all.same (to + j) (own j (omega (arith, lt, sum))) ∙ filled m h j lt;
@@ -280,7 +280,7 @@ module _ (s : Setup) (sp to size width : ℕ) (start registers : ℕ → ℕ) wh
               sum = omega (arith, sum);
               a5 = g4.got ∙ goes_on (m3.now.registers 15) (to + done) width a5_three (omega (arith, low, sum)) ∙ omega arith;
               a7 = g4.others 17 (λ e. absurd (omega (arith, e))) ∙ g3.others 17 (λ e. absurd (omega (arith, e))) ∙ g2.others 17 (λ e. absurd (omega (arith, e))) ∙ g1.others 17 (λ e. absurd (omega (arith, e))) ∙ h.at.a7;
-              saved = record { same = λ q b. g4.others q (saved_apart q 15 b refl) ∙ g3.others q (saved_apart q 1 b refl) ∙ g2.others q (saved_apart q 16 b refl) ∙ g1.others q (saved_apart q 14 b refl) ∙ h.at.saved.same q b };
+              saved = record { same = λ q b. g4.others q (value_apart q 15 b refl) ∙ g3.others q (value_apart q 1 b refl) ∙ g2.others q (value_apart q 16 b refl) ∙ g1.others q (value_apart q 14 b refl) ∙ h.at.saved.same q b };
               aligned = let f = aligned_on width (to + done) is.small h.at.aligned in let e : to + (done + width) ≡ to + done + width = omega arith in subst (λ (y : ℕ). y % width ≡ 0) (sym e) f;
             };
             a6 = g4.others 16 (λ e. absurd (omega (arith, e))) ∙ g3.others 16 (λ e. absurd (omega (arith, e))) ∙ g2.got ∙ goes_on (m1.now.registers 16) (from + done) width a6_one (omega (arith, source_low, sum)) ∙ omega arith;

@@ -29,9 +29,9 @@ use Rattle.qs_emit.specs.Relation.{Setup}
 use Rattle.qs_emit.proofs.Injection.{value_here, stored_other}
 use Rattle.qs_emit.proofs.Steps.{Does, Gets, does_is, does_then, does_none, op_does, store_does, MayRead, MayWrite, gets_on}
 use Rattle.qs_emit.proofs.Slots.{constant_does, gets_is}
-use Rattle.qs_emit.proofs.FrameLaws.{SameSaved, saved_none, saved_on}
+use Rattle.qs_emit.proofs.FrameLaws.{SameValues, values_none, values_on}
 use Rattle.qs_emit.proofs.Values.{same_cell}
-use Rattle.qs_emit.proofs.Operands.{argument_scratch, saved_apart}
+use Rattle.qs_emit.proofs.Operands.{argument_scratch, value_apart}
 use Rattle.qs_emit.proofs.Loops.{IsAccess, words_are_accesses, bytes_are_accesses, turn_bytes, Filling, fill_loop_does, Copying, copy_loop_does}
 
 -- ---- blanks
@@ -113,7 +113,7 @@ module _ (s : Setup) (sp : ℕ) where
   record IsCleared (m : Watched) (from size : ℕ) (m1 : Watched) : Type 0 where
     x2 : m1.now.registers 2 ≡ sp
     a5 : m1.now.registers 15 ≡ from + size
-    saved : SameSaved m.now.registers m1.now.registers
+    saved : SameValues m.now.registers m1.now.registers
     inside : (j : ℕ) → j < size → m1.now.memory (from + j) ≡ 0
     outside : (at : ℕ) → IsOwn s.room sp at → (at < from) ⊎ (from + size ≤ at) → m1.now.memory at ≡ m.now.memory at
 
@@ -138,7 +138,7 @@ module _ (s : Setup) (sp : ℕ) where
       let a7 = argument_scratch 17 (omega arith) (omega arith) in
       does_then s m (loop_end size) _ _ _ (loop_end_does m to size a5 low) (λ m1 y2 g.
       let x : m1.now.registers 2 ≡ sp = y2 ∙ x2 in
-      let saved : SameSaved m.now.registers m1.now.registers = record { same = λ q b. g.others q (saved_apart q 17 b refl) } in
+      let saved : SameValues m.now.registers m1.now.registers = record { same = λ q b. g.others q (value_apart q 17 b refl) } in
       let none : to + 0 ≡ to = omega arith in
       let a5_one : m1.now.registers 15 ≡ to + 0 = g.others 15 (λ e. absurd (omega (arith, e))) ∙ a5 ∙ sym none in
       let start : Filling s sp to size width m1.now.memory m.now.registers (suc turns) m1 = record {
@@ -160,7 +160,7 @@ module _ (s : Setup) (sp : ℕ) where
       }))
 
   cleared_none : (m : Watched) (to : ℕ) → m.now.registers 2 ≡ sp → m.now.registers 15 ≡ to → IsCleared m to 0 m
-  cleared_none m to x2 a5 = record { x2 = x2; a5 = a5 ∙ omega arith; saved = saved_none m.now.registers; inside = λ j lt. absurd (omega (arith, lt)); outside = λ at o out. refl }
+  cleared_none m to x2 a5 = record { x2 = x2; a5 = a5 ∙ omega arith; saved = values_none m.now.registers; inside = λ j lt. absurd (omega (arith, lt)); outside = λ at o out. refl }
 
   -- unless there are none
   cleared_unless : (m : Watched) (to count size : ℕ) (code : List Instr) → m.now.registers 2 ≡ sp → m.now.registers 15 ≡ to → (count ≡ 0 → size ≡ 0) → ((n : ℕ) → count ≡ suc n → Does s m code (IsCleared m to size)) → Does s m (unless_none count code) (IsCleared m to size)
@@ -173,12 +173,12 @@ module _ (s : Setup) (sp : ℕ) where
   record IsClearedFrom (m : Watched) (to offset count : ℕ) (m1 : Watched) : Type 0 where
     x2 : m1.now.registers 2 ≡ sp
     a5 : m1.now.registers 15 ≡ to
-    saved : SameSaved m.now.registers m1.now.registers
+    saved : SameValues m.now.registers m1.now.registers
     inside : (j : ℕ) → offset ≤ j → j < offset + count → m1.now.memory (to + j) ≡ 0
     outside : (at : ℕ) → IsOwn s.room sp at → (at < to + offset) ⊎ (to + offset + count ≤ at) → m1.now.memory at ≡ m.now.memory at
 
   bytes_do : (m : Watched) (to size offset count : ℕ) → m.now.registers 2 ≡ sp → m.now.registers 15 ≡ to → offset + count ≤ size → to + size ≤ 2 ^ 31 → ((j : ℕ) → j < size → IsOwn s.room sp (to + j)) → MayFill to size 1 → Does s m (zero_bytes count offset) (IsClearedFrom m to offset count)
-  bytes_do m to size offset zero x2 a5 fits low own may = does_none s m _ (record { x2 = x2; a5 = a5; saved = saved_none m.now.registers; inside = λ j lo hi. absurd (omega (arith, lo, hi)); outside = λ at o out. refl })
+  bytes_do m to size offset zero x2 a5 fits low own may = does_none s m _ (record { x2 = x2; a5 = a5; saved = values_none m.now.registers; inside = λ j lo hi. absurd (omega (arith, lo, hi)); outside = λ at o out. refl })
   bytes_do m to size offset (suc count) x2 a5 fits low own may =
       let address : words.add (register m.now 15) offset ≡ to + offset = ap (λ (x : ℕ). words.add x offset) a5 ∙ omega (arith, low, fits) in
       let new = stored Sb m.now.memory (to + offset) 0 in
@@ -189,7 +189,7 @@ module _ (s : Setup) (sp : ℕ) where
       does_is s m1 _ _ _ (bytes_do m1 to size (offset + 1) count x a5_one (omega (arith, fits)) low own may) (λ m2 z2 k. record {
         x2 = k.x2;
         a5 = k.a5;
-        saved = record { same = λ q b. k.saved.same q b ∙ g.others q (saved_apart q 1 b refl) };
+        saved = record { same = λ q b. k.saved.same q b ∙ g.others q (value_apart q 1 b refl) };
         inside = λ j lo hi. ⊎_elim
             (λ e. k.outside (to + j) (own j (omega (arith, hi, fits))) (inl (omega (arith, e))) ∙ bytes.same (to + j) (own j (omega (arith, hi, fits))) ∙ value_here m.now.memory (to + offset) (0 % 2 ^ 8) (to + j) (omega (arith, e)))
             (λ n. k.inside j (after j lo n) (omega (arith, hi)))
@@ -211,14 +211,14 @@ module _ (s : Setup) (sp : ℕ) where
   -- what a fill leaves
   pub record IsFilled (m : Watched) (to size : ℕ) (m1 : Watched) : Type 0 where
     pub x2 : m1.now.registers 2 ≡ sp
-    pub saved : SameSaved m.now.registers m1.now.registers
+    pub saved : SameValues m.now.registers m1.now.registers
     pub inside : (j : ℕ) → j < size → m1.now.memory (to + j) ≡ 0
     pub outside : (at : ℕ) → IsOwn s.room sp at → (at < to) ⊎ (to + size ≤ at) → m1.now.memory at ≡ m.now.memory at
 
   filled_on : (m m1 m2 : Watched) (to first count : ℕ) → ((j : ℕ) → j < first + count → IsOwn s.room sp (to + j)) → IsCleared m to first m1 → IsClearedFrom m1 (to + first) 0 count m2 → IsFilled m to (first + count) m2
   filled_on m m1 m2 to first count own h k = record {
     x2 = k.x2;
-    saved = saved_on m.now.registers m1.now.registers m2.now.registers h.saved k.saved;
+    saved = values_on m.now.registers m1.now.registers m2.now.registers h.saved k.saved;
     inside = λ j lt. ⊎_elim
         (λ lo. k.outside (to + j) (own j lt) (inl (omega (arith, lo))) ∙ h.inside j lo)
         (λ hi. let i = j - first in let e : to + first + i ≡ to + j = omega (arith, hi) in subst (λ (x : ℕ). m2.now.memory x ≡ 0) e (k.inside i (omega arith) (omega (arith, hi, lt))))
@@ -253,7 +253,7 @@ module _ (s : Setup) (sp : ℕ) where
 
   pub record IsMoved (m : Watched) (to from size : ℕ) (m1 : Watched) : Type 0 where
     pub x2 : m1.now.registers 2 ≡ sp
-    pub saved : SameSaved m.now.registers m1.now.registers
+    pub saved : SameValues m.now.registers m1.now.registers
     pub inside : (j : ℕ) → j < size → m1.now.memory (to + j) ≡ m.now.memory (from + j)
     pub outside : (at : ℕ) → IsOwn s.room sp at → (at < to) ⊎ (to + size ≤ at) → m1.now.memory at ≡ m.now.memory at
 
@@ -266,7 +266,7 @@ module _ (s : Setup) (sp : ℕ) where
   copy_does m from_kind kind width to from size turns is x2 a5 a6 count low source_low aligned own source_own may may_read apart source_aligned =
       does_then s m (loop_end size) _ _ _ (loop_end_does m to size a5 low) (λ m1 y2 g.
       let x : m1.now.registers 2 ≡ sp = y2 ∙ x2 in
-      let saved : SameSaved m.now.registers m1.now.registers = record { same = λ q b. g.others q (saved_apart q 17 b refl) } in
+      let saved : SameValues m.now.registers m1.now.registers = record { same = λ q b. g.others q (value_apart q 17 b refl) } in
       let none : to + 0 ≡ to = omega arith in
       let a5_one : m1.now.registers 15 ≡ to + 0 = g.others 15 (λ e. absurd (omega (arith, e))) ∙ a5 ∙ sym none in
       let a6_one : m1.now.registers 16 ≡ from + 0 = g.others 16 (λ e. absurd (omega (arith, e))) ∙ a6 ∙ omega arith in

@@ -1,5 +1,5 @@
 -- Operands come into registers, and results go to their places.
-use Rattle.std.proofs.Common.{◌≡◌, ◌⊎◌, inl, inr, ⊎_elim, ℕ, zero, suc, ◌+◌, ◌-◌, ◌*◌, ◌%◌, ◌^◌, ◌==◌, ◌<◌, ◌≤◌, Bool, true, false, List, [], ◌∷◌, ◌++◌, length, map, Some, None, refl, sym, ap, ◌∙◌, subst, arith}
+use Rattle.std.proofs.Common.{◌≡◌, ◌⊎◌, inl, inr, ⊎_elim, ℕ, zero, suc, ◌+◌, ◌*◌, ◌%◌, ◌^◌, ◌==◌, ◌<◌, ◌≤◌, Bool, true, false, List, [], ◌∷◌, ◌++◌, length, map, Some, None, refl, sym, ap, ◌∙◌, subst, arith}
 use Rattle.std.specs.Prelude.{if◌then◌else◌, unwrap_or}
 use Rattle.std.proofs.lemmas.Bool.{cases_eq}
 use Rattle.std.proofs.lemmas.Bool.Decides.{nat_tests}
@@ -21,13 +21,14 @@ use Rattle.qs_tac.specs.declared.operands.Operand.{Operand}
 use Rattle.qs_tac.specs.declared.operands.Operand.TheVariants.{Temporary, Integer, Byte, Constant, Null, Local, Data}
 use Rattle.qs_tac.specs.declared.units.TacData.{TacData}
 use Rattle.qs_tac.specs.Holders.{Holder, File, places, with_place, is_saved_register}
-use Rattle.qs_tac.specs.Places.{place_of, place_in}
+use Rattle.qs_tac.specs.Places.{place_of, place_in, is_for_values}
 use Rattle.qs_tac.specs.Fits.{operand_fits}
 use Rattle.qs_tac.specs.Units.{plain_of}
 use Rattle.qs_tac.specs.Values.{Activation, operand}
 use Rattle.qs_tac.specs.Steps.{Waiting}
 use Rattle.std.specs.List.{slice_get}
-use Rattle.qs_frames.specs.Layout.{offset, kept}
+use Rattle.qs_frames.specs.Layout.{offset}
+use Rattle.qs_frames.proofs.FrameLaws as frame_laws
 use Rattle.qs_frames.proofs.FrameLaws.{offset_inside}
 use Rattle.qs_emit_selection.specs.Pieces.{constant}
 use Rattle.qs_emit_selection.specs.Operands.{Context, frame_of, slot_offset, local_offset, place_into, byte_into, into as operand_into, register_of, unless_there, operand_code, operand_register, result_register, put_place, result_code}
@@ -40,7 +41,7 @@ use Rattle.qs_emit.proofs.Bytes.{number_small}
 use Rattle.qs_emit.proofs.Injection.{HaveWords, value_here, value_there}
 use Rattle.qs_emit.proofs.Steps.{Does, Gets, Writes, IsFree, does_with, does_then, does_is, does_none, op_imm_does}
 use Rattle.qs_emit.proofs.Slots.{IsInFrame, word_at, reads_free, constant_does, load_from_does, store_to_does, address_does, gets_is}
-use Rattle.qs_emit.proofs.FrameLaws.{SameSaved, used_saved, slot_inside, placed_inside, related_own, related_slot, related_register}
+use Rattle.qs_emit.proofs.FrameLaws.{SameValues, slot_inside, placed_inside, related_own, related_slot, related_register}
 use Rattle.qs_emit.proofs.Access.{have_words, stands_word}
 use Rattle.qs_emit.proofs.Words.{low_byte}
 
@@ -51,13 +52,13 @@ holder s = places (λ f. plain_of (slice_get s.unit.functions f)) (place_in s.pl
 -- a register that holds no value of linear code and isn't x2: code may use it for its steps
 pub record IsScratch (r : ℕ) : Type 0 where
   pub free : IsFree r
-  pub unsaved : is_saved_register r ≡ false
+  pub valueless : is_for_values r ≡ false
 
 -- a0 to a7
 pub argument_scratch : (r : ℕ) → 10 ≤ r → r < 18 → IsScratch r
 argument_scratch r lo hi = record {
   free = (λ e. absurd (omega (arith, e, lo)), λ e. absurd (omega (arith, e, lo)));
-  unsaved = grind (arith, nat_tests, lo, hi);
+  valueless = grind (arith, nat_tests, lo, hi);
 }
 
 pub saved_apart : (q r : ℕ) → is_saved_register q ≡ true → is_saved_register r ≡ false → q ≡ r → ⊥
@@ -66,18 +67,24 @@ saved_apart q r h k e = let no_way : true ≡ false = sym h ∙ ap is_saved_regi
 pub saved_free : (q : ℕ) → is_saved_register q ≡ true → IsFree q
 saved_free q h = (saved_apart q 0 h refl, saved_apart q 2 h refl)
 
+pub value_apart : (q r : ℕ) → is_for_values q ≡ true → is_for_values r ≡ false → q ≡ r → ⊥
+value_apart q r h k e = let no_way : true ≡ false = sym h ∙ ap is_for_values e ∙ k in cc
+
+pub value_free : (q : ℕ) → is_for_values q ≡ true → IsFree q
+value_free q h = (value_apart q 0 h refl, value_apart q 2 h refl)
+
 -- where an operand stands: in the register that was free for it, in x0, or in a register that holds a value
 pub record IsThere (free r : ℕ) : Type 0 where
-  pub is : (r ≡ free) ⊎ ((r ≡ 0) ⊎ (is_saved_register r ≡ true))
+  pub is : (r ≡ free) ⊎ ((r ≡ 0) ⊎ (is_for_values r ≡ true))
 
 -- other steps leave it there
 pub there_apart : (free r q : ℕ) → IsThere free r → IsScratch q → (free ≡ q → ⊥) → r ≡ q → ⊥
 there_apart free r q there scratch n e = by there.is
   where
-    by : (r ≡ free) ⊎ ((r ≡ 0) ⊎ (is_saved_register r ≡ true)) → ⊥
+    by : (r ≡ free) ⊎ ((r ≡ 0) ⊎ (is_for_values r ≡ true)) → ⊥
     by (inl k) = n (sym k ∙ e)
     by (inr (inl k)) = scratch.free.0 (sym e ∙ k)
-    by (inr (inr k)) = saved_apart r q k scratch.unsaved e
+    by (inr (inr k)) = value_apart r q k scratch.valueless e
 
 -- a register reads the same
 pub reads_same : (m m1 : State) (r : ℕ) → m1.registers r ≡ m.registers r → register m1 r ≡ register m r
@@ -111,17 +118,17 @@ module _ (s : Setup) (a : Activation File) (w : Memory) (stack : List (Waiting F
     pub x2 : m.now.registers 2 ≡ sp
     pub related : IsRelated s a w stack l m.now.registers sp m.now.memory
 
-  pub amid_on : (m m1 : Watched) → IsAmid m → m1.now.registers 2 ≡ m.now.registers 2 → SameSaved m.now.registers m1.now.registers → SameOwn s.room (m.now.registers 2) m.now.memory m1.now.memory → IsAmid m1
+  pub amid_on : (m m1 : Watched) → IsAmid m → m1.now.registers 2 ≡ m.now.registers 2 → SameValues m.now.registers m1.now.registers → SameOwn s.room (m.now.registers 2) m.now.memory m1.now.memory → IsAmid m1
   amid_on m m1 h x2 same bytes = record {
     x2 = x2 ∙ h.x2;
     related = related_own s a w stack l m.now.registers sp m.now.memory h.related m1.now.registers m1.now.memory same (subst (λ (p : ℕ). SameOwn s.room p m.now.memory m1.now.memory) h.x2 bytes);
   }
 
-  pub gets_saved : (m m1 : Watched) (r x : ℕ) → IsScratch r → Gets s m r x m1 → SameSaved m.now.registers m1.now.registers
-  gets_saved m m1 r x scratch g = record { same = λ q h. g.others q (saved_apart q r h scratch.unsaved) }
+  pub gets_values : (m m1 : Watched) (r x : ℕ) → IsScratch r → Gets s m r x m1 → SameValues m.now.registers m1.now.registers
+  gets_values m m1 r x scratch g = record { same = λ q h. g.others q (value_apart q r h scratch.valueless) }
 
   pub amid_gets : (m m1 : Watched) (r x : ℕ) → IsScratch r → IsAmid m → m1.now.registers 2 ≡ m.now.registers 2 → Gets s m r x m1 → IsAmid m1
-  amid_gets m m1 r x scratch h x2 g = amid_on m m1 h x2 (gets_saved m m1 r x scratch g) g.bytes_same
+  amid_gets m m1 r x scratch h x2 g = amid_on m m1 h x2 (gets_values m m1 r x scratch g) g.bytes_same
 
   pub are_words : (m : Watched) → IsAmid m → HaveWords w l.address_of
   are_words m h = have_words s (ground w l m.now.memory) sp h.related.blocks h.related.in_room.above
@@ -149,13 +156,10 @@ module _ (s : Setup) (a : Activation File) (w : Memory) (stack : List (Waiting F
       record { above = omega (arith, lo, e); below = omega (arith, hi, e, fits) }
 
   pub slot_aligned : (m : Watched) (k : ℕ) → IsAmid m → (m.now.registers 2 + slot_offset c k) % 4 ≡ 0
-  slot_aligned m k h = let al = h.related.in_room.aligned in let e = h.x2 in by (kept c.places) (omega (arith, al, e))
-    where
-      by : (n : ℕ) → m.now.registers 2 % 4 ≡ 0 → (m.now.registers 2 + (4 * n - 4 * k)) % 4 ≡ 0
-      by n al = omega (arith, al)
+  slot_aligned m k h = let al = h.related.in_room.aligned in let e = h.x2 in let slot = frame_laws.slot_aligned c.places k in omega (arith, al, e, slot)
 
-  pub slot_fits : (k : ℕ) → slot_offset c k + 4 ≤ (frame_of c).cost
-  slot_fits k = let x = slot_inside c k in let y = placed_inside c in omega (arith, x, y)
+  pub slot_fits : (k : ℕ) → HasPlace c (Slot k) → slot_offset c k + 4 ≤ (frame_of c).cost
+  slot_fits k has = let x = slot_inside c k has in let y = placed_inside c in omega (arith, x, y)
 
   -- ---- from places
 
@@ -163,12 +167,11 @@ module _ (s : Setup) (a : Activation File) (w : Memory) (stack : List (Waiting F
   place_into_does m rd (Slot k) v free h e =
       let held = h.related.frame.holds (Slot k) v e in
       let at : load_4 m.now.memory (m.now.registers 2 + slot_offset c k) ≡ number_at 4 m.now.memory (sp + slot_offset c k) = sym (word_at m.now.memory (m.now.registers 2 + slot_offset c k)) ∙ ap (λ (p : ℕ). number_at 4 m.now.memory (p + slot_offset c k)) h.x2 in
-      does_with s m _ _ (λ bytes. does_is s m _ _ _ (load_from_does s m Lw rd (slot_offset c k) free (slot_aligned m k h) (in_frame m (slot_offset c k) 4 h (slot_fits k)))
+      does_with s m _ _ (λ bytes. does_is s m _ _ _ (load_from_does s m Lw rd (slot_offset c k) free (slot_aligned m k h) (in_frame m (slot_offset c k) 4 h (slot_fits k held.has)))
       (λ m1 x2 g. record { word = number_at 4 m.now.memory (sp + slot_offset c k); stands = held.stands; small = number_small m.now.memory (sp + slot_offset c k) (λ j lt. bytes (sp + slot_offset c k + j)); gets = gets_is s m m1 rd _ _ at g }))
   place_into_does m rd (Register r) v free h e =
       let held = h.related.frame.holds (Register r) v e in
-      let saved = used_saved c.places r held.has in
-      let at : words.add (register m.now r) 0 ≡ m.now.registers r % 2 ^ 32 = ap (λ (x : ℕ). words.add x 0) (reads_free s m.now r (saved_free r saved).0) ∙ omega arith in
+      let at : words.add (register m.now r) 0 ≡ m.now.registers r % 2 ^ 32 = ap (λ (x : ℕ). words.add x 0) (reads_free s m.now r (value_free r held.has.0).0) ∙ omega arith in
       does_is s m _ _ _ (op_imm_does s m Addi rd r 0 free)
       (λ m1 x2 g. record { word = m.now.registers r % 2 ^ 32; stands = stands_word w l.address_of v (m.now.registers r) (are_words m h) held.stands; small = omega arith; gets = gets_is s m m1 rd _ _ at g })
 
@@ -181,12 +184,11 @@ module _ (s : Setup) (a : Activation File) (w : Memory) (stack : List (Waiting F
       let low = bytes (sp + slot_offset c k) in
       let first = first_byte m.now.memory (sp + slot_offset c k) in
       let at : m.now.memory (m.now.registers 2 + slot_offset c k) ≡ n % 2 ^ 8 = ap (λ (p : ℕ). m.now.memory (p + slot_offset c k)) h.x2 ∙ omega (arith, first, stands, low) in
-      does_is s m _ _ _ (load_from_does s m Lbu rd (slot_offset c k) free (omega arith) (in_frame m (slot_offset c k) 1 h (let f = slot_fits k in omega (arith, f))))
+      does_is s m _ _ _ (load_from_does s m Lbu rd (slot_offset c k) free (omega arith) (in_frame m (slot_offset c k) 1 h (let f = slot_fits k held.has in omega (arith, f))))
       (λ m1 x2 g. record { word = n % 2 ^ 8; stands = (refl, omega arith); small = omega arith; gets = gets_is s m m1 rd _ _ at g }))
   byte_does m rd (Register r) n free h e =
       let held = h.related.frame.holds (Register r) (integer n) e in
-      let saved = used_saved c.places r held.has in
-      let at : words.and (register m.now r) 255 ≡ n % 2 ^ 8 = ap (λ (x : ℕ). words.and x 255) (reads_free s m.now r (saved_free r saved).0 ∙ held.stands.0) ∙ low_byte n in
+      let at : words.and (register m.now r) 255 ≡ n % 2 ^ 8 = ap (λ (x : ℕ). words.and x 255) (reads_free s m.now r (value_free r held.has.0).0 ∙ held.stands.0) ∙ low_byte n in
       does_is s m _ _ _ (op_imm_does s m Andi rd r 255 free)
       (λ m1 x2 g. record { word = n % 2 ^ 8; stands = (refl, omega arith); small = omega arith; gets = gets_is s m m1 rd _ _ at g })
 
@@ -290,8 +292,7 @@ module _ (s : Setup) (a : Activation File) (w : Memory) (stack : List (Waiting F
   at_place m free (Slot k) v scratch h e = does_is s m _ _ _ (place_into_does m free (Slot k) v scratch.free h e) (λ m1 x2 i. in_scratch m m1 free v scratch h x2 i)
   at_place m free (Register r) v scratch h e =
       let held = h.related.frame.holds (Register r) v e in
-      let saved = used_saved c.places r held.has in
-      does_none s m (HasOperand m free r v) (nothing_done m free r v (m.now.registers r) h (reads_free s m.now r (saved_free r saved).0) held.stands (record { is = inr (inr saved) }))
+      does_none s m (HasOperand m free r v) (nothing_done m free r v (m.now.registers r) h (reads_free s m.now r (value_free r held.has.0).0) held.stands (record { is = inr (inr held.has.0) }))
 
   at_constant : (m : Watched) (free n : ℕ) (v : Value) (b : Bool) → (n == 0) ≡ b → IsScratch free → IsAmid m → operand_fits s.unit (function_at s.unit a.function) (Constant n) ≡ true → Some (integer n) ≡ Some v → Does s m (unless_there (if b then Some x0 else None) (constant free n)) (HasOperand m free (unwrap_or (if b then Some x0 else None) free) v)
   at_constant m free n v true t scratch h fits e =
@@ -314,7 +315,7 @@ module _ (s : Setup) (a : Activation File) (w : Memory) (stack : List (Waiting F
   -- a register has a word, and the other registers that hold values are the same
   pub record Makes (m : Watched) (rd x : ℕ) (m1 : Watched) : Type 0 where
     pub got : m1.now.registers rd ≡ x
-    pub others : (q : ℕ) → is_saved_register q ≡ true → (q ≡ rd → ⊥) → m1.now.registers q ≡ m.now.registers q
+    pub others : (q : ℕ) → is_for_values q ≡ true → (q ≡ rd → ⊥) → m1.now.registers q ≡ m.now.registers q
     pub bytes : SameOwn s.room (m.now.registers 2) m.now.memory m1.now.memory
 
   -- the activation with a value in a place, before its next instruction
@@ -327,7 +328,7 @@ module _ (s : Setup) (a : Activation File) (w : Memory) (stack : List (Waiting F
       let related = related_slot s a w stack l m.now.registers sp m.now.memory h.related k x v has (stands_word w l.address_of v x (are_words m h) stands) in
       let as_new : store_4 m.now.memory (m.now.registers 2 + slot_offset c k) (register m.now r) ≡ new = ap (λ (p : ℕ). store_4 m.now.memory (p + slot_offset c k) (register m.now r)) h.x2 ∙ ap (λ (y : ℕ). store_4 m.now.memory (sp + slot_offset c k) y) got in
       let own : SameOwn s.room sp new m1.now.memory = subst (λ (p : ℕ). SameOwn s.room p new m1.now.memory) h.x2 (subst (λ (f : ℕ → ℕ). SameOwn s.room (m.now.registers 2) f m1.now.memory) as_new g.bytes_are) in
-      related_own s (holding (Slot k) v) w stack l m.now.registers sp new related m1.now.registers m1.now.memory (record { same = λ q e. g.others q (saved_apart q 1 e refl) }) own
+      related_own s (holding (Slot k) v) w stack l m.now.registers sp new related m1.now.registers m1.now.memory (record { same = λ q e. g.others q (value_apart q 1 e refl) }) own
 
   -- a result that was made in a register that holds values is in its place
   pub related_made : (m m1 : Watched) (q x : ℕ) (v : Value) → IsAmid m → HasPlace c (Register q) → StandsFor w l.address_of v x → x < 2 ^ 32 → Makes m q x m1 → IsRelated s (holding (Register q) v) w stack l m1.now.registers sp m1.now.memory
@@ -344,32 +345,31 @@ module _ (s : Setup) (a : Activation File) (w : Memory) (stack : List (Waiting F
   -- the place and the other registers, behind a result
   pub record IsPut (m : Watched) (p : Place) (v : Value) (m1 : Watched) : Type 0 where
     pub amid : IsAmid s (holding s a w stack l sp p v) w stack l sp m1
-    pub others : (q : ℕ) → (q ≡ 1 → ⊥) → is_saved_register q ≡ false → m1.now.registers q ≡ m.now.registers q
+    pub others : (q : ℕ) → (q ≡ 1 → ⊥) → is_for_values q ≡ false → m1.now.registers q ≡ m.now.registers q
 
   -- a register's word into a place
   pub put_does : (m : Watched) (r x : ℕ) (p : Place) (v : Value) → IsAmid s a w stack l sp m → HasPlace d p → (r ≡ 1 → ⊥) → register m.now r ≡ x → StandsFor w l.address_of v x → Does s m (put_place d r p) (IsPut m p v)
   put_does m r x (Slot k) v h has not_ra got stands =
-      does_is s m _ _ _ (store_to_does s m Sw r (slot_offset d k) not_ra (slot_aligned s a w stack l sp m k h) (in_frame s a w stack l sp m (slot_offset d k) 4 h (slot_fits s a w stack l sp k)))
+      does_is s m _ _ _ (store_to_does s m Sw r (slot_offset d k) not_ra (slot_aligned s a w stack l sp m k h) (in_frame s a w stack l sp m (slot_offset d k) 4 h (slot_fits s a w stack l sp k has)))
       (λ m1 x2 g. record {
         amid = record { x2 = x2 ∙ h.x2; related = related_stored s a w stack l sp m m1 r k x v h has got stands x2 g };
         others = λ q n e. g.others q n;
       })
   put_does m r x (Register q) v h has not_ra got stands =
-      let saved = used_saved d.places q has in
       let small = are_words s a w stack l sp m h in
       let at : words.add (register m.now r) 0 ≡ x % 2 ^ 32 = ap (λ (y : ℕ). words.add y 0) got ∙ omega arith in
-      does_is s m _ _ _ (op_imm_does s m Addi q r 0 (saved_free q saved)) (λ m1 x2 g. record {
+      does_is s m _ _ _ (op_imm_does s m Addi q r 0 (value_free q has.0)) (λ m1 x2 g. record {
         amid = record {
           x2 = x2 ∙ h.x2;
           related = related_made s a w stack l sp m m1 q (x % 2 ^ 32) v h has (stands_word w l.address_of v x small stands) (omega arith) (record { got = g.got ∙ at; others = λ z e n. g.others z n; bytes = g.bytes_same });
         };
-        others = λ z n e. g.others z (λ i. saved_apart q z saved e (sym i));
+        others = λ z n e. g.others z (λ i. value_apart q z has.0 e (sym i));
       })
 
   -- where a result is made: in a0, or in the register that is its place
   pub record IsTarget (rd : ℕ) : Type 0 where
     pub free : IsFree rd
-    pub is : (rd ≡ 10) ⊎ (is_saved_register rd ≡ true)
+    pub is : (rd ≡ 10) ⊎ (is_for_values rd ≡ true)
 
   -- the word of a result
   pub record MakesValue (m : Watched) (rd : ℕ) (v : Value) (m1 : Watched) : Type 0 where
@@ -386,12 +386,11 @@ module _ (s : Setup) (a : Activation File) (w : Memory) (stack : List (Waiting F
   result_into m (Slot k) v code h has does =
       let target : IsTarget 10 = record { free = (λ e. absurd (omega (arith, e)), λ e. absurd (omega (arith, e))); is = inl refl } in
       does_then s m (code 10) (put_place d 10 (Slot k)) _ _ (does 10 target) (λ m1 x2 g.
-      let h1 = amid_on s a w stack l sp m m1 h x2 (record { same = λ q e. g.makes.others q e (λ i. saved_apart q 10 e refl i) }) g.makes.bytes in
+      let h1 = amid_on s a w stack l sp m m1 h x2 (record { same = λ q e. g.makes.others q e (λ i. value_apart q 10 e refl i) }) g.makes.bytes in
       does_is s m1 _ _ _ (put_does m1 10 g.word (Slot k) v h1 has (λ e. absurd (omega (arith, e))) (reads_free s m1.now 10 (λ e. absurd (omega (arith, e))) ∙ g.makes.got) g.stands)
       (λ m2 y2 k. k.amid))
   result_into m (Register q) v code h has does =
-      let saved = used_saved d.places q has in
-      let target : IsTarget q = record { free = saved_free q saved; is = inr saved } in
+      let target : IsTarget q = record { free = value_free q has.0; is = inr has.0 } in
       does_then s m (code q) [] _ _ (does q target) (λ m1 x2 g.
       does_none s m1 (IsAmid s (holding s a w stack l sp (Register q) v) w stack l sp) (record { x2 = x2 ∙ h.x2; related = related_made s a w stack l sp m m1 q g.word v h has g.stands g.small g.makes }))
 

@@ -40,9 +40,9 @@ use Rattle.qs_emit.specs.Surroundings.{Lay}
 use Rattle.qs_emit.specs.Relation.{Setup, context, function_at}
 use Rattle.qs_emit.proofs.Steps.{Does, Gets, IsFree, does_then, does_is, op_does, op_imm_does, shift_does, same_on}
 use Rattle.qs_emit.proofs.Slots.{reads_free, constant_does, gets_is, does_get}
-use Rattle.qs_emit.proofs.FrameLaws.{SameSaved, saved_on}
+use Rattle.qs_emit.proofs.FrameLaws.{SameValues, values_on}
 use Rattle.qs_emit.proofs.Words.{negated_added, less_word, compared}
-use Rattle.qs_emit.proofs.Operands.{holder, IsScratch, argument_scratch, saved_apart, IsThere, there_apart, reads_same, IsAmid, gets_saved, HasOperand, operand_does, Makes}
+use Rattle.qs_emit.proofs.Operands.{holder, IsScratch, argument_scratch, value_apart, IsThere, there_apart, reads_same, IsAmid, gets_values, HasOperand, operand_does, Makes}
 
 -- ---- powers of two
 
@@ -156,21 +156,21 @@ module _ (s : Setup) (a : Activation File) (w : Memory) (stack : List (Waiting F
   -- registers that hold values and own bytes are the same
   pub record Leaves (m m1 : Watched) : Type 0 where
     pub x2 : m1.now.registers 2 ≡ m.now.registers 2
-    pub saved : SameSaved m.now.registers m1.now.registers
+    pub saved : SameValues m.now.registers m1.now.registers
     pub bytes : SameOwn s.room (m.now.registers 2) m.now.memory m1.now.memory
 
   pub leaves_on : (m m1 m2 : Watched) → Leaves m m1 → Leaves m1 m2 → Leaves m m2
   leaves_on m m1 m2 h k = record {
     x2 = k.x2 ∙ h.x2;
-    saved = saved_on m.now.registers m1.now.registers m2.now.registers h.saved k.saved;
+    saved = values_on m.now.registers m1.now.registers m2.now.registers h.saved k.saved;
     bytes = same_on s.room (m.now.registers 2) m.now.memory m1.now.memory m2.now.memory h.bytes (subst (λ (p : ℕ). SameOwn s.room p m1.now.memory m2.now.memory) h.x2 k.bytes);
   }
 
   pub leaves_operand : (m m1 : Watched) (free r : ℕ) (v : Value) → IsScratch free → m1.now.registers 2 ≡ m.now.registers 2 → HasOperand s a w stack l sp m free r v m1 → Leaves m m1
-  leaves_operand m m1 free r v scratch x2 o = record { x2 = x2; saved = record { same = λ q e. o.others q (saved_apart q free e scratch.unsaved) }; bytes = o.bytes }
+  leaves_operand m m1 free r v scratch x2 o = record { x2 = x2; saved = record { same = λ q e. o.others q (value_apart q free e scratch.valueless) }; bytes = o.bytes }
 
   pub leaves_gets : (m m1 : Watched) (r x : ℕ) → IsScratch r → m1.now.registers 2 ≡ m.now.registers 2 → Gets s m r x m1 → Leaves m m1
-  leaves_gets m m1 r x scratch x2 g = record { x2 = x2; saved = gets_saved s a w stack l sp m m1 r x scratch g; bytes = g.bytes_same }
+  leaves_gets m m1 r x scratch x2 g = record { x2 = x2; saved = gets_values s a w stack l sp m m1 r x scratch g; bytes = g.bytes_same }
 
   pub makes_last : (m m1 m2 : Watched) (rd x : ℕ) → Leaves m m1 → Gets s m1 rd x m2 → Makes s a w stack l sp m rd x m2
   makes_last m m1 m2 rd x h g = record {

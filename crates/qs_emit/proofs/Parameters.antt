@@ -1,6 +1,6 @@
 -- Arguments go into registers, and parameters from there into their places.
 use Rattle.std.proofs.Common.{◌≡◌, ◌⊎◌, inl, inr, ⊎_elim, ℕ, zero, suc, ◌+◌, ◌%◌, ◌==◌, ◌<◌, ◌≤◌, Bool, true, false, List, [], ◌∷◌, length, Option, Some, None, refl, sym, ap, ◌∙◌, subst, arith}
-use Rattle.std.specs.Prelude.{◌&&◌, slice_get, if◌then◌else◌}
+use Rattle.std.specs.Prelude.{◌&&◌, slice_get, if◌then◌else◌, Contains}
 use Rattle.std.specs.List.{list_all}
 use Rattle.std.proofs.lemmas.Bool.{cases_eq}
 use Rattle.std.proofs.lemmas.Bool.Decides.{nat_tests}
@@ -25,7 +25,6 @@ use Rattle.qs_machine.specs.Step as machine
 use Rattle.qs_machine.specs.Step.{store_width}
 use Rattle.qs_tac.specs.declared.operands.Operand.{Operand}
 use Rattle.qs_tac.specs.declared.places.Place.{Place}
-use Rattle.qs_tac.specs.declared.places.Place.TheVariants.{Slot}
 use Rattle.qs_tac.specs.Holders.{File, same_place, with_place, placed_values}
 use Rattle.qs_tac.specs.Places.{place_of}
 use Rattle.qs_tac.specs.Fits.{operand_fits, parameter_fits}
@@ -44,9 +43,9 @@ use Rattle.qs_emit.proofs.Injection.{value_kept, store_holds, stored_other}
 use Rattle.qs_emit.proofs.Steps.{Does, does_is, does_then, does_none, data_below}
 use Rattle.qs_emit.proofs.Slots.{IsInFrame, reads_free, store_to_does}
 use Rattle.qs_emit.proofs.FrameLaws.{place_cases, place_same}
-use Rattle.qs_emit.proofs.Operands.{holder, argument_scratch, saved_apart, IsAmid, into_does, put_does}
+use Rattle.qs_emit.proofs.Operands.{holder, argument_scratch, value_apart, IsAmid, into_does, put_does}
 use Rattle.qs_emit.proofs.Fetches.{store_wide, access_aligned, written_amid}
-use Rattle.qs_emit.proofs.CodePlaces.{own_place, has_place}
+use Rattle.qs_emit.proofs.CodePlaces.{has_place, parameters_apart}
 
 -- ---- arguments
 
@@ -144,6 +143,12 @@ width_some scalars.Int = omega arith
 width_some scalars.Unsigned = omega arith
 width_some scalars.Pointer = omega arith
 
+contains_first : (q : Parameter) (ps : List Parameter) → Contains (q ∷ ps) q
+contains_first q ps = (0, omega arith, refl)
+
+contains_later : (p q : Parameter) (ps : List Parameter) → Contains ps q → Contains (p ∷ ps) q
+contains_later p q ps c = let within = c.1 in (suc c.0, omega (arith, within), c.2)
+
 abbrev block_in : Pointer → ℕ
 block_in null = 0
 block_in (into b o) = b
@@ -165,8 +170,22 @@ module _ (s : Setup) (f : ℕ) (known : f < length s.unit.functions) (number : �
     pub holds : Holds r.environment file
     pub amid : IsAmid s (begun f number file) r.memory stack l sp m1
 
-  holds_with : (e : Environment) (file : File) (x : ℕ) (v : Value) → Holds e file → Holds (with_value e x v) (with_place file (place_of d.places x) (Some v))
-  holds_with e file x v h t u q = ⊎_elim here there (cases_eq t x)
+  abbrev IsParameter : (temporary : ℕ) → Type 0
+  IsParameter t = Contains (function_at s.unit f).parameters (Plain t)
+
+  -- only parameters have values
+  abbrev pub OfParameters : Environment → Type 0
+  OfParameters e = (t : ℕ) (v : Value) → e t ≡ Some v → IsParameter t
+
+  of_parameters_with : (e : Environment) (x : ℕ) (v : Value) → IsParameter x → OfParameters e → OfParameters (with_value e x v)
+  of_parameters_with e x v c h t u q = by (t == x) refl q
+    where
+      by : (b : Bool) → (t == x) ≡ b → (if b then Some v else e t) ≡ Some u → IsParameter t
+      by true i r = let same : x ≡ t = grind (arith, nat_tests, i) in subst IsParameter same c
+      by false i r = h t u r
+
+  holds_with : (e : Environment) (file : File) (x : ℕ) (v : Value) → IsParameter x → OfParameters e → Holds e file → Holds (with_value e x v) (with_place file (place_of d.places x) (Some v))
+  holds_with e file x v c of_parameters h t u q = ⊎_elim here there (cases_eq t x)
     where
       here : t ≡ x → with_place file (place_of d.places x) (Some v) (place_of d.places t) ≡ Some u
       here i =
@@ -179,7 +198,8 @@ module _ (s : Setup) (f : ℕ) (known : f < length s.unit.functions) (number : �
       there n =
           let test : (t == x) ≡ false = grind (arith, nat_tests, n) in
           let value : e t ≡ Some u = ap (λ b. if b then Some v else e t) (sym test) ∙ q in
-          let apart : same_place (place_of d.places t) (place_of d.places x) ≡ false = ap (λ (p : Place). same_place p (place_of d.places x)) (own_place s f known t) ∙ ap (λ (p : Place). same_place (Slot t) p) (own_place s f known x) ∙ test in
+          let apart : same_place (place_of d.places t) (place_of d.places x) ≡ false =
+          ⊎_elim (λ i. absurd (n (parameters_apart s f known t x (of_parameters t u value) c i))) (λ i. i) (place_cases (place_of d.places t) (place_of d.places x)) in
           ap (λ b. if b then Some v else file (place_of d.places t)) apart ∙ h t u value
 
   abbrev Arguments : Memory → (registers : ℕ → ℕ) → (r : ℕ) → List Value → Type 0
@@ -218,7 +238,7 @@ module _ (s : Setup) (f : ℕ) (known : f < length s.unit.functions) (number : �
       does_is s m _ _ _ (store_to_does s m (store_kind t) r (local_offset d i) (λ e. absurd (omega (arith, e, lo))) aligned inside_wide) (λ m1 x2 g.
       let as_word : machine.stored (store_kind t) m.now.memory (m.now.registers 2 + local_offset d i) (register m.now r) ≡ flat = ap (λ (n : ℕ). machine.stored (store_kind t) m.now.memory n (register m.now r)) address_now ∙ ap (λ (n : ℕ). machine.stored (store_kind t) m.now.memory at n) reads in
       let own : SameOwn s.room sp flat m1.now.memory = subst (λ (n : ℕ). SameOwn s.room n flat m1.now.memory) x (subst (λ (k : ℕ → ℕ). SameOwn s.room (m.now.registers 2) k m1.now.memory) as_word g.bytes_are) in (
-        written_amid s (begun f number file) w stack l sp m m1 (into (number + i) 0) (width t) (width t) st.new later flat h wrote st.are.long x2 (record { same = λ q b. g.others q (saved_apart q 1 b refl) }) own
+        written_amid s (begun f number file) w stack l sp m m1 (into (number + i) 0) (width t) (width t) st.new later flat h wrote st.are.long x2 (record { same = λ q b. g.others q (value_apart q 1 b refl) }) own
             (λ y o out. stored_other (store_kind t) m.now.memory at word y (subst (λ (n : ℕ). (y < at) ⊎ (at + n ≤ y)) (sym wide) out))
             (store_holds t w l.address_of v st.new m.now.memory at word st.cells stands),
         g.others,
@@ -231,20 +251,21 @@ module _ (s : Setup) (f : ℕ) (known : f < length s.unit.functions) (number : �
           by (inl k) = let lo = h.related.in_room.above in let below = k.below in let e = h.x2 in record { above = omega (arith, lo, e); below = omega (arith, below, fits, same, e) }
           by (inr k) = let lo = h.related.in_room.above in let below = k.below in let under = data_below s in absurd (omega (arith, lo, below, under, fits, same, some))
 
-  pub parameters_do : (ps : List Parameter) (vs : List Value) (m : Watched) (r : ℕ) (e : Environment) (w : Memory) (file : File) (result : Passed) → IsAmid s (begun f number file) w stack l sp m → list_all (parameter_fits (function_at s.unit f)) ps ≡ true → passes ps vs number e w ≡ Some result → length vs ≡ length ps → 10 ≤ r → r + length ps ≤ 18 → Arguments w m.now.registers r vs → Holds e file → Does s m (take_parameters d r ps) (TakesAll result)
-  parameters_do [] [] m r e w file result h fits p len lo hi arguments holds =
+  pub parameters_do : (ps : List Parameter) (vs : List Value) (m : Watched) (r : ℕ) (e : Environment) (w : Memory) (file : File) (result : Passed) → IsAmid s (begun f number file) w stack l sp m → list_all (parameter_fits (function_at s.unit f)) ps ≡ true → passes ps vs number e w ≡ Some result → length vs ≡ length ps → 10 ≤ r → r + length ps ≤ 18 → Arguments w m.now.registers r vs → ((q : Parameter) → Contains ps q → Contains (function_at s.unit f).parameters q) → OfParameters e → Holds e file → Does s m (take_parameters d r ps) (TakesAll result)
+  parameters_do [] [] m r e w file result h fits p len lo hi arguments among of_parameters holds =
       let same : record { environment = e; memory = w } ≡ result = some_same _ result p in
       does_none s m _ (subst (λ (z : Passed). TakesAll z m) same (record { file = file; holds = holds; amid = h }))
-  parameters_do [] (v ∷ vs) m r e w file result h fits p len lo hi arguments holds = cc
-  parameters_do (q ∷ ps) [] m r e w file result h fits p len lo hi arguments holds = absurd (omega (arith, len))
-  parameters_do (Plain x ∷ ps) (v ∷ vs) m r e w file result h fits p len lo hi arguments holds =
+  parameters_do [] (v ∷ vs) m r e w file result h fits p len lo hi arguments among of_parameters holds = cc
+  parameters_do (q ∷ ps) [] m r e w file result h fits p len lo hi arguments among of_parameters holds = absurd (omega (arith, len))
+  parameters_do (Plain x ∷ ps) (v ∷ vs) m r e w file result h fits p len lo hi arguments among of_parameters holds =
       let scratch = argument_scratch r lo (omega (arith, hi)) in
       let fits_x : parameter_fits (function_at s.unit f) (Plain x) ≡ true = all_left _ _ fits in
       let small : x < (function_at s.unit f).temporaries = grind (arith, nat_tests, fits_x) in
       does_then s m _ (take_parameters d (r + 1) ps) _ _ (put_does s (begun f number file) w stack l sp m r (m.now.registers r) (place_of d.places x) v h (has_place s f known x small) (λ i. absurd (omega (arith, i, lo))) (reads_free s m.now r scratch.free.0) (first_argument v vs w m.now.registers r arguments)) (λ m1 x2 k.
       parameters_do ps vs m1 (r + 1) (with_value e x v) w (with_place file (place_of d.places x) (Some v)) result k.amid (all_right _ _ fits) p (omega (arith, len)) (omega (arith, lo)) (omega (arith, hi))
-      (shifted v vs w w m.now.registers m1.now.registers r (length ps) (omega (arith, len)) lo (omega (arith, hi)) (λ q lo_q hi_q. k.others q (λ i. absurd (omega (arith, i, lo_q))) (argument_scratch q lo_q hi_q).unsaved) (λ u y z. z) arguments)
-      (holds_with e file x v holds))
+      (shifted v vs w w m.now.registers m1.now.registers r (length ps) (omega (arith, len)) lo (omega (arith, hi)) (λ q lo_q hi_q. k.others q (λ i. absurd (omega (arith, i, lo_q))) (argument_scratch q lo_q hi_q).valueless) (λ u y z. z) arguments)
+      (λ q c. among q (contains_later (Plain x) q ps c)) (of_parameters_with e x v (among (Plain x) (contains_first (Plain x) ps)) of_parameters)
+      (holds_with e file x v (among (Plain x) (contains_first (Plain x) ps)) of_parameters holds))
     where
       all_left : (x y : Bool) → x && y ≡ true → x ≡ true
       all_left true y e = refl
@@ -253,7 +274,7 @@ module _ (s : Setup) (f : ℕ) (known : f < length s.unit.functions) (number : �
       all_right : (x y : Bool) → x && y ≡ true → y ≡ true
       all_right true y e = e
       all_right false y e = cc
-  parameters_do (Placed i t ∷ ps) (v ∷ vs) m r e w file result h fits p len lo hi arguments holds =
+  parameters_do (Placed i t ∷ ps) (v ∷ vs) m r e w file result h fits p len lo hi arguments among of_parameters holds =
       let fits_i : parameter_fits (function_at s.unit f) (Placed i t) ≡ true = all_left _ _ fits in
       let small : i < length (function_at s.unit f).blocks = grind (arith, nat_tests, fits_i) in
       let k = followed (memory.store t w (into (number + i) 0) v) (λ later. passes ps vs number e later) result p in
@@ -261,7 +282,7 @@ module _ (s : Setup) (f : ℕ) (known : f < length s.unit.functions) (number : �
       parameters_do ps vs m1 (r + 1) e k.value file result g.0 (all_right _ _ fits) k.then (omega (arith, len)) (omega (arith, lo)) (omega (arith, hi))
       (shifted v vs w k.value m.now.registers m1.now.registers r (length ps) (omega (arith, len)) lo (omega (arith, hi)) (λ q lo_q hi_q. g.1 q (λ i. absurd (omega (arith, i, lo_q))))
       (λ u y z. value_kept w k.value l.address_of l.address_of u y (record { after = memory_goes_on.store t w k.value (into (number + i) 0) v k.first; same = λ b h. refl }) z) arguments)
-      holds)
+      (λ q c. among q (contains_later (Placed i t) q ps c)) of_parameters holds)
     where
       all_left : (x y : Bool) → x && y ≡ true → x ≡ true
       all_left true y e = refl

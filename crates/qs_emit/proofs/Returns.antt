@@ -85,7 +85,7 @@ module _ (s : Setup) (a : Activation File) (w : Memory) (stack : List (Waiting F
       let theirs = caller_registers (context s c.activation.function) mine flat up in
       record {
         known = above.0.known;
-        frame = frame_onward s (ground w l flat) (ground left l flat) c.activation.function mine mine up up c.activation.first_block c.activation.held o (omega arith) (saved_none mine) above.0.frame;
+        frame = frame_onward s (ground w l flat) (ground left l flat) c.activation.function mine mine up up c.activation.first_block c.activation.held o (omega arith) (saved_none mine) (λ q v i. refl) above.0.frame;
         in_room = above.0.in_room;
         above = stack_onward s (ground w l flat) (ground left l flat) others theirs theirs up (up + cost s c.activation.function) (number_at 4 flat up) o (omega arith) (saved_none theirs) above.1;
         blocks = blocks_left;
@@ -113,7 +113,7 @@ module _ (s : Setup) (a : Activation File) (w : World) (stack : List (Waiting Fi
     bytes : SameOwn s.room sp flat m1.now.memory
 
   ra_scratch : IsScratch 1
-  ra_scratch = record { free = (λ e. absurd (omega (arith, e)), λ e. absurd (omega (arith, e))); unsaved = refl }
+  ra_scratch = record { free = (λ e. absurd (omega (arith, e)), λ e. absurd (omega (arith, e))); valueless = refl }
 
   used_fit : (sp : ℕ) → IsInRoom s.room sp (cost s a.function) → sp + register_at (0 + length (used_registers c.places)) ≤ s.room.ceiling
   used_fit sp room = let e = (is_cost (kept c.places) (total c.function.blocks)).enough in let b = room.below in omega (arith, e, b)

@@ -24,7 +24,7 @@ use Rattle.qs_tac.specs.Trees.{InstructionTree, store, load, call, return, TacFu
 use Rattle.qs_tac.specs.declared.operands.Operand.TheVariants.{Temporary, Constant, Data}
 use Rattle.qs_tac.specs.declared.operands.Address.{Address}
 use Rattle.qs_tac.specs.declared.places.Place.TheVariants.{Slot}
-use Rattle.qs_tac.specs.Places.{PlacesTree, Accepted, no_places}
+use Rattle.qs_tac.specs.Places.{PlacesTree, Accepted, own_slots, no_places}
 use Rattle.qs_tac.specs.Units.{world_after}
 use Rattle.qs_frames.specs.Layout.{rounded, frame_cost}
 use Rattle.qs_emit_selection.specs.Pieces.{is_small, low_part, high_part, is_near}
@@ -55,7 +55,7 @@ unit = record {
 }
 
 abbrev pub places : List PlacesTree
-places = record { at = Slot 0 ∷ [] } ∷ []
+places = record { at = Slot 0 ∷ []; needed = [] } ∷ []
 
 -- the variable is 0, the literal is "hi", and the pointer goes to its second byte
 abbrev pub first : Memory
@@ -101,7 +101,7 @@ no_calls zero (suc (suc (suc k))) i e x g arguments c = cc
 no_calls (suc f) k i e x g arguments c = cc
 
 accepted : (f : ℕ) (g : TacFunctionTree) → slice_get unit.functions f ≡ Some g → Accepted g (slice_index_or places f no_places)
-accepted zero g e = let same : main ≡ g = cc in subst (λ (z : TacFunctionTree). Accepted z (record { at = Slot 0 ∷ [] })) same (record { own_slots = refl })
+accepted zero g e = let same : main ≡ g = cc in subst (λ (z : TacFunctionTree). Accepted z (record { at = Slot 0 ∷ []; needed = [] })) same (own_slots refl)
 accepted (suc f) g e = cc
 
 emittable : IsEmittable unit places

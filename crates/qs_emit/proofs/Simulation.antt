@@ -36,6 +36,7 @@ use Rattle.qs_tac.specs.Holders.{File}
 use Rattle.qs_tac.specs.Places.{place_of}
 use Rattle.qs_tac.specs.Fits.{operand_fits, address_fits, operation_fits, condition_fits, instruction_fits, takes, taken_fits, callee_fits}
 use Rattle.qs_tac.specs.Values.{Activation, operand, operands, pointer, holds}
+use Rattle.qs_tac.specs.declared.places.Place.TheVariants.{Register}
 use Rattle.qs_tac.specs.Steps.{Waiting, going_to, onward, written, Next, take_result, begins, enters, ends, waits, step}
 use Rattle.qs_tac.specs.Steps.{instruction_at as linear_at}
 use Rattle.qs_tac.specs.Units.{stopped_steps}
@@ -50,7 +51,7 @@ use Rattle.qs_emit.specs.Relation.{Setup, no_function, context, cost, place, fun
 use Rattle.qs_emit.specs.Entries.{IsResult}
 use Rattle.qs_emit.proofs.Injection.{value_kept}
 use Rattle.qs_emit.proofs.Steps.{Takes, takes_on, takes_less, HasAt, Does, does_is, does_none}
-use Rattle.qs_emit.proofs.FrameLaws.{related_own, cell_own, blocks_same}
+use Rattle.qs_emit.proofs.FrameLaws.{related_held, cell_own, blocks_same}
 use Rattle.qs_emit.proofs.Operands.{holder, argument_scratch, IsAmid, holding, into_does, put_does}
 use Rattle.qs_emit.proofs.OperationLaws.{IsOperand}
 use Rattle.qs_emit.proofs.Results.{move_does, unary_does, convert_does, binary_does, address_of_does}
@@ -93,20 +94,20 @@ module _ (s : Setup) (mark : Option Value) (n : ℕ) (next : Next File) (more : 
     result_left None x k = k
     result_left (Some v) x k = value_kept w.memory left l.address_of l.address_of v x (later_left s a w.memory stack l g.registers (m.now.registers 2) g.flat g.related) k
 
+    above_of : (c : Waiting File) (others : List (Waiting File)) → stack ≡ c ∷ others → HasStack s (ground w.memory l g.flat) (c ∷ others) mine up (number_at 4 g.flat (m.now.registers 2))
+    above_of c others e = subst (λ (z : List (Waiting File)). HasStack s (ground w.memory l g.flat) z mine up (number_at 4 g.flat (m.now.registers 2))) e g.related.above
+
     -- to a caller, which takes the result or not
     caller_amid : (c : Waiting File) (others : List (Waiting File)) → stack ≡ c ∷ others → IsAmid s c.activation left others l up g.to
     caller_amid c others e = record {
       x2 = g.x2;
-      related = related_own s c.activation left others l mine up g.flat (related_left s a w.memory stack l g.registers (m.now.registers 2) g.flat g.related c others e) g.to.now.registers g.to.now.memory g.given g.same;
+      related = related_held s c.activation left others l mine up g.flat (related_left s a w.memory stack l g.registers (m.now.registers 2) g.flat g.related c others e) g.to.now.registers g.to.now.memory g.given (λ q v i. g.given.same q ((above_of c others e).0.stays (Register q) v i)) g.same;
     }
 
     record HasResumed (b : Activation File) (others : List (Waiting File)) : Type 0 where
       to : Watched
       reaches : Reaches s m (Some (Returns a.function)) to
       stands : StandsAt s b (with_memory w left) others l to
-
-    above_of : (c : Waiting File) (others : List (Waiting File)) → stack ≡ c ∷ others → HasStack s (ground w.memory l g.flat) (c ∷ others) mine up (number_at 4 g.flat (m.now.registers 2))
-    above_of c others e = subst (λ (z : List (Waiting File)). HasStack s (ground w.memory l g.flat) z mine up (number_at 4 g.flat (m.now.registers 2))) e g.related.above
 
     resumed : (c : Waiting File) (others : List (Waiting File)) (b : Activation File) → stack ≡ c ∷ others → b.function ≡ c.activation.function → b.at ≡ c.activation.at → Does s g.to (emission.take_result (context s c.activation.function) c.taken_by) (IsAmid s b left others l up) → HasResumed b others
     resumed c others b e same_function same_at does =

@@ -28,9 +28,9 @@ use Rattle.qs_emit.specs.Surroundings.{Lay, ground}
 use Rattle.qs_emit.specs.Relation.{Setup, context, function_at}
 use Rattle.qs_emit.proofs.Injection.{cells_same, cells_held}
 use Rattle.qs_emit.proofs.Steps.{Does, does_is, does_then, does_none, MayRead, MayWrite}
-use Rattle.qs_emit.proofs.FrameLaws.{saved_none, cell_own}
+use Rattle.qs_emit.proofs.FrameLaws.{values_none, cell_own}
 use Rattle.qs_emit.proofs.Access.{lies_low, may_read_block, may_write_block}
-use Rattle.qs_emit.proofs.Operands.{holder, saved_apart, argument_scratch, IsAmid, amid_on}
+use Rattle.qs_emit.proofs.Operands.{holder, value_apart, argument_scratch, IsAmid, amid_on}
 use Rattle.qs_emit.proofs.Anchors.{HasAddress, address_into_does, word_address_aligned}
 use Rattle.qs_emit.proofs.Fetches.{range_word, written_amid}
 use Rattle.qs_emit.proofs.Loops.{words_are_accesses, bytes_are_accesses}
@@ -88,7 +88,7 @@ module _ (s : Setup) (a : Activation File) (w : Memory) (stack : List (Waiting F
 
   -- an address in a5
   in_a5 : (m m1 : Watched) (p : Pointer) → IsAmid s a w stack l sp m → m1.now.registers 2 ≡ m.now.registers 2 → HasAddress s a w stack l sp m 15 p m1 → IsAmid s a w stack l sp m1
-  in_a5 m m1 p h x2 k = amid_on s a w stack l sp m m1 h x2 (record { same = λ q b. k.saved q b (saved_apart q 15 b refl) }) k.bytes
+  in_a5 m m1 p h x2 k = amid_on s a w stack l sp m m1 h x2 (record { same = λ q b. k.saved q b (value_apart q 15 b refl) }) k.bytes
 
   pub fill_object_does : (m : Watched) (blank : BlankTree) (p : Address) (q : Pointer) (later : Memory) → IsAmid s a w stack l sp m → address_fits s.unit (function_at s.unit a.function) p ≡ true → pointer (holder s) p a w ≡ Some q → memory.fill blank w q ≡ Some later
       → Does s m (address_into c 15 p ++ fill_code (is_word_address p) (blank_size blank)) (IsAmid s a later stack l sp)
@@ -124,7 +124,7 @@ module _ (s : Setup) (a : Activation File) (w : Memory) (stack : List (Waiting F
       by : (none : Bool) → (size == 0) ≡ none → (wide : Bool) → (size % 4 == 0 && alignment % 4 == 0) ≡ wide → Does s m (if none then [] else if wide then copy_loop Lw Sw 4 size else copy_loop Lbu Sb 1 size) (IsMoved s sp m to from size)
       by true t wide u =
           let z : size ≡ 0 = grind (arith, nat_tests, t) in
-          does_none s m _ (record { x2 = x2; saved = saved_none m.now.registers; inside = λ j lt. absurd (omega (arith, lt, z)); outside = λ at o out. refl })
+          does_none s m _ (record { x2 = x2; saved = values_none m.now.registers; inside = λ j lt. absurd (omega (arith, lt, z)); outside = λ at o out. refl })
       by false t true u =
           let some = positive t in
           let size_four : size % 4 ≡ 0 = grind (arith, nat_tests, u) in
@@ -153,7 +153,7 @@ module _ (s : Setup) (a : Activation File) (w : Memory) (stack : List (Waiting F
       does_then s m (address_into c 15 p) _ _ _ (address_into_does s a w stack l sp m 15 p to a5.free h fits_p ep) (λ m1 x1 g1.
       let h1 = in_a5 m m1 to h x1 g1 in
       does_then s m1 (address_into c 16 q) _ _ _ (address_into_does s a w stack l sp m1 16 q from a6.free h1 fits_q eq) (λ m2 x2 g2.
-      let h2 = amid_on s a w stack l sp m1 m2 h1 x2 (record { same = λ z b. g2.saved z b (saved_apart z 16 b refl) }) g2.bytes in
+      let h2 = amid_on s a w stack l sp m1 m2 h1 x2 (record { same = λ z b. g2.saved z b (value_apart z 16 b refl) }) g2.bytes in
       let word_to = range_word s a w stack l sp to size alignment g1.word target k.wrote.is g1.stands in
       let word_from = range_word s a w stack l sp from size alignment g2.word source k.is g2.stands in
       let a5_is : m2.now.registers 15 ≡ t = g2.others 15 (omega arith) (λ e. absurd (omega (arith, e))) ∙ g1.got ∙ word_to in

@@ -108,7 +108,7 @@ module _ (m : Memory) (l : Lay) (flat later : ℕ → ℕ) (t : Target) (new : L
       let word : number_at 4 later sp ≡ number_at 4 flat sp = number_same 4 flat later sp (λ at lo hi. o.same at lo (r.frame.private at lo (omega (arith, hi)))) in
       record {
         known = r.known;
-        frame = frame_onward s g h f registers registers sp sp a.first_block a.held o (omega arith) (saved_none registers) r.frame;
+        frame = frame_onward s g h f registers registers sp sp a.first_block a.held o (omega arith) (saved_none registers) (λ q v e. refl) r.frame;
         in_room = r.in_room;
         above = subst (λ (x : ℕ). HasStack s h stack (caller_registers (context s f) registers later sp) (sp + cost s f) x) (sym word)
             (stack_onward s g h stack (caller_registers (context s f) registers flat sp) (caller_registers (context s f) registers later sp) sp (sp + cost s f) (number_at 4 flat sp) o (omega arith) (caller_same s g h f registers registers sp sp o (omega arith) (saved_none registers) r.frame.private) r.above);

@@ -39,6 +39,8 @@ pub record AreSurroundings (u : TacUnitTree) (image : Image) (t : Surroundings) 
   pub data_there : length u.data_blocks ≤ t.first
   pub data_lie : (block : ℕ) → block < length u.data_blocks → t.addresses block ≡ data_address u.data_blocks block
 
+-- From every entry, and whatever others do: this holds also where the stack bytes below x2 and the data bytes outside the
+-- live blocks are changed between any two instructions (`others`, which is any change of them; `stirred` of Machine).
 abbrev pub FunctionsFollow : TacUnitTree → Image → Type 0
 FunctionsFollow u image =
     (t : Surroundings) (root : ℕ) (arguments : List Value) (w : World) (l : Lay) (m : Watched) (n : ℕ)

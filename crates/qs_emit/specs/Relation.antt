@@ -12,15 +12,15 @@ use Rattle.qs_machine.specs.State.{stack_pointer, stack_top, stack_limit}
 use Rattle.qs_asm.specs.Items.{Lays, plain}
 use Rattle.qs_tac.specs.Trees.{InstructionTree, TacFunctionTree, TacUnitTree}
 use Rattle.qs_tac.specs.Fits.{unit_fits}
-use Rattle.qs_tac.specs.Places.{PlacesTree, place_of, no_places}
-use Rattle.qs_tac.specs.Holders.{File, is_saved_register}
+use Rattle.qs_tac.specs.Places.{PlacesTree, place_of, no_places, is_for_values}
+use Rattle.qs_tac.specs.Holders.{File, is_saved_register, is_kept}
 use Rattle.qs_tac.specs.Values.{Activation}
 use Rattle.qs_tac.specs.Steps.{Waiting}
 use Rattle.qs_tac.specs.Laws.{AreAccepted}
 use Rattle.qs_tac.specs.declared.places.Place.{Place}
 use Rattle.qs_tac.specs.declared.places.Place.TheVariants.{Slot, Register}
 use Rattle.qs_tac.specs.declared.units.TacData.{TacData}
-use Rattle.qs_frames.specs.Layout.{rounded, slot_count, used_registers, register_at}
+use Rattle.qs_frames.specs.Layout.{rounded, used_registers, HasSlot, register_at}
 use Rattle.qs_emit.specs.Machine.{Room, Watched, base, instruction_at}
 use Rattle.qs_emit_selection.specs.Data.{data_address}
 use Rattle.qs_emit_selection.specs.Laws.{HasFewArguments}
@@ -130,10 +130,11 @@ abbrev pub IsAmong : List ℕ → (r : ℕ) → Type 0
 IsAmong [] r = ⊥
 IsAmong (q ∷ registers) r = (r ≡ q) ⊎ IsAmong registers r
 
--- a place that the frame has
+-- a place that the frame has: one of its slots, or a register that holds values; what the caller finds as it was is saved
 abbrev pub HasPlace : Context → Place → Type 0
-HasPlace c (Slot k) = k < slot_count c.places
-HasPlace c (Register r) = IsAmong (used_registers c.places) r
+HasPlace c (Slot k) = HasSlot c.places k
+HasPlace c (Register r) =
+    (is_for_values r ≡ true) × (is_saved_register r ≡ true → IsAmong (used_registers c.places) r)
 
 -- a place of the frame at x2 holds a value
 pub record IsHeld (c : Context) (m : Memory) (address_of registers flat : ℕ → ℕ) (sp : ℕ) (p : Place) (v : Value)
@@ -190,6 +191,8 @@ pub record IsWaiting (s : Setup) (g : Ground) (w : Waiting File) (registers : �
       (x : ℕ) → w.taken_by ≡ Some x
       → HasPlace (context s w.activation.function) (place_of (context s w.activation.function).places x)
   pub frame : HasFrame s g w.activation.function registers sp w.activation.first_block w.activation.held
+  -- its values stand where calls leave them
+  pub stays : (p : Place) (v : Value) → w.activation.held p ≡ Some v → is_kept p ≡ true
   pub in_room : IsInRoom s.room sp (cost s w.activation.function)
   pub aligned : return_to % 4 ≡ 0
   pub low : return_to < 2 ^ 32

@@ -1,6 +1,6 @@
--- What a context says of places and slots.
-use Rattle.std.proofs.Common.{◌≡◌, ℕ, zero, suc, ◌-◌, ◌*◌, ◌^◌, ◌<◌, true, List, [], ◌∷◌, refl, arith}
-use Rattle.std.specs.Prelude.{min, slice_index_or}
+-- What a context says of places.
+use Rattle.std.proofs.Common.{◌≡◌, ℕ, zero, suc, true, List, [], ◌∷◌, refl}
+use Rattle.std.specs.Prelude.{slice_index_or}
 use Rattle.std.specs.List.{list_all}
 use Rattle.std.specs.Cmp.{first_so, second_so}
 use Rattle.qs_tac.specs.declared.places.Place.{Place}
@@ -15,6 +15,3 @@ each_fits (p ∷ places) (suc t) k h = each_fits places t k (second_so (place_fi
 
 pub place_is_fit : (p : PlacesTree) (t : ℕ) → places_fit p ≡ true → place_fits (place_of p t) ≡ true
 place_is_fit p t h = each_fits p.at t t h
-
-pub slot_is : (slots slot : ℕ) → slots < 2 ^ 32 → slots - min (slot * 4) (2 ^ 32 - 1) ≡ slots - 4 * slot
-slot_is slots slot h = omega (arith, h)

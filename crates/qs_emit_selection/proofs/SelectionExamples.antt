@@ -166,7 +166,7 @@ abbrev two_functions : TacUnitTree
 two_functions = record { functions = successor ∷ caller ∷ []; main = 1; data_blocks = [] }
 
 abbrev their_places : List PlacesTree
-their_places = all_slots successor ∷ record { at = places.Register 9 ∷ [] } ∷ []
+their_places = all_slots successor ∷ record { at = places.Register 9 ∷ []; needed = [] } ∷ []
 
 their_items :
     selected two_functions their_places
@@ -184,6 +184,28 @@ their_items = refl
 they_have_no_fault : first_fault two_functions their_places ≡ None
 unfolding frame_cost
 they_have_no_fault = refl
+
+-- ---- values in registers: x5, which calls change, and x9, which is saved; the slot of the last temporary lies first
+
+abbrev mixed_places : PlacesTree
+mixed_places = record { at = places.Slot 1 ∷ places.Register 5 ∷ places.Slot 0 ∷ places.Register 9 ∷ []; needed = [] }
+
+abbrev mixed : Context
+mixed = record { function = function_of 4; places = mixed_places; data_at = λ block. 0 }
+
+-- slot 1 holds temporary 0 and lies behind slot 0, which holds temporary 2
+a_sum_in_a_register :
+    instruction_items mixed some_labels (binary (binaries.Arithmetic arithmetics.Add Signed) 1 (Integer 0) (Integer 3))
+    ≡ plain (Load Lw 10 2 12 ∷ Op Add 5 10 9 ∷ [])
+unfolding is_near
+a_sum_in_a_register = refl
+
+a_move_to_a_slot : instruction_items mixed some_labels (move 2 (Temporary 1)) ≡ plain (Store Sw 2 5 8 ∷ [])
+unfolding is_near
+a_move_to_a_slot = refl
+
+a_move_to_a_register : instruction_items mixed some_labels (move 1 (Temporary 3)) ≡ plain (OpImm Addi 5 9 0 ∷ [])
+a_move_to_a_register = refl
 
 -- ---- faults
 
@@ -204,7 +226,7 @@ eight_arguments = refl
 nine_arguments : first_fault (unit_of (calls_with (Constant 0 ∷ eight))) [] ≡ Some faults.TooManyArguments
 nine_arguments = refl
 
-no_register : first_fault (unit_of (calls_with [])) (record { at = places.Register 32 ∷ [] } ∷ []) ≡ Some faults.NoRegister
+no_register : first_fault (unit_of (calls_with [])) (record { at = places.Register 32 ∷ []; needed = [] } ∷ []) ≡ Some faults.NoRegister
 no_register = refl
 
 abbrev with_block : (size : ℕ) → TacFunctionTree

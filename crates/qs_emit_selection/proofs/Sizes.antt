@@ -1,6 +1,7 @@
 -- How many words the code of each piece takes.
-use Rattle.std.proofs.Common.{◌≡◌, ℕ, zero, suc, ◌+◌, ◌*◌, ◌%◌, ◌/◌, ◌^◌, ◌==◌, ◌≤◌, Bool, true, false, List, [], ◌∷◌, ◌++◌, length, Option, Some, None, refl, sym, ap, ◌∙◌, subst, arith, length-append}
+use Rattle.std.proofs.Common.{◌≡◌, ℕ, zero, suc, ◌+◌, ◌*◌, ◌%◌, ◌/◌, ◌^◌, ◌==◌, ◌≤◌, ◌⊎◌, inl, inr, ⊎_elim, Bool, true, false, List, [], ◌∷◌, ◌++◌, length, Option, Some, None, refl, sym, ap, ◌∙◌, subst, arith, length-append}
 use Rattle.std.specs.Prelude.{◌-◌, nat_lt, ◌&&◌, if◌then◌else◌, sum_by, unwrap_or, slice_get, slice_index_or}
+use Rattle.std.proofs.lemmas.Bool.{cases_lt}
 use Rattle.std.proofs.lemmas.Bool.Decides.{nat_tests}
 use Rattle.std.proofs.lemmas.List.Sums.{sum_by-cons, sum_by-append}
 use Rattle.qs_memory.specs.Sizes.{blank_size}
@@ -29,21 +30,21 @@ use Rattle.qs_asm.specs.Items.{plain, item_words}
 use Rattle.qs_asm.proofs.LaidLaws.{takes_words}
 use Rattle.qs_tac.specs.Trees.{InstructionTree, move, unary, binary, convert, address_of, load, store}
 use Rattle.qs_tac.specs.Trees.{copy, fill, call, jump, branch, return, TacFunctionTree, TacUnitTree}
-use Rattle.qs_tac.specs.Places.{PlacesTree, place_of, no_places, slots_from, all_slots, Accepted}
+use Rattle.qs_tac.specs.Places.{PlacesTree, place_of, no_places, Accepted}
 use Rattle.qs_tac.specs.Laws.{AreAccepted}
 use Rattle.qs_tac.specs.Sizes as sizes
 use Rattle.qs_tac.specs.Sizes.{reach, slot_words, constant_words, operand_words, base_words, offset_words, address_words, operation_words, callee_words, taken_words, condition_words, parameter_words, enter_words, leave_words, instruction_words, words, unit_words}
 use Rattle.qs_tac.specs.Operands.{is_constant}
 use Rattle.qs_tac.specs.declared.places.Place.{Place}
-use Rattle.qs_tac.specs.declared.places.Place.TheVariants.{Slot}
+use Rattle.qs_tac.specs.declared.places.Place.TheVariants.{Slot, Register}
 use Rattle.qs_tac.specs.declared.operands.Operand.{Operand}
 use Rattle.qs_tac.specs.declared.operands.Operand.TheVariants.{Temporary, Integer, Byte, Constant, Null, Local, Data}
 use Rattle.qs_tac.specs.declared.operands.Index.{Index}
 use Rattle.qs_tac.specs.declared.operands.Address.{Address}
 use Rattle.qs_tac.specs.declared.operands.Condition.{Condition}
 use Rattle.qs_tac.specs.declared.operands.Condition.TheVariants.{NotZero, Zero, Compare, ComparePointers}
-use Rattle.qs_frames.specs.Layout.{is_among, used_among, saved_registers, used_registers, kept}
-use Rattle.qs_frames.proofs.FrameLaws.{kept_in_slots}
+use Rattle.qs_frames.specs.Layout.{is_among, used_among, saved_registers, used_registers}
+use Rattle.qs_frames.proofs.FrameLaws.{one_place_each, slot_low, slot_past, fewer_slots}
 use Rattle.qs_emit_selection.specs.Pieces as pieces
 use Rattle.qs_emit_selection.specs.Pieces.{sltiu, sltu, is_small, low_part, constant, is_near, load_from, store_to, address_in_frame, move_stack, shift_of, product_by, loop_end, copy_loop, fill_loop, zero_bytes}
 use Rattle.qs_emit_selection.specs.Operands.{Context, slot_offset, constant_count, place_into, byte_into, into, register_of, stands_in, unless_there, operand_code, operand_register, put_place, put, result_register, result_code, move_to, Anchor, displacement, behind_frame, behind_pointer, based, add_elements, add_index, anchor_of, address_into, is_word_address}
@@ -186,42 +187,59 @@ store_by : (kind : StoreKind) (rs offset : ℕ) (b : Bool) → (b ≡ true → i
 store_by kind rs offset true h = let e : is_near offset ≡ true = h refl in rw e (one _)
 store_by kind rs offset false h = store_long kind rs offset
 
-slot_of : (first count t : ℕ) → slice_index_or (slots_from first count) t (Slot (first + t)) ≡ Slot (first + t)
-slot_of first zero t = refl
-slot_of first (suc count) zero = ap Slot (omega arith)
-slot_of first (suc count) (suc t) =
-    let e : first + suc t ≡ first + 1 + t = omega arith in
-    ap (λ (k : ℕ). slice_index_or (slots_from (first + 1) count) t (Slot k)) e ∙ slot_of (first + 1) count t ∙ ap Slot (sym e)
-
 -- what the sizes have in reach is in reach
-near_offset : (temporaries t kept : ℕ) → kept ≡ temporaries → nat_lt (4 * (sizes.saved_registers + (temporaries - t))) reach ≡ true → is_near (4 * kept - 4 * t) ≡ true
+near_offset : (offset temporaries t : ℕ) → offset ≤ 4 * (sizes.saved_registers + (temporaries - t)) ⊎ offset ≤ 52 → nat_lt (4 * (sizes.saved_registers + (temporaries - t))) reach ≡ true → is_near offset ≡ true
 unfolding is_near
-near_offset temporaries t kept e h = grind (arith, nat_tests, e, h)
+near_offset offset temporaries t (inl e) h = grind (arith, nat_tests, e, h)
+near_offset offset temporaries t (inr e) h = grind (arith, nat_tests, e)
 
 module _ (c : Context) (accepted : Accepted c.function c.places) where
-  own_slot : (t : ℕ) → place_of c.places t ≡ Slot t
-  own_slot t =
-      let z : 0 + t ≡ t = omega arith in
-      ap (λ (l : List Place). slice_index_or l t (Slot t)) accepted.own_slots
-      ∙ subst (λ (k : ℕ). slice_index_or (slots_from 0 c.function.temporaries) t (Slot k) ≡ Slot k) z (slot_of 0 c.function.temporaries t)
+  slot_same : (k l : ℕ) → Slot k ≡ Slot l → k ≡ l
+  slot_same k l e = cc
 
-  in_slot : (P : Place → Type 0) (t : ℕ) → P (Slot t) → P (place_of c.places t)
-  in_slot P t h = subst P (sym (own_slot t)) h
+  -- the slot of a temporary lies before the words of those behind it, and behind the registers
+  near_slot : (t k : ℕ) → place_of c.places t ≡ Slot k → sizes.is_near c.function t ≡ true → is_near (slot_offset c k) ≡ true
+  near_slot t k is h =
+      let count = one_place_each c.function c.places accepted in
+      let few = few_used c in
+      near_offset (slot_offset c k) c.function.temporaries t
+      (⊎_elim
+      (λ lt. let low = slot_low c.places t k lt is in inl (omega (arith, low, count, few, lt)))
+      (λ ge. let past = slot_past c.places k (let none : t ≡ k = slot_same t k (sym (outside c.places.at t ge) ∙ is) in let fewer = fewer_slots c.places in omega (arith, fewer, ge, none)) in inr (omega (arith, past, few)))
+      (cases_lt t (length c.places.at)))
+      h
+    where
+      outside : (places : List Place) (t : ℕ) {p : Place} → length places ≤ t → slice_index_or places t p ≡ p
+      outside [] t h = refl
+      outside (q ∷ places) zero h = absurd (omega (arith, h))
+      outside (q ∷ places) (suc t) h = outside places t (omega (arith, h))
 
-  near_slot : (t : ℕ) → sizes.is_near c.function t ≡ true → is_near (slot_offset c t) ≡ true
-  near_slot t h =
-      let e : kept c.places ≡ kept (all_slots c.function) = ap (λ (at : List Place). kept (record { at = at })) accepted.own_slots in
-      near_offset c.function.temporaries t (kept c.places) (e ∙ kept_in_slots c.function) h
+  -- by where a temporary stands: a register is one word away, and so is a slot in reach
+  by_place : (P : Place → Type 0) (t : ℕ) → ((k : ℕ) → (sizes.is_near c.function t ≡ true → is_near (slot_offset c k) ≡ true) → P (Slot k)) → ((r : ℕ) → P (Register r)) → P (place_of c.places t)
+  by_place P t slot register = by (place_of c.places t) refl
+    where
+      by : (p : Place) → place_of c.places t ≡ p → P p
+      by (Slot k) is = slot k (near_slot t k is)
+      by (Register r) is = register r
+
+  slot_some : (t : ℕ) → 1 ≤ slot_words c.function t
+  slot_some t = by (sizes.is_near c.function t)
+    where
+      by : (b : Bool) → 1 ≤ (if b then 1 else 3)
+      by true = omega arith
+      by false = omega arith
 
   place_long : (rd t : ℕ) → Long 1 (slot_words c.function t) (place_into c rd (place_of c.places t))
   place_long rd t =
-      in_slot (λ p. Long 1 (slot_words c.function t) (place_into c rd p)) t
-      (load_by _ rd _ (sizes.is_near c.function t) (near_slot t))
+      by_place (λ p. Long 1 (slot_words c.function t) (place_into c rd p)) t
+      (λ k near. load_by _ rd _ (sizes.is_near c.function t) near)
+      (λ r. wider (omega arith) (slot_some t) (one _))
 
   byte_long : (rd t : ℕ) → Long 1 (slot_words c.function t) (byte_into c rd (place_of c.places t))
   byte_long rd t =
-      in_slot (λ p. Long 1 (slot_words c.function t) (byte_into c rd p)) t
-      (load_by _ rd _ (sizes.is_near c.function t) (near_slot t))
+      by_place (λ p. Long 1 (slot_words c.function t) (byte_into c rd p)) t
+      (λ k near. load_by _ rd _ (sizes.is_near c.function t) near)
+      (λ r. wider (omega arith) (slot_some t) (one _))
 
   into_long : (rd : ℕ) (o : Operand) → Long 1 (operand_words c.function o) (into c rd o)
   into_long rd (Temporary t) = place_long rd t
@@ -241,16 +259,18 @@ module _ (c : Context) (accepted : Accepted c.function c.places) where
 
   put_long : (rs x : ℕ) → Long 1 (slot_words c.function x) (put c rs x)
   put_long rs x =
-      in_slot (λ p. Long 1 (slot_words c.function x) (put_place c rs p)) x
-      (store_by _ rs _ (sizes.is_near c.function x) (near_slot x))
+      by_place (λ p. Long 1 (slot_words c.function x) (put_place c rs p)) x
+      (λ k near. store_by _ rs _ (sizes.is_near c.function x) near)
+      (λ r. wider (omega arith) (slot_some x) (one _))
 
   result_long : (x : ℕ) → Long 0 (slot_words c.function x) (result_code c x)
   result_long x = unless_long (register_of (place_of c.places x)) (put_long _ x)
 
   move_long : (o : Operand) (x : ℕ) → Long 1 (operand_words c.function o + slot_words c.function x) (move_to c o (place_of c.places x))
   move_long o x =
-      in_slot (λ p. Long 1 (operand_words c.function o + slot_words c.function x) (move_to c o p)) x
-      (then_long (operand_long _ o) (store_by _ _ _ (sizes.is_near c.function x) (near_slot x)))
+      by_place (λ p. Long 1 (operand_words c.function o + slot_words c.function x) (move_to c o p)) x
+      (λ k near. then_long (operand_long _ o) (store_by _ _ _ (sizes.is_near c.function x) near))
+      (λ r. wider (omega arith) (omega arith) (into_long r o))
 
   -- ---- addresses
 

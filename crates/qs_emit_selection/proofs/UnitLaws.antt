@@ -77,6 +77,12 @@ room_for_blocks f p h =
     let room : 4 + 4 * kept p + total f.blocks ≤ (layout f p).cost = cost_has_room (kept p) (total f.blocks) in
     omega (arith, cost, room)
 
+pub room_for_slots : (f : TacFunctionTree) (p : PlacesTree) → function_fault f p ≡ None → kept p ≤ 2 ^ 28
+room_for_slots f p h =
+    let cost : (layout f p).cost ≤ 2 ^ 28 = (is_free f p h).cost in
+    let room : 4 + 4 * kept p + total f.blocks ≤ (layout f p).cost = cost_has_room (kept p) (total f.blocks) in
+    omega (arith, cost, room)
+
 pub next_function :
     (functions now : List TacFunction) (f : ℕ) (g : TacFunction) → now ≡ functions → g ≡ get_or now f g → f < length now
     → map function_tree (drop f functions) ≡ function_tree g ∷ map function_tree (drop (f + 1) functions)

@@ -31,7 +31,7 @@ frame_of c = layout c.function c.places
 
 -- the offset of a slot, and of a placed block, from x2
 abbrev pub slot_offset : Context → (k : ℕ) → ℕ
-slot_offset c k = slot_at (frame_of c) k
+slot_offset c k = slot_at c.places k
 
 abbrev pub local_offset : Context → (i : ℕ) → ℕ
 local_offset c i = block_offset c.function (frame_of c) i

@@ -30,11 +30,10 @@ pub fn place(c: &FunctionContext, t: u32) -> Place
 }
 
 /// The offset of the slot from x2.
-#[tactic(auto, using(crate::proofs::ContextLaws::slot_is))]
 pub fn slot_offset(c: &FunctionContext, slot: u32) -> u32
     ensures { result ≡ spec.slot_offset (tree c.now) slot }
 {
-    c.frame.slots.saturating_sub(slot.saturating_mul(4))
+    c.slots.start(slot)
 }
 
 /// The offset of the placed block from x2.

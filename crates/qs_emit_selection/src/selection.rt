@@ -19,7 +19,7 @@ use crate::limits::first_fault;
 use crate::pieces::put_item;
 use qs_asm::Item;
 use qs_base::{FnId, NoMemory, count, sum};
-use qs_frames::{Starts, laid_from, layout, used_registers};
+use qs_frames::{Starts, laid_from, layout, slot_starts, used_registers};
 use qs_isa::{DATA_START, EXIT_CALL, Register};
 use qs_tac::{Places, TacData, TacFunction, TacUnit};
 use std::alloc::Global;
@@ -81,6 +81,7 @@ fn put_function_at(
     ensures { OnOk result (Selects items.old items.new unit.now number function.now places.now) }
 {
     let frame = layout(function, places);
+    let slots = slot_starts(alloc, places)?;
     let saved = used_registers(alloc, places)?;
     let blocks = laid_from(alloc, frame.placed, &function.blocks)?;
     let c = FunctionContext {
@@ -88,6 +89,7 @@ fn put_function_at(
         function,
         places,
         frame,
+        slots: &slots,
         saved: &saved,
         blocks: &blocks,
         data_starts,
@@ -166,6 +168,7 @@ pub fn select(alloc: Global, unit: &TacUnit, places: &[Places]) -> Result<Vec<It
 {
     let none = Places {
         at: Vec::new(alloc),
+        needed: Vec::new(alloc),
     };
     let sizes = data_sizes(alloc, &unit.data_blocks)?;
     let items = selected(alloc, unit, &sizes, places, &none)?;
@@ -180,6 +183,7 @@ pub fn check_fits(alloc: Global, unit: &TacUnit, places: &[Places]) -> Result<()
 {
     let none = Places {
         at: Vec::new(alloc),
+        needed: Vec::new(alloc),
     };
     let sizes = data_sizes(alloc, &unit.data_blocks)?;
     match first_fault(unit, &sizes, places, &none) {

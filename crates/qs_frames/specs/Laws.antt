@@ -3,7 +3,7 @@ use Rattle.std.specs.Prelude.{◌≡◌, ◌≢◌, ◌⊎◌, ℕ, ◌+◌, ◌
 use Rattle.qs_tac.specs.Trees.{TacFunctionTree}
 use Rattle.qs_tac.specs.Places.{PlacesTree, Accepted}
 use Rattle.qs_tac.specs.Sizes.{values}
-use Rattle.qs_frames.specs.Layout.{total, slot_count, used_registers, kept, layout, return_address_at, register_at, slot_at, block_offset}
+use Rattle.qs_frames.specs.Layout.{total, used_registers, kept, layout, HasSlot, return_address_at, register_at, slot_at, block_offset}
 
 -- what lies in a frame
 pub data Part : Type 0 where
@@ -16,14 +16,14 @@ pub data Part : Type 0 where
 abbrev pub HasPart : TacFunctionTree → PlacesTree → Part → Type 0
 HasPart f p return_address = Unit {0}
 HasPart f p (register i) = i < length (used_registers p)
-HasPart f p (slot k) = k < slot_count p
+HasPart f p (slot k) = HasSlot p k
 HasPart f p (block i) = i < length f.blocks
 
 -- its offset from x2
 abbrev pub part_from : TacFunctionTree → PlacesTree → Part → ℕ
 part_from f p return_address = return_address_at
 part_from f p (register i) = register_at i
-part_from f p (slot k) = slot_at (layout f p) k
+part_from f p (slot k) = slot_at p k
 part_from f p (block i) = block_offset f (layout f p) i
 
 abbrev pub part_size : TacFunctionTree → Part → ℕ

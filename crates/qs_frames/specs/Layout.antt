@@ -2,15 +2,17 @@
 --
 --   x2 + 0          the return address
 --   x2 + 4 on       the registers that the function gives back to its caller as they were
---   up to slots     the slots, the last one first
+--   up to placed    the slots, in falling order of the last temporary that stands in each
 --   x2 + placed on  the placed blocks in order, each at a multiple of 4
 --
 -- What holds parts of expressions has the last numbers among the temporaries; so it lies nearest to x2, in the
--- reach of an immediate.
-use Rattle.std.specs.Prelude.{◌≡◌, ◌≤◌, ℕ, zero, suc, ◌+◌, ◌-◌, ◌*◌, ◌/◌, ◌^◌, ◌==◌, Bool, true, false, if◌then◌else◌}
-use Rattle.std.specs.Prelude.{List, [], ◌∷◌, length}
+-- reach of an immediate, whichever number its slot has.
+use Rattle.std.specs.Prelude.{◌≡◌, ◌<◌, ◌≤◌, ℕ, zero, suc, ◌+◌, ◌*◌, ◌/◌, ◌^◌, ◌==◌, Bool, true, false, if◌then◌else◌}
+use Rattle.std.specs.Prelude.{nat_lt, List, [], ◌∷◌, length, Option, Some, None, unwrap_or}
+use Rattle.std.specs.Option.{option_or}
 use Rattle.qs_tac.specs.Trees.{TacFunctionTree}
-use Rattle.qs_tac.specs.Places.{PlacesTree}
+use Rattle.qs_tac.specs.Places.{PlacesTree, slots_among, slot_count}
+use Rattle.qs_tac.specs.Holders.{same_place}
 use Rattle.qs_tac.specs.declared.places.Place.{Place}
 use Rattle.qs_tac.specs.declared.places.Place.TheVariants.{Slot, Register}
 use Rattle.qs_frames.specs.declared.frame.Frame.{Frame}
@@ -40,15 +42,6 @@ offset (size ∷ sizes) (suc i) = rounded size + offset sizes i
 
 -- ---- values
 
-abbrev pub slots_among : List Place → ℕ
-slots_among [] = 0
-slots_among (Slot k ∷ places) = suc (slots_among places)
-slots_among (Register r ∷ places) = slots_among places
-
--- the temporaries that stand in slots
-abbrev pub slot_count : PlacesTree → ℕ
-slot_count p = slots_among p.at
-
 abbrev pub is_among : List Place → (register : ℕ) → Bool
 is_among [] r = false
 is_among (Slot k ∷ places) r = is_among places r
@@ -70,6 +63,27 @@ used_registers p = used_among p.at saved_registers
 abbrev pub kept : PlacesTree → ℕ
 kept p = length (used_registers p) + slot_count p
 
+-- ---- slots
+
+-- how many temporaries that stand in slots come behind the last one that stands in this slot
+abbrev pub behind_last : List Place → (k : ℕ) → Option ℕ
+behind_last [] k = None
+behind_last (p ∷ places) k = option_or (behind_last places k) (if same_place p (Slot k) then Some (slots_among places) else None)
+
+abbrev pub words_before_slots : PlacesTree → ℕ
+words_before_slots p = 1 + length (used_registers p)
+
+-- a slot lies by the last temporary that stands in it: the frame has a word for each temporary in a slot, the last one's
+-- first. Slots have numbers below the count of these temporaries.
+abbrev pub slot_at : PlacesTree → (k : ℕ) → ℕ
+slot_at p k = 4 * (words_before_slots p + (if nat_lt k (slot_count p) then unwrap_or (behind_last p.at k) 0 else 0))
+
+-- a temporary stands in the slot, so the frame has a word for it
+pub record HasSlot (p : PlacesTree) (k : ℕ) : Type 0 where
+  pub below : k < slot_count p
+  pub behind : ℕ
+  pub last : behind_last p.at k ≡ Some behind
+
 -- ---- the frame
 
 -- the least multiple of 16 that has room for the return address, for what is kept, and for the blocks
@@ -79,7 +93,7 @@ frame_cost kept blocks = (4 + blocks + 4 * kept + 15) / 16 * 16
 abbrev pub layout : TacFunctionTree → PlacesTree → Frame
 layout f p = record {
   cost = frame_cost (kept p) (total f.blocks);
-  slots = 4 * kept p;
+  slots = slot_at p 0;
   placed = 4 + 4 * kept p;
 }
 
@@ -98,9 +112,6 @@ return_address_at = 0
 -- the register with this number among those that are used
 abbrev pub register_at : (i : ℕ) → ℕ
 register_at i = 4 + 4 * i
-
-abbrev pub slot_at : Frame → (k : ℕ) → ℕ
-slot_at frame k = frame.slots - 4 * k
 
 abbrev pub block_offset : TacFunctionTree → Frame → (i : ℕ) → ℕ
 block_offset f frame i = frame.placed + offset f.blocks i

@@ -5,7 +5,7 @@
 pub struct Frame {
     /// its bytes, a positive multiple of 16
     pub cost: u32,
-    /// the offset of slot 0; the further slots lie below it, one after the other
+    /// the offset of slot 0
     pub slots: u32,
     /// the offset of the first placed block; the further blocks lie above it
     pub placed: u32,

@@ -1,10 +1,11 @@
 // The frame of a function, and where its parts lie.
-ghost use Rattle.std.specs.Prelude.{◌≡◌, ◌↔◌, ◌+◌, ◌*◌, ◌^◌, ◌≤◌, ◌<◌, IfOk, IsSome, IfSome, length};
+ghost use Rattle.std.specs.Prelude.{◌≡◌, ◌↔◌, ◌+◌, ◌*◌, ◌^◌, ◌≤◌, ◌<◌, IfOk, IsSome, IfSome, length, unwrap_or};
 ghost use Rattle.qs_tac.specs.TreeOf.{function_tree};
-ghost use Rattle.qs_tac.specs.Places.{places_tree};
+ghost use Rattle.qs_tac.specs.Places.{places_tree, slots_among};
 ghost use Rattle.qs_frames.specs.Layout as spec;
+ghost use Rattle.qs_frames.specs.Starts.{BeginAt};
 
-use crate::blocks::{LARGEST_FRAME, total, total_within};
+use crate::blocks::{LARGEST_FRAME, Starts, total, total_within};
 use crate::frame::Frame;
 use qs_base::NoMemory;
 use qs_tac::{Place, Places, TacFunction};
@@ -19,7 +20,7 @@ const SAVED_REGISTERS: [u32; 12] = [8, 9, 18, 19, 20, 21, 22, 23, 24, 25, 26, 27
 
 #[tactic(auto, using(crate::proofs::OffsetLaws::slots_most))]
 fn slots_among(places: &[Place]) -> usize
-    ensures count { result ≡ spec.slots_among places.now }
+    ensures count { result ≡ slots_among places.now }
     ensures most { result ≤ length places.now }
 {
     let mut count = 0;
@@ -89,6 +90,59 @@ pub fn used_registers(alloc: Global, places: &Places) -> Result<Vec<u32>, NoMemo
     used_among(alloc, &places.at, &SAVED_REGISTERS)
 }
 
+// ---- slots
+
+/// How many temporaries in slots come behind the last one in this slot, where the slot has one.
+fn behind_last(places: &[Place], slot: u32) -> usize
+    ensures { result ≡ unwrap_or (spec.behind_last places.now slot) 0 }
+{
+    let mut left = slots_among(places);
+    let mut behind = 0;
+    for place in places {
+        match place {
+            Place::Slot(k) => {
+                left -= 1;
+                if *k == slot {
+                    behind = left;
+                }
+            }
+            Place::Register(_) => {}
+        }
+    }
+    behind
+}
+
+#[tactic(auto, using(crate::proofs::OffsetLaws::behind_most))]
+fn slot_0(places: &Places) -> u32
+    requires { spec.kept (places_tree places.now) ≤ 2 ^ 28 }
+    ensures { result ≡ spec.slot_at (places_tree places.now) 0 }
+{
+    let before = 1 + used_count(&places.at, &SAVED_REGISTERS) as u32;
+    4 * (before + behind_last(&places.at, 0) as u32)
+}
+
+/// Where the slots lie, from x2 on, by their numbers.
+pub fn slot_starts(alloc: Global, places: &Places) -> Result<Starts, NoMemory>
+    requires { spec.kept (places_tree places.now) ≤ 2 ^ 28 }
+    ensures { IfOk result (λ slots. BeginAt slots (spec.slot_at (places_tree places.now))) }
+{
+    let mut left = slots_among(&places.at);
+    let before = 4 * (1 + used_count(&places.at, &SAVED_REGISTERS) as u32);
+    let mut at = vec![in alloc; before; left]?;
+    for place in &places.at {
+        match place {
+            Place::Slot(k) => {
+                left -= 1;
+                if (*k as usize) < at.len() {
+                    at[*k as usize] = before + 4 * left as u32;
+                }
+            }
+            Place::Register(_) => {}
+        }
+    }
+    Ok(Starts { at, end: before })
+}
+
 // ---- the frame
 
 #[tactic(auto, unfolding(crate::specs::Layout::frame_cost))]
@@ -110,7 +164,7 @@ pub fn layout(f: &TacFunction, places: &Places) -> Frame
     let blocks = total(&f.blocks);
     Frame {
         cost: frame_cost(kept, blocks),
-        slots: 4 * kept,
+        slots: slot_0(places),
         placed: 4 + 4 * kept,
     }
 }

@@ -78,7 +78,7 @@ fn text_of(alloc: Global, row: &Row, source: &[u8]) -> Result<Option<Vec<u8>>, T
         Act::Read => printed_command(alloc, &row.words),
         Act::Lex => printed_tokens(alloc, source),
         Act::Linear => printed_code(alloc, source),
-        Act::Places => printed_places(alloc, source),
+        Act::Places => printed_places(alloc, source, &row.words),
         Act::Decode => printed_instructions(alloc, &row.words),
     }
 }

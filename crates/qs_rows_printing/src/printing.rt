@@ -12,6 +12,7 @@ use qs_rows_tables::{TableFault, linear_text, places_text};
 use qs_syntax::Unit;
 use qs_syntax_copies::copy_unit;
 use qs_syntax_vocabulary::Token;
+use qs_tac::Places;
 use qs_typing::check;
 use std::alloc::{AllocError, Global};
 
@@ -69,10 +70,37 @@ pub fn printed_code(alloc: Global, source: &[u8]) -> Result<Option<Vec<u8>>, Tab
     Ok(Some(linear_text(alloc, &core, &code)?.into_bytes()))
 }
 
-/// The places that the temporaries of the source are given; None where it has no unit, or one that
-/// is ill typed or beyond the limits, or where the test doesn't accept them. It fails where no
-/// memory is found.
-pub fn printed_places(alloc: Global, source: &[u8]) -> Result<Option<Vec<u8>>, TableFault> {
+// The number that a word is, where there is one.
+fn number_at(words: &[String], k: usize) -> Option<usize> {
+    words.get(k)?.as_str().parse::<usize>().ok()
+}
+
+// A temporary of a function is moved to the place of another: the numbers of the function, of the
+// other, and of the one that is moved. Nothing is moved where there are no such numbers.
+fn share(all: &mut [Places], words: &[String]) {
+    let (Some(f), Some(t), Some(u)) = (
+        number_at(words, 0),
+        number_at(words, 1),
+        number_at(words, 2),
+    ) else {
+        return;
+    };
+    if f < all.len() {
+        let at = all[f].at.as_mut_slice();
+        if t < at.len() && u < at.len() {
+            at[u] = at[t];
+        }
+    }
+}
+
+/// The places that the temporaries of the source are given, with one of them moved to that of
+/// another where the words say so; None where it has no unit, or one that is ill typed or beyond the
+/// limits, or where the test doesn't accept the places. It fails where no memory is found.
+pub fn printed_places(
+    alloc: Global,
+    source: &[u8],
+    words: &[String],
+) -> Result<Option<Vec<u8>>, TableFault> {
     let Some(unit) = read(alloc, source) else {
         return Ok(None);
     };
@@ -81,7 +109,8 @@ pub fn printed_places(alloc: Global, source: &[u8]) -> Result<Option<Vec<u8>>, T
     };
     let core = elaborate(alloc, &typed)?;
     let code = lower(alloc, &core)?;
-    let places = assign_unit(alloc, &code)?;
+    let mut places = assign_unit(alloc, &code)?;
+    share(&mut places, words);
     if verify_unit(&code, &places) {
         Ok(Some(places_text(alloc, &core, &places)?.into_bytes()))
     } else {

@@ -1,4 +1,6 @@
 pub mod RelationLaws
+pub mod UseLaws
+pub mod NeedLaws
 pub mod PlacesLaws
 pub mod StopLaws
 pub mod StepExamples

@@ -373,7 +373,7 @@ in_slots = refl
 abbrev in_registers : (for_the_parameter : ℕ) → Ending (Option ℕ)
 in_registers r =
     end_of (placed_run (unit_of (branch (Zero (Temporary 0)) 3 ∷ call None (Function (record { 0 = 0 })) (Constant 0 ∷ []) ∷ returns (Temporary 0) ∷ returns (Constant 2) ∷ []))
-    (record { at = Register r ∷ [] } ∷ []) 0 (integer 7 ∷ []) (with_input []) 8)
+    (record { at = Register r ∷ []; needed = [] } ∷ []) 0 (integer 7 ∷ []) (with_input []) 8)
 
 -- a callee gives x9 back as it was, and not x10
 a_saved_register : in_registers 9 ≡ has_ended (Some 7)

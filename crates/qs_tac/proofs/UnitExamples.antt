@@ -17,9 +17,11 @@ use Rattle.qs_tac.specs.declared.operands.Operand.{Operand}
 use Rattle.qs_tac.specs.declared.operands.Operand.TheVariants.{Temporary, Integer, Byte, Constant, Null, Local, Data}
 use Rattle.qs_tac.specs.declared.operands.Address.{Address}
 use Rattle.qs_tac.specs.declared.operands.Condition.TheVariants.{Zero, Compare}
-use Rattle.qs_tac.specs.declared.places.Place.TheVariants.{Slot}
+use Rattle.qs_tac.specs.declared.places.Place.{Place}
+use Rattle.qs_tac.specs.declared.places.Place.TheVariants.{Slot, Register}
 use Rattle.qs_tac.specs.Holders.{is_saved_register}
-use Rattle.qs_tac.specs.Places.{all_slots, Accepted, is_for_steps}
+use Rattle.qs_tac.specs.Places.{slots_from, all_slots, Accepted, own_slots, is_for_steps, is_for_values, slots_among, slot_rank}
+use Rattle.qs_tac.specs.Liveness.{nexts}
 use Rattle.qs_tac.specs.Fits.{unit_fits}
 use Rattle.qs_tac.specs.Uses.{reads, writes}
 use Rattle.qs_tac.specs.Sizes.{values, is_near, words, instruction_words}
@@ -213,11 +215,37 @@ words_of_parameters = refl
 its_slots : (all_slots (function_of [])).at ≡ Slot 0 ∷ Slot 1 ∷ Slot 2 ∷ Slot 3 ∷ []
 its_slots = refl
 
-slots_are_accepted : Accepted (function_of []) (record { at = Slot 0 ∷ Slot 1 ∷ Slot 2 ∷ Slot 3 ∷ [] })
-slots_are_accepted = record { own_slots = refl }
+slots_are_accepted : Accepted (function_of []) (record { at = Slot 0 ∷ Slot 1 ∷ Slot 2 ∷ Slot 3 ∷ []; needed = (7 ∷ []) ∷ [] })
+slots_are_accepted = own_slots refl
 
 saved_registers : map is_saved_register (7 ∷ 8 ∷ 9 ∷ 10 ∷ 17 ∷ 18 ∷ 27 ∷ 28 ∷ []) ≡ false ∷ true ∷ true ∷ false ∷ false ∷ true ∷ true ∷ false ∷ []
 saved_registers = refl
 
 registers_for_steps : map is_for_steps (5 ∷ 9 ∷ 10 ∷ 17 ∷ 18 ∷ 27 ∷ []) ≡ false ∷ false ∷ true ∷ true ∷ false ∷ false ∷ []
 registers_for_steps = refl
+
+registers_for_values :
+    map is_for_values (4 ∷ 5 ∷ 9 ∷ 10 ∷ 17 ∷ 18 ∷ 31 ∷ 32 ∷ [])
+    ≡ false ∷ true ∷ true ∷ false ∷ false ∷ true ∷ true ∷ false ∷ []
+registers_for_values = refl
+
+-- temporaries 0 and 3 share slot 1, temporaries 1 and 4 slot 0; 2 stands in x8 and 5 in slot 3
+abbrev shared_slots : List Place
+shared_slots = Slot 1 ∷ Slot 0 ∷ Register 8 ∷ Slot 1 ∷ Slot 0 ∷ Slot 3 ∷ []
+
+counted_slots : slots_among shared_slots ≡ 5
+counted_slots = refl
+
+-- the slot of the last temporary comes first
+ranked_slots : map (slot_rank shared_slots) (3 ∷ 0 ∷ 1 ∷ []) ≡ 0 ∷ 1 ∷ 2 ∷ []
+ranked_slots = refl
+
+own_slots_ranked : map (slot_rank (slots_from 0 4)) (0 ∷ 1 ∷ 2 ∷ 3 ∷ []) ≡ 3 ∷ 2 ∷ 1 ∷ 0 ∷ []
+own_slots_ranked = refl
+
+-- ---- what comes next
+
+what_follows :
+    map (λ i. nexts i 6) (returns (Temporary 0) ∷ jump 2 ∷ branch (Zero (Temporary 0)) 2 ∷ move 0 (Constant 1) ∷ [])
+    ≡ [] ∷ (2 ∷ []) ∷ (7 ∷ 2 ∷ []) ∷ (7 ∷ []) ∷ []
+what_follows = refl

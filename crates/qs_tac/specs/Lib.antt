@@ -2,6 +2,7 @@ pub mod Operands
 pub mod Trees
 pub mod TreeOf
 pub mod Uses
+pub mod Liveness
 pub mod Holders
 pub mod Values
 pub mod Steps

@@ -9,9 +9,11 @@ pub enum Place {
     Register(u32),
 }
 
-/// A place for each temporary of a function.
+/// A place for each temporary of a function, and the certificate that they keep its values.
 #[derive(Drop)]
 pub struct Places {
     /// by the temporary's number
     pub at: Vec<Place>,
+    /// the temporaries that are needed after each instruction, by its index
+    pub needed: Vec<Vec<u32>>,
 }

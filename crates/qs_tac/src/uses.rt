@@ -1,8 +1,9 @@
 // What instructions read and write.
-ghost use Rattle.std.specs.Prelude.{◌≡◌, ◌++◌, length, option_to_list};
+ghost use Rattle.std.specs.Prelude.{◌≡◌, ◌≤◌, ◌++◌, length, option_to_list};
 ghost use Rattle.std.specs.List.{slice_get};
 ghost use Rattle.qs_tac.specs.TreeOf.{instruction_tree};
 ghost use Rattle.qs_tac.specs.Uses.{read_by, read_by_address, read_by_all};
+ghost use Rattle.qs_tac.specs.Liveness.{goes_on, is_call, target};
 ghost use Rattle.qs_tac.specs.Uses.{read_by_condition, reads, writes};
 
 use crate::instruction::Instruction;
@@ -144,6 +145,17 @@ impl Instruction {
         }
     }
 
+    /// At least as many as the temporaries that it reads.
+    #[tactic(auto, using(crate::proofs::UseLaws::reads_within))]
+    pub fn read_limit(&self) -> usize
+        ensures { length (reads (instruction_tree self.now)) ≤ result }
+    {
+        match self {
+            Instruction::Call(_, _, arguments) => arguments.len(),
+            _ => 4,
+        }
+    }
+
     /// The temporary that the instruction writes, if it writes one.
     pub fn written(&self) -> Option<u32>
         ensures { result ≡ writes (instruction_tree self.now) }
@@ -162,6 +174,69 @@ impl Instruction {
             Instruction::Jump(_) => None,
             Instruction::Branch(_, _) => None,
             Instruction::Return(_) => None,
+        }
+    }
+
+    /// Whether the instruction behind it can come next.
+    pub fn goes_on(&self) -> bool
+        ensures { result ≡ goes_on (instruction_tree self.now) }
+    {
+        match self {
+            Instruction::Move(_, _) => true,
+            Instruction::Unary(_, _, _) => true,
+            Instruction::Binary(_, _, _, _) => true,
+            Instruction::Convert(_, _, _) => true,
+            Instruction::AddressOf(_, _) => true,
+            Instruction::Load(_, _, _) => true,
+            Instruction::Store(_, _, _) => true,
+            Instruction::Copy { .. } => true,
+            Instruction::Fill(_, _) => true,
+            Instruction::Call(_, _, _) => true,
+            Instruction::Jump(_) => false,
+            Instruction::Branch(_, _) => true,
+            Instruction::Return(_) => false,
+        }
+    }
+
+    /// The index of the instruction to which it may jump, if it may.
+    pub fn target(&self) -> Option<u32>
+        ensures { result ≡ target (instruction_tree self.now) }
+    {
+        match self {
+            Instruction::Move(_, _) => None,
+            Instruction::Unary(_, _, _) => None,
+            Instruction::Binary(_, _, _, _) => None,
+            Instruction::Convert(_, _, _) => None,
+            Instruction::AddressOf(_, _) => None,
+            Instruction::Load(_, _, _) => None,
+            Instruction::Store(_, _, _) => None,
+            Instruction::Copy { .. } => None,
+            Instruction::Fill(_, _) => None,
+            Instruction::Call(_, _, _) => None,
+            Instruction::Jump(to) => Some(*to),
+            Instruction::Branch(_, to) => Some(*to),
+            Instruction::Return(_) => None,
+        }
+    }
+
+    /// Whether it calls a function.
+    pub fn is_call(&self) -> bool
+        ensures { result ≡ is_call (instruction_tree self.now) }
+    {
+        match self {
+            Instruction::Move(_, _) => false,
+            Instruction::Unary(_, _, _) => false,
+            Instruction::Binary(_, _, _, _) => false,
+            Instruction::Convert(_, _, _) => false,
+            Instruction::AddressOf(_, _) => false,
+            Instruction::Load(_, _, _) => false,
+            Instruction::Store(_, _, _) => false,
+            Instruction::Copy { .. } => false,
+            Instruction::Fill(_, _) => false,
+            Instruction::Call(_, _, _) => true,
+            Instruction::Jump(_) => false,
+            Instruction::Branch(_, _) => false,
+            Instruction::Return(_) => false,
         }
     }
 }

@@ -1,5 +1,5 @@
 use Rattle.qs_tac.specs.Places.{slots_from}
-use Rattle.qs_alloc.proofs.Slots.{slot_goes_on}
+use Rattle.qs_alloc.proofs.OwnSlots.{slot_goes_on}
 use Rattle.qs_alloc.proofs.assignment.own_slots.Goals as goal
 
 pub loop-slot-preserved : goal.loop-slot-preserved

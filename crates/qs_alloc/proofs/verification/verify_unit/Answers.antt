@@ -4,7 +4,7 @@ use Rattle.qs_tac.specs.TreeOf.{function_tree}
 use Rattle.qs_tac.specs.UnitTrees.{unit_tree}
 use Rattle.qs_tac.specs.declared.units.TacFunction.{TacFunction}
 use Rattle.qs_alloc.specs.Verification.{are_verified}
-use Rattle.qs_alloc.proofs.Slots.{verified_accepted, accepted_verified}
+use Rattle.qs_alloc.proofs.UnitLaws.{verified_accepted, accepted_verified}
 use Rattle.qs_alloc.proofs.verification.verify_unit.Goals as goal
 
 pub returns-clause-accepted : goal.returns-clause-accepted

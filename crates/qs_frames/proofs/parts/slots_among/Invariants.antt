@@ -1,5 +1,5 @@
+use Rattle.qs_tac.specs.Places.{slots_among}
 use Rattle.std.proofs.Common.{◌≡◌, ◌+◌, drop}
-use Rattle.qs_frames.specs.Layout.{slots_among}
 use Rattle.qs_frames.proofs.parts.slots_among.Given as goal
 
 abbrev pub invariant-loop-place : goal.invariant-loop-place

@@ -1,6 +1,6 @@
 use Rattle.std.proofs.Common.{◌+◌, ◌≤◌, arith}
-use Rattle.qs_tac.specs.Places.{places_tree}
-use Rattle.qs_frames.specs.Layout.{slots_among, kept}
+use Rattle.qs_tac.specs.Places.{places_tree, slots_among}
+use Rattle.qs_frames.specs.Layout.{kept}
 use Rattle.qs_frames.proofs.OffsetLaws.{few_are_kept}
 use Rattle.qs_frames.proofs.parts.try_layout.Goals as goal
 

@@ -1,0 +1,7 @@
+use Rattle.std.proofs.Common.{◌≡◌, drop}
+use Rattle.std.specs.List.{list_all}
+use Rattle.qs_alloc.specs.Verification.{is_written_or_apart}
+use Rattle.qs_alloc.proofs.sharing.is_apart_from_rest.Given as goal
+
+abbrev pub invariant-loop-u : goal.invariant-loop-u
+invariant-loop-u l = list_all (is_written_or_apart l.at l.t l.written) (drop l.u-index l.later) ≡ list_all (is_written_or_apart l.at l.t l.written) l.later

@@ -3,7 +3,7 @@ use Rattle.std.proofs.Common.{◌≡◌, ℕ, ◌+◌, List, [], ◌∷◌, ◌+
 use Rattle.std.specs.Prelude.{sum_by}
 use Rattle.std.proofs.lemmas.List.{map-append}
 use Rattle.std.proofs.lemmas.List.Sums.{sum_by-cons}
-use Rattle.qs_syntax.specs.Trees.{FunctionTree, Stmts, DeclTree, structure, forward, function, variables, UnitTree}
+use Rattle.qs_syntax.specs.Trees.{FunctionTree, Stmts, DeclTree, structure, forward, function, variables, UnitTree, typedef}
 use Rattle.qs_memory.proofs.Options.{some_same, followed}
 use Rattle.qs_types.specs.Contexts.{inner_scope}
 use Rattle.qs_types.specs.Placed.{Local, addressed_in, statements_locals}
@@ -45,6 +45,7 @@ functions_named s f (Some body) gs q =
 declaration_named : (s : Scope) (d : DeclTree) (now : TypedProgram) → declaration_typed s d ≡ Some now → names_of now.functions ≡ own_names d
 declaration_named s (structure d) now q = ap (λ (p : TypedProgram). names_of p.functions) (sym (some_same _ now q))
 declaration_named s (forward d) now q = ap (λ (p : TypedProgram). names_of p.functions) (sym (some_same _ now q))
+declaration_named s (typedef d) now q = ap (λ (p : TypedProgram). names_of p.functions) (sym (some_same _ now q))
 declaration_named s (function f) now q =
     let gs = followed (function_typed s f f.body) _ now q in
     ap (λ (p : TypedProgram). names_of p.functions) (sym (some_same _ now gs.then)) ∙ functions_named s f f.body gs.value gs.first

@@ -1,19 +1,20 @@
 -- The names of a unit's functions are tokens of its text, each of its own bytes.
-use Rattle.std.proofs.Common.{◌≡◌, ℕ, ◌+◌, ◌-◌, ◌≤◌, List, [], ◌∷◌, ◌++◌, Option, Some, None, length, drop, All, refl, ap, sym, ◌∙◌, arith}
+use Rattle.std.proofs.Common.{◌≡◌, ℕ, ◌+◌, ◌-◌, ◌≤◌, Bool, true, false, if◌then◌else◌, List, [], ◌∷◌, ◌++◌, Option, Some, None, length, drop, All, refl, ap, sym, ◌∙◌, arith}
 use Rattle.std.specs.Prelude.{sum_by}
 use Rattle.std.proofs.lemmas.List.{length-take}
 use Rattle.std.proofs.lemmas.List.Elements.{All-head, All-tail}
 use Rattle.std.proofs.lemmas.List.Sums.{sum_by-cons, sum_by-append}
 use Rattle.qs_syntax_vocabulary.specs.declared.terminal.Terminal.{Terminal}
-use Rattle.qs_syntax_vocabulary.specs.declared.terminal.Terminal.TheVariants.{Name, Keyword, Constant, Text, Punctuator}
+use Rattle.qs_syntax_vocabulary.specs.declared.terminal.Terminal.TheVariants.{Name, TypeName, Keyword, Constant, Text, Punctuator}
 use Rattle.qs_syntax_vocabulary.specs.declared.tokens.Token.{Token}
 use Rattle.qs_syntax_vocabulary.specs.declared.tokens.TokenKind.{TokenKind}
 use Rattle.qs_syntax_vocabulary.specs.declared.tokens.TokenKind.TheVariants as kinds
 use Rattle.qs_syntax_vocabulary.specs.declared.punctuator.Punctuator.TheVariants as punctuators
 use Rattle.qs_syntax.specs.Nodes.{all_count, decl_count, parameter_count}
 use Rattle.qs_syntax.specs.Numbering.{Relabelling, relabel_all, relabel_decl, relabel_option, relabel_stmts, numbered}
-use Rattle.qs_syntax.specs.ReadsUnits.{ReadsExternal, a_struct_with_members, a_forward, a_header, a_definition, some_variables, ReadsUnit, a_last_external, an_external}
-use Rattle.qs_syntax.specs.Trees.{Stmts, DeclTree, structure, forward, function, variables, UnitTree}
+use Rattle.qs_syntax_vocabulary.specs.Marks.{NameSet, is_in, mark, marked}
+use Rattle.qs_syntax.specs.ReadsUnits.{ReadsPlain, a_struct_with_members, a_forward, a_header, a_definition, some_variables, ReadsExternal, a_plain_external, a_typedef, ReadsExternals, a_last_external, an_external}
+use Rattle.qs_syntax.specs.Trees.{Stmts, DeclTree, structure, forward, function, variables, UnitTree, typedef}
 use Rattle.qs_lexer.specs.Laws.{InOrder, IsTokenOf, spelling}
 use Rattle.qs_lexer.specs.Terminals.{terminal, terminal_of, terminals}
 use Rattle.qs_lexer.proofs.TokenLaws.{in_order, tokens_of}
@@ -24,6 +25,7 @@ use Rattle.qs_compile.specs.Names.{name_bytes_in, NamesAreOfTheText}
 
 abbrev name_length : Terminal → ℕ
 name_length (Name at x) = length x
+name_length (TypeName at x) = length x
 name_length (Keyword at k) = 0
 name_length (Constant at n unsigned) = 0
 name_length (Text at bytes) = 0
@@ -44,20 +46,44 @@ both xs ys = sum_by-append name_length xs ys
 abbrev pub own_names : DeclTree → List (List ℕ)
 own_names (structure s) = []
 own_names (forward f) = []
+own_names (typedef f) = []
 own_names (function f) = name_with_body f.name f.body
 own_names (variables d) = []
 
 pub own_and_others : (d : DeclTree) (ds : UnitTree) → functions_in (d ∷ ds) ≡ own_names d ++ functions_in ds
 own_and_others (structure s) ds = refl
 own_and_others (forward f) ds = refl
+own_and_others (typedef f) ds = refl
 own_and_others (function f) ds = refl
 own_and_others (variables d) ds = refl
 
-own_read : {h : ℕ} {ts : List Terminal} {d : DeclTree} → ReadsExternal h ts d → sum_by length (own_names d) ≤ name_lengths ts
-own_read (a_struct_with_members at n o c s x r) = omega arith
-own_read (a_forward at n s x) = omega arith
-own_read (a_header n o c s x t m r) = omega arith
-own_read (a_definition {xs = xs} {ys = ys} {zs = zs} {ws = ws} n o c b e x t m r q) =
+-- whatever names are types'
+marked_lengths : (set : NameSet) (ts : List Terminal) → name_lengths (marked set ts) ≡ name_lengths ts
+marked_lengths set [] = refl
+marked_lengths set (t ∷ ts) =
+    let rest = marked_lengths set ts in
+    let one = same t in
+    let here = with_first t ts in
+    let there = with_first (mark set t) (marked set ts) in
+    omega (arith, rest, one, here, there)
+  where
+    named : (b : Bool) (at : ℕ) (x : List ℕ) → name_length (if b then TypeName at x else Name at x) ≡ length x
+    named true at x = refl
+    named false at x = refl
+
+    same : (t : Terminal) → name_length (mark set t) ≡ name_length t
+    same (Name at x) = named (is_in set x) at x
+    same (TypeName at x) = named (is_in set x) at x
+    same (Keyword at k) = refl
+    same (Constant at n unsigned) = refl
+    same (Text at bytes) = refl
+    same (Punctuator at m) = refl
+
+plain_read : {h : ℕ} {ts : List Terminal} {d : DeclTree} → ReadsPlain h ts d → sum_by length (own_names d) ≤ name_lengths ts
+plain_read (a_struct_with_members at o c s x r) = omega arith
+plain_read (a_forward at s x) = omega arith
+plain_read (a_header n o c s x t m r) = omega arith
+plain_read (a_definition {xs = xs} {ys = ys} {zs = zs} {ws = ws} n o c b e x t m r q) =
     let behind : List Terminal =
     Punctuator o punctuators.OpenParenthesis
     ∷ (zs ++ Punctuator c punctuators.CloseParenthesis ∷ Punctuator b punctuators.OpenBrace ∷ (ws ++ Punctuator e punctuators.CloseBrace ∷ [])) in
@@ -66,9 +92,16 @@ own_read (a_definition {xs = xs} {ys = ys} {zs = zs} {ws = ws} n o c b e x t m r
     let stars = both ys (Name n x ∷ behind) in
     let name = with_first (Name n x) behind in
     omega (arith, own, before, stars, name)
-own_read (some_variables r) = omega arith
+plain_read (some_variables r) = omega arith
 
-pub names_read : {h : ℕ} {ts : List Terminal} {ds : List DeclTree} → ReadsUnit h ts ds → name_bytes_in ds ≤ name_lengths ts
+own_read : {set : NameSet} {h : ℕ} {ts : List Terminal} {d : DeclTree} → ReadsExternal set h ts d → sum_by length (own_names d) ≤ name_lengths ts
+own_read (a_plain_external {set = set} {ts = ts} r) =
+    let read = plain_read r in
+    let same = marked_lengths set ts in
+    omega (arith, read, same)
+own_read (a_typedef xs at s defined names) = omega arith
+
+pub names_read : {set : NameSet} {h : ℕ} {ts : List Terminal} {ds : List DeclTree} → ReadsExternals set h ts ds → name_bytes_in ds ≤ name_lengths ts
 names_read (a_last_external {d = d} r) =
     let names = ap (sum_by length) (own_and_others d []) in
     let sum = sum_by-append length (own_names d) [] in
@@ -87,6 +120,7 @@ names_read (an_external {xs = xs} {ys = ys} {d = d} {ds = ds} r s) =
 same_body : (f : Relabelling) (n : ℕ) (d : DeclTree) → own_names (relabel_decl f n d) ≡ own_names d
 same_body f n (structure s) = refl
 same_body f n (forward d) = refl
+same_body f n (typedef d) = refl
 same_body f n (function d) = by d.body
   where
     by : (o : Option Stmts) → name_with_body d.name (relabel_option (relabel_stmts f) (f.onward (f.onward n 1) (all_count parameter_count d.parameters)) o) ≡ name_with_body d.name o

@@ -5,9 +5,9 @@ use Rattle.std.specs.Option.{option_or}
 use Rattle.qs_syntax.specs.declared.nodes.Node.{Node}
 use Rattle.qs_syntax.specs.declared.types.Base.{Base}
 use Rattle.qs_syntax_vocabulary.specs.declared.terminal.Terminal.{Terminal}
-use Rattle.qs_syntax.specs.Trees.{ExprTree, expr, ShapeTree, Exprs, no_exprs, expr_and, DeclaratorTree, InitialiserTree, value, list, Initialisers, no_initialisers, initialiser_and, VariableTree, ParameterTree, MembersTree, StartTree, no_start, start_expression, start_declaration, StmtTree, empty, expression, declaration, block, branch, while_loop, do_loop, for_loop, break, continue, return, Stmts, no_stmts, stmt_and, Else, no_else, else_by, StructTree, FunctionTree, DeclTree, structure, forward, function, variables, UnitTree}
+use Rattle.qs_syntax.specs.Trees.{ExprTree, expr, ShapeTree, Exprs, no_exprs, expr_and, DeclaratorTree, InitialiserTree, value, list, Initialisers, no_initialisers, initialiser_and, VariableTree, ParameterTree, MembersTree, StartTree, no_start, start_expression, start_declaration, StmtTree, empty, expression, declaration, block, branch, while_loop, do_loop, for_loop, break, continue, return, Stmts, no_stmts, stmt_and, Else, no_else, else_by, StructTree, DefinedTree, of_struct, of_base, TypedefTree, FunctionTree, DeclTree, structure, forward, typedef, function, variables, UnitTree}
 use Rattle.qs_syntax.specs.Trees as trees
-use Rattle.qs_syntax.specs.Nodes.{all_nodes, option_nodes, expr_nodes, shape_nodes, exprs_nodes, declarator_nodes, initialiser_nodes, initialisers_nodes, variable_nodes, declaration_nodes, parameter_nodes, members_nodes, start_nodes, stmt_nodes, stmts_nodes, else_nodes, struct_nodes, function_nodes, decl_nodes, unit_nodes, unit_count}
+use Rattle.qs_syntax.specs.Nodes.{all_nodes, option_nodes, expr_nodes, shape_nodes, exprs_nodes, declarator_nodes, initialiser_nodes, initialisers_nodes, variable_nodes, declaration_nodes, parameter_nodes, members_nodes, start_nodes, stmt_nodes, stmts_nodes, else_nodes, struct_nodes, defined_nodes, typedef_nodes, function_nodes, decl_nodes, unit_nodes, unit_count}
 use Rattle.qs_types.specs.Types.{TypeTree, Structs}
 use Rattle.qs_types.specs.Rules.{Test, Fault, faults_of}
 use Rattle.qs_types.specs.Contexts.{Context, start_context, inner_scope, inside_loop}
@@ -16,10 +16,10 @@ use Rattle.qs_types.specs.Expressions.{type_of, shape_judged}
 use Rattle.qs_types.specs.Declarations.{lengths_faults, variable_declared}
 use Rattle.qs_types.specs.InitialiserRules.{list_tests, initialiser_faults, elements_faults, option_part}
 use Rattle.qs_types.specs.StatementRules.{after_variable, after_statement, for_context, variable_tests, option_initialiser_faults, variable_faults, variables_faults, condition_tests, condition_faults, option_used, option_discarded, return_tests, loop_tests, for_tests, for_faults, start_faults, statement_faults, statements_faults, else_faults}
-use Rattle.qs_types.specs.UnitRules.{Before, no_members, with_tag, after_member, after_together, member_tests, member_faults, together_faults, members_faults, struct_faults, is_defined, header_tests, parameter_tests, parameters_faults, after_parameter, parameter_types, body_context, body_faults, function_faults, after_declaration, declaration_faults, declarations_faults, faults_in, is_name_in}
+use Rattle.qs_types.specs.UnitRules.{Before, no_members, with_option_tag, after_member, after_together, member_tests, member_faults, together_faults, members_faults, struct_faults, is_option_defined, after_defined, defined_type, defined_faults, after_type_name, type_name_tests, type_name_faults, type_names_faults, typedef_faults, header_tests, parameter_tests, parameters_faults, after_parameter, parameter_types, body_context, body_faults, function_faults, after_declaration, declaration_faults, declarations_faults, faults_in, is_name_in}
 use Rattle.qs_types.specs.declared.rules.Rule.TheVariants as rules
 use Rattle.qs_types.specs.Rules.{test}
-use Rattle.qs_types.specs.Sites.{Site, site, sites, option_sites, declarator_sites, declarators_sites, initialiser_sites, elements_sites, option_initialiser_sites, variable_sites, variables_sites, start_sites, statement_sites, statements_sites, else_sites, members_sites, parameters_sites, body_sites, declaration_sites, declarations_sites, unit_sites}
+use Rattle.qs_types.specs.Sites.{Site, site, sites, option_sites, declarator_sites, declarators_sites, initialiser_sites, elements_sites, option_initialiser_sites, variable_sites, variables_sites, start_sites, statement_sites, statements_sites, else_sites, members_sites, defined_sites, type_names_sites, parameters_sites, body_sites, declaration_sites, declarations_sites, unit_sites}
 use Rattle.qs_types.specs.References.{TextBlock, expr_texts, shape_texts, exprs_texts, site_texts, literal_blocks, unit_calls}
 use Rattle.qs_types.specs.Placed.{Local, variables_locals, start_locals, statement_locals, statements_locals, else_locals, parameters_locals, locals_in, is_placed, addressed_in, placed_in}
 use Rattle.qs_types.specs.WellTyped.{undefined_from, runs, first_undefined, has_main}
@@ -236,8 +236,26 @@ module _ (P : ℕ → Type 0) where
 
   struct_told : (c : Context) (s : StructTree) → Known (struct_nodes s) → Told (struct_faults c s)
   struct_told c s k =
-      told_both (faults_of s.node.id (test rules.UnknownTag (is_defined c s.name))) (members_faults (with_tag c s.name) no_members s.members)
-      (own_told s.node.id (test rules.UnknownTag (is_defined c s.name)) k.0) (members_told (with_tag c s.name) no_members s.members k.1)
+      told_both (faults_of s.node.id (test rules.UnknownTag (is_option_defined c s.name))) (members_faults (with_option_tag c s.name) no_members s.members)
+      (own_told s.node.id (test rules.UnknownTag (is_option_defined c s.name)) k.0) (members_told (with_option_tag c s.name) no_members s.members k.1)
+
+  defined_told : (c : Context) (d : DefinedTree) → Known (defined_nodes d) → Told (defined_faults c d)
+  defined_told c (of_struct s) k = struct_told c s k
+  defined_told c (of_base b) k = tt
+
+  type_names_told : (c : Context) (base : Option TypeTree) (ds : List DeclaratorTree) → Known (all_nodes declarator_nodes ds) → Told (type_names_faults c base ds)
+  type_names_told c base [] k = tt
+  type_names_told c base (d ∷ ds) k =
+      let here = known_front (declarator_nodes d) (all_nodes declarator_nodes ds) k in
+      told_both (type_name_faults c base d) (type_names_faults (after_type_name c base d) base ds)
+      (told_both (faults_of d.node.id (type_name_tests c base d)) (lengths_faults c d.lengths.given) (own_told d.node.id (type_name_tests c base d) here.0) (lengths_told c d.lengths.given here.1))
+      (type_names_told (after_type_name c base d) base ds (known_back (declarator_nodes d) (all_nodes declarator_nodes ds) k))
+
+  typedef_told : (c : Context) (t : TypedefTree) → Known (typedef_nodes t) → Told (typedef_faults c t)
+  typedef_told c t k =
+      told_both (defined_faults c t.defined) (type_names_faults (after_defined c t.defined) (defined_type c t.defined) t.names)
+      (defined_told c t.defined (known_front (defined_nodes t.defined) (all_nodes declarator_nodes t.names) k))
+      (type_names_told (after_defined c t.defined) (defined_type c t.defined) t.names (known_back (defined_nodes t.defined) (all_nodes declarator_nodes t.names) k))
 
   parameters_told : (c : Context) (b : Bool) (ps : List ParameterTree) → Known (all_nodes parameter_nodes ps) → Told (parameters_faults c b ps)
   parameters_told c b [] k = tt
@@ -262,6 +280,7 @@ module _ (P : ℕ → Type 0) where
   declaration_told : (c : Context) (d : DeclTree) → Known (decl_nodes d) → Told (declaration_faults c d)
   declaration_told c (structure s) k = struct_told c s k
   declaration_told c (forward f) k = tt
+  declaration_told c (typedef t) k = typedef_told c t k
   declaration_told c (function f) k = function_told c f k
   declaration_told c (variables d) k = variables_told true c d.base d.variables k
 
@@ -303,6 +322,7 @@ module _ (P : ℕ → Type 0) where
   header_known limit names [] k = tt
   header_known limit names (structure s ∷ ds) k = header_known limit names ds (known_back (struct_nodes s) (unit_nodes ds) k)
   header_known limit names (forward f ∷ ds) k = header_known limit names ds k.1
+  header_known limit names (typedef t ∷ ds) k = header_known limit names ds (known_back (typedef_nodes t) (unit_nodes ds) k)
   header_known limit names (function f ∷ ds) k =
       let rest = known_back (function_nodes f) (unit_nodes ds) k in
       maybe_if (is_name_in f.name names) (header_past limit names ds) (if nat_lt limit (length names + 1) then Some f.node.id else header_past limit (names ++ f.name ∷ []) ds)
@@ -319,6 +339,7 @@ module _ (P : ℕ → Type 0) where
   parameters_known limit [] k = tt
   parameters_known limit (structure s ∷ ds) k = parameters_known limit ds (known_back (struct_nodes s) (unit_nodes ds) k)
   parameters_known limit (forward f ∷ ds) k = parameters_known limit ds k.1
+  parameters_known limit (typedef t ∷ ds) k = parameters_known limit ds (known_back (typedef_nodes t) (unit_nodes ds) k)
   parameters_known limit (function f ∷ ds) k =
       let here = known_front (function_nodes f) (unit_nodes ds) k in
       maybe_either (node_of_parameter (slice_get f.parameters limit)) (first_past_parameters limit ds)
@@ -330,6 +351,7 @@ module _ (P : ℕ → Type 0) where
   undefined_known runs called [] k = tt
   undefined_known runs called (structure s ∷ ds) k = undefined_known runs called ds (known_back (struct_nodes s) (unit_nodes ds) k)
   undefined_known runs called (forward f ∷ ds) k = undefined_known runs called ds k.1
+  undefined_known runs called (typedef t ∷ ds) k = undefined_known runs called ds (known_back (typedef_nodes t) (unit_nodes ds) k)
   undefined_known runs called (function f ∷ ds) k =
       maybe_if (is_name_in f.name called && not (runs f.name)) (Some f.node.id) (undefined_from runs called ds) k.0 (undefined_known runs called ds (known_back (function_nodes f) (unit_nodes ds) k))
   undefined_known runs called (variables d ∷ ds) k = undefined_known runs called ds (known_back (declaration_nodes d) (unit_nodes ds) k)
@@ -352,6 +374,7 @@ module _ (P : ℕ → Type 0) where
   data_known c [] k = tt
   data_known c (structure s ∷ ds) k = data_known (after_declaration c (structure s)) ds (known_back (struct_nodes s) (unit_nodes ds) k)
   data_known c (forward f ∷ ds) k = data_known (after_declaration c (forward f)) ds k.1
+  data_known c (typedef t ∷ ds) k = data_known (after_declaration c (typedef t)) ds (known_back (typedef_nodes t) (unit_nodes ds) k)
   data_known c (function f ∷ ds) k = data_known (after_declaration c (function f)) ds (known_back (function_nodes f) (unit_nodes ds) k)
   data_known c (variables d ∷ ds) k =
       each_both (λ (b : Block). P b.node) (variables_blocks c d.base d.variables) (variable_blocks_from (after_declaration c (variables d)) ds)
@@ -503,6 +526,17 @@ module _ (P : ℕ → Type 0) where
       sites_both (declarators_sites c m.declarators) (members_sites c ms) (declarators_sites_known c m.declarators (known_front (members_nodes m) (all_nodes members_nodes ms) k))
       (members_sites_known c ms (known_back (members_nodes m) (all_nodes members_nodes ms) k))
 
+  defined_sites_known : (c : Context) (d : DefinedTree) → Known (defined_nodes d) → Placed (defined_sites c d)
+  defined_sites_known c (of_struct s) k = members_sites_known (with_option_tag c s.name) s.members k.1
+  defined_sites_known c (of_base b) k = tt
+
+  type_names_sites_known : (c : Context) (base : Option TypeTree) (ds : List DeclaratorTree) → Known (all_nodes declarator_nodes ds) → Placed (type_names_sites c base ds)
+  type_names_sites_known c base [] k = tt
+  type_names_sites_known c base (d ∷ ds) k =
+      sites_both (declarator_sites c d) (type_names_sites (after_type_name c base d) base ds)
+      (sites_known c d.lengths.given (known_front (declarator_nodes d) (all_nodes declarator_nodes ds) k).1)
+      (type_names_sites_known (after_type_name c base d) base ds (known_back (declarator_nodes d) (all_nodes declarator_nodes ds) k))
+
   parameters_sites_known : (c : Context) (ps : List ParameterTree) → Known (all_nodes parameter_nodes ps) → Placed (parameters_sites c ps)
   parameters_sites_known c [] k = tt
   parameters_sites_known c (p ∷ ps) k =
@@ -514,8 +548,12 @@ module _ (P : ℕ → Type 0) where
   body_sites_known c f (Some ss) k = statements_sites_known (body_context c f) ss k
 
   declaration_sites_known : (c : Context) (d : DeclTree) → Known (decl_nodes d) → Placed (declaration_sites c d)
-  declaration_sites_known c (structure s) k = members_sites_known (with_tag c s.name) s.members k.1
+  declaration_sites_known c (structure s) k = members_sites_known (with_option_tag c s.name) s.members k.1
   declaration_sites_known c (forward f) k = tt
+  declaration_sites_known c (typedef t) k =
+      sites_both (defined_sites c t.defined) (type_names_sites (after_defined c t.defined) (defined_type c t.defined) t.names)
+      (defined_sites_known c t.defined (known_front (defined_nodes t.defined) (all_nodes declarator_nodes t.names) k))
+      (type_names_sites_known (after_defined c t.defined) (defined_type c t.defined) t.names (known_back (defined_nodes t.defined) (all_nodes declarator_nodes t.names) k))
   declaration_sites_known c (function f) k =
       sites_both (parameters_sites (inner_scope c) f.parameters) (body_sites c f f.body)
       (parameters_sites_known (inner_scope c) f.parameters (known_front (all_nodes parameter_nodes f.parameters) (option_nodes stmts_nodes f.body) k.1))
@@ -625,6 +663,7 @@ module _ (P : ℕ → Type 0) where
   locals_known limit c [] k = tt
   locals_known limit c (structure s ∷ ds) k = locals_known limit (after_declaration c (structure s)) ds (known_back (struct_nodes s) (unit_nodes ds) k)
   locals_known limit c (forward f ∷ ds) k = locals_known limit (after_declaration c (forward f)) ds k.1
+  locals_known limit c (typedef t ∷ ds) k = locals_known limit (after_declaration c (typedef t)) ds (known_back (typedef_nodes t) (unit_nodes ds) k)
   locals_known limit c (function f ∷ ds) k =
       let here = known_front (function_nodes f) (unit_nodes ds) k in
       maybe_either (local_past limit c f f.body) (local_past_from limit (after_declaration c (function f)) ds)

@@ -1,19 +1,23 @@
 -- Each node of a unit stands at a token that the unit is read from.
-use Rattle.std.proofs.Common.{◌≡◌, ℕ, zero, suc, ◌+◌, ◌<◌, List, [], ◌∷◌, ◌++◌, length, Option, Some, slice_get, refl, ap, subst, sym, ◌∙◌, arith}
+use Rattle.std.proofs.Common.{◌≡◌, ℕ, zero, suc, ◌+◌, ◌<◌, Bool, true, false, if◌then◌else◌, List, [], ◌∷◌, ◌++◌, length, Option, Some, slice_get, refl, ap, subst, sym, ◌∙◌, arith}
+use Rattle.std.proofs.lemmas.List.{length-map}
 use Rattle.qs_syntax.specs.declared.nodes.Node.{Node}
 use Rattle.qs_syntax_vocabulary.specs.declared.terminal.Terminal.{Terminal}
 use Rattle.qs_syntax_vocabulary.specs.declared.tokens.Token.{Token}
 use Rattle.qs_syntax_vocabulary.specs.declared.tokens.TokenKind.{TokenKind}
 use Rattle.qs_syntax_vocabulary.specs.declared.tokens.TokenKind.TheVariants as kinds
 use Rattle.qs_syntax_vocabulary.specs.Operators.{number_of}
-use Rattle.qs_syntax.specs.Trees.{ExprTree, Exprs, LengthsTree, DeclaratorTree, InitialiserTree, Initialisers, VariableTree, DeclarationTree, ParameterTree, MembersTree, StartTree, StmtTree, Stmts, DeclTree}
-use Rattle.qs_syntax.specs.Nodes.{all_nodes, option_nodes, expr_nodes, exprs_nodes, lengths_nodes, declarator_nodes, initialiser_nodes, initialisers_nodes, variable_nodes, declaration_nodes, parameter_nodes, members_nodes, start_nodes, stmt_nodes, stmts_nodes, decl_nodes, unit_nodes, unit_count}
+use Rattle.qs_syntax.specs.Trees.{ExprTree, Exprs, LengthsTree, DeclaratorTree, InitialiserTree, Initialisers, VariableTree, DeclarationTree, ParameterTree, MembersTree, StartTree, StmtTree, Stmts, DefinedTree, DeclTree}
+use Rattle.qs_syntax.specs.Nodes.{all_nodes, option_nodes, expr_nodes, exprs_nodes, lengths_nodes, declarator_nodes, initialiser_nodes, initialisers_nodes, variable_nodes, declaration_nodes, parameter_nodes, members_nodes, start_nodes, stmt_nodes, stmts_nodes, defined_nodes, decl_nodes, unit_nodes, unit_count}
 use Rattle.qs_syntax.specs.Numbering.{relabel_nodes, numbered}
 use Rattle.qs_syntax.specs.Reads.{Form, Reads, ReadsArguments, place, a_name, an_empty_call, a_call, a_constant, a_text, in_parentheses, an_index, a_member, an_increment_after, a_decrement_after, a_postfix, an_increment, a_decrement, an_operator, a_size_of_type, a_size_of_value, a_cast, an_operand, stronger, an_operation, a_plain_level, a_choice, a_plain_conditional, an_assignment, a_plain_assignment, a_comma, a_last_argument, an_argument}
 use Rattle.qs_syntax.specs.ReadsDeclarations.{ReadsGiven, no_length, a_length, ReadsLengths, are_given, first_open, ReadsDeclarator, a_declarator, ReadsInitialiser, a_value, a_list, ReadsInitialisers, a_last_initialiser, a_last_with_comma, an_initialiser, ReadsVariable, an_unset_variable, a_set_variable, ReadsVariables, a_last_variable, a_variable, ReadsDeclaration, a_declaration, ReadsOuterDeclaration, an_outer_declaration, ReadsDeclarators, a_last_member, ReadsMembers, a_group, ReadsAllMembers, a_last_group, a_further_group, ReadsParameter, a_named_parameter, an_unnamed_parameter, ReadsParameters, a_last_parameter, a_parameter, ReadsHead, no_parameter, a_void_head, some_parameters}
 use Rattle.qs_syntax.specs.ReadsDeclarations as declarations
 use Rattle.qs_syntax.specs.ReadsStatements.{ReadsOptional, nothing_there, something_there, ReadsStart, a_start_declaration, a_start_expression, no_start_at_all, ReadsStatement, a_block, an_empty, an_expression, an_if, an_if_with_else, a_while, a_do, a_for, a_break, a_continue, a_return, ReadsItem, a_statement, a_declared, ReadsItems, no_item, an_item}
-use Rattle.qs_syntax.specs.ReadsUnits.{ReadsExternal, a_struct_with_members, a_forward, a_header, a_definition, some_variables, ReadsUnit, a_last_external, an_external}
+use Rattle.qs_syntax_vocabulary.specs.Marks.{NameSet, is_in, mark, marked}
+use Rattle.qs_syntax_vocabulary.specs.declared.terminal.Terminal.TheVariants as terminals
+use Rattle.qs_syntax.specs.ReadsTypes.{Names, a_plain_name, a_name_of_a_type}
+use Rattle.qs_syntax.specs.ReadsUnits.{ReadsPlain, a_struct_with_members, a_forward, a_header, a_definition, some_variables, ReadsDefined, a_struct_with_tag, a_struct_without_tag, a_known_type, ReadsTypeNames, a_last_name, a_name_before, ReadsExternal, a_plain_external, a_typedef, ReadsExternals, a_last_external, an_external}
 use Rattle.qs_syntax.proofs.NodeLaws.{unit_at, unit_length}
 use Rattle.qs_lexer.specs.Terminals.{terminals, terminal_of, terminal}
 use Rattle.qs_lexer.specs.Laws.{spelling}
@@ -42,6 +46,24 @@ each_at P [] i x h e = absurd cc
 each_at P (y ∷ ys) zero x h e = let same : y ≡ x = cc in subst P same h.0
 each_at P (y ∷ ys) (suc i) x h e = each_at P ys i x h.1 e
 
+-- ---- a name's token keeps its number, whatever names are types'
+
+same_number : (set : NameSet) (t : Terminal) → number_of (mark set t) ≡ number_of t
+same_number set (terminals.Name at x) = named (is_in set x)
+  where
+    named : (b : Bool) → number_of (if b then terminals.TypeName at x else terminals.Name at x) ≡ at
+    named true = refl
+    named false = refl
+same_number set (terminals.TypeName at x) = named (is_in set x)
+  where
+    named : (b : Bool) → number_of (if b then terminals.TypeName at x else terminals.Name at x) ≡ at
+    named true = refl
+    named false = refl
+same_number set (terminals.Keyword at k) = refl
+same_number set (terminals.Constant at n unsigned) = refl
+same_number set (terminals.Text at bytes) = refl
+same_number set (terminals.Punctuator at m) = refl
+
 -- ---- of numbers that hold of each token, the first of which may be missing, one holds where each node stands
 
 module _ (P : ℕ → Type 0) (start : P 0) where
@@ -60,6 +82,11 @@ module _ (P : ℕ → Type 0) (start : P 0) where
   two : (ns ms : List Node) → Stand ns → Stand ms → Stand (ns ++ ms)
   two ns ms h k = each_both (λ (n : Node). P n.token) ns ms h k
 
+  -- whatever names are types'
+  marked_in : (set : NameSet) (ts : List Terminal) → In ts → In (marked set ts)
+  marked_in set [] k = tt
+  marked_in set (t ∷ ts) k = (subst P (sym (same_number set t)) k.0, marked_in set ts k.1)
+
   first : (ts : List Terminal) → In ts → P (place ts)
   first [] h = start
   first (t ∷ ts) h = h.0
@@ -76,7 +103,7 @@ module _ (P : ℕ → Type 0) (start : P 0) where
     expr_stands (in_parentheses {ts = ts} o c r) i = expr_stands r (front ts _ i.1)
     expr_stands (an_index {xs = xs} {ys = ys} {a = a} {b = b} o c r s) i =
         (first xs (front xs _ i), two (expr_nodes a) (expr_nodes b) (expr_stands r (front xs _ i)) (expr_stands s (front ys _ (back xs _ i).1)))
-    expr_stands (a_member {xs = xs} access d n x r) i = (first xs (front xs _ i), expr_stands r (front xs _ i))
+    expr_stands (a_member {xs = xs} access d r x) i = (first xs (front xs _ i), expr_stands r (front xs _ i))
     expr_stands (an_increment_after {xs = xs} s r) i = (first xs (front xs _ i), expr_stands r (front xs _ i))
     expr_stands (a_decrement_after {xs = xs} s r) i = (first xs (front xs _ i), expr_stands r (front xs _ i))
     expr_stands (a_postfix r) i = expr_stands r i
@@ -117,8 +144,9 @@ module _ (P : ℕ → Type 0) (start : P 0) where
   lengths_stand (are_given r) i = given_stand r i
   lengths_stand (first_open o c r) i = given_stand r i.1.1
 
-  declarator_stands : {h : ℕ} {ts : List Terminal} {d : DeclaratorTree} → ReadsDeclarator h ts d → In ts → Stand (declarator_nodes d)
-  declarator_stands (a_declarator {xs = xs} at x s r) i = ((back xs _ i).0, lengths_stand r (back xs _ i).1)
+  declarator_stands : {names : Names} {h : ℕ} {ts : List Terminal} {d : DeclaratorTree} → ReadsDeclarator names h ts d → In ts → Stand (declarator_nodes d)
+  declarator_stands (a_declarator {xs = xs} s (a_plain_name at x) r) i = ((back xs _ i).0, lengths_stand r (back xs _ i).1)
+  declarator_stands (a_declarator {xs = xs} s (a_name_of_a_type at x) r) i = ((back xs _ i).0, lengths_stand r (back xs _ i).1)
 
   mutual
     initialiser_stands : {h : ℕ} {ts : List Terminal} {x : InitialiserTree} → ReadsInitialiser h ts x → In ts → Stand (initialiser_nodes x)
@@ -214,19 +242,34 @@ module _ (P : ℕ → Type 0) (start : P 0) where
 
   -- ---- units
 
-  external_stands : {h : ℕ} {ts : List Terminal} {d : DeclTree} → ReadsExternal h ts d → In ts → Stand (decl_nodes d)
-  external_stands (a_struct_with_members {ts = ts} at n o c s x r) k = (k.0, all_members_stand r (front ts _ k.1.1.1))
-  external_stands (a_forward at n s x) k = (k.0, tt)
-  external_stands (a_header {xs = xs} {ys = ys} {zs = zs} {ps = ps} n o c s x t m r) k =
+  plain_stands : {h : ℕ} {ts : List Terminal} {d : DeclTree} → ReadsPlain h ts d → In ts → Stand (decl_nodes d)
+  plain_stands (a_struct_with_members {ts = ts} at o c s x r) k = (k.0, all_members_stand r (front ts _ k.1.1.1))
+  plain_stands (a_forward at s x) k = (k.0, tt)
+  plain_stands (a_header {xs = xs} {ys = ys} {zs = zs} {ps = ps} n o c s x t m r) k =
       (first xs (front xs _ k), two (all_nodes parameter_nodes ps) [] (head_stands r (front zs _ (back ys _ (back xs _ k)).1.1)) tt)
-  external_stands (a_definition {xs = xs} {ys = ys} {zs = zs} {ws = ws} {ps = ps} {ss = ss} n o c b e x t m r q) k = (
+  plain_stands (a_definition {xs = xs} {ys = ys} {zs = zs} {ws = ws} {ps = ps} {ss = ss} n o c b e x t m r q) k = (
     first xs (front xs _ k),
     two (all_nodes parameter_nodes ps) (stmts_nodes ss) (head_stands r (front zs _ (back ys _ (back xs _ k)).1.1))
         (items_stand q (front ws _ (back zs _ (back ys _ (back xs _ k)).1.1).1.1)),
   )
-  external_stands (some_variables r) k = outer_stands r k
+  plain_stands (some_variables r) k = outer_stands r k
 
-  unit_stands : {h : ℕ} {ts : List Terminal} {ds : List DeclTree} → ReadsUnit h ts ds → In ts → Stand (unit_nodes ds)
+  defined_stands : {h : ℕ} {ts : List Terminal} {d : DefinedTree} → ReadsDefined h ts d → In ts → Stand (defined_nodes d)
+  defined_stands (a_struct_with_tag {ts = ts} at o c x r) k = (k.0, all_members_stand r (front ts _ k.1.1.1))
+  defined_stands (a_struct_without_tag {ts = ts} at o c r) k = (k.0, all_members_stand r (front ts _ k.1.1))
+  defined_stands (a_known_type r) k = tt
+
+  type_names_stand : {set : NameSet} {h : ℕ} {ts : List Terminal} {ds : List DeclaratorTree} → ReadsTypeNames set h ts ds → In ts → Stand (all_nodes declarator_nodes ds)
+  type_names_stand (a_last_name {set = set} {ts = ts} {d = d} r) k = two (declarator_nodes d) [] (declarator_stands r (marked_in set ts k)) tt
+  type_names_stand (a_name_before {set = set} {d = d} {ds = ds} xs at r s) k =
+      two (declarator_nodes d) (all_nodes declarator_nodes ds) (declarator_stands r (marked_in set xs (front xs _ k))) (type_names_stand s (back xs _ k).1)
+
+  external_stands : {set : NameSet} {h : ℕ} {ts : List Terminal} {d : DeclTree} → ReadsExternal set h ts d → In ts → Stand (decl_nodes d)
+  external_stands (a_plain_external {set = set} {ts = ts} r) k = plain_stands r (marked_in set ts k)
+  external_stands (a_typedef {set = set} {ys = ys} {defined = d} {ds = ds} xs at s r q) k =
+      two (defined_nodes d) (all_nodes declarator_nodes ds) (defined_stands r (marked_in set xs (front xs _ k.1))) (type_names_stand q (front ys _ (back xs _ k.1)))
+
+  unit_stands : {set : NameSet} {h : ℕ} {ts : List Terminal} {ds : List DeclTree} → ReadsExternals set h ts ds → In ts → Stand (unit_nodes ds)
   unit_stands (a_last_external {d = d} r) k = two (decl_nodes d) [] (external_stands r k) tt
   unit_stands (an_external {xs = xs} {d = d} {ds = ds} r s) k = two (decl_nodes d) (unit_nodes ds) (external_stands r (front xs _ k)) (unit_stands s (back xs _ k))
 
@@ -241,18 +284,22 @@ front_some : (xs ys : List Terminal) → 0 < length ys → 0 < length (xs ++ ys)
 front_some [] ys h = h
 front_some (x ∷ xs) ys h = omega arith
 
-external_some : {h : ℕ} {ts : List Terminal} {d : DeclTree} → ReadsExternal h ts d → 0 < length ts
-external_some (a_struct_with_members at n o c s x r) = omega arith
-external_some (a_forward at n s x) = omega arith
-external_some (a_header {xs = xs} {ys = ys} n o c s x t m r) = front_some xs _ (front_some ys _ (omega arith))
-external_some (a_definition {xs = xs} {ys = ys} n o c b e x t m r q) = front_some xs _ (front_some ys _ (omega arith))
-external_some (some_variables (an_outer_declaration {xs = xs} {ys = ys} s t r)) = front_some xs _ (front_some ys _ (omega arith))
+plain_some : {h : ℕ} {ts : List Terminal} {d : DeclTree} → ReadsPlain h ts d → 0 < length ts
+plain_some (a_struct_with_members at o c s x r) = omega arith
+plain_some (a_forward at s x) = omega arith
+plain_some (a_header {xs = xs} {ys = ys} n o c s x t m r) = front_some xs _ (front_some ys _ (omega arith))
+plain_some (a_definition {xs = xs} {ys = ys} n o c b e x t m r q) = front_some xs _ (front_some ys _ (omega arith))
+plain_some (some_variables (an_outer_declaration {xs = xs} {ys = ys} s t r)) = front_some xs _ (front_some ys _ (omega arith))
+
+external_some : {set : NameSet} {h : ℕ} {ts : List Terminal} {d : DeclTree} → ReadsExternal set h ts d → 0 < length ts
+external_some (a_plain_external {set = set} {ts = ts} r) = subst (λ n. 0 < n) (length-map ts (mark set)) (plain_some r)
+external_some (a_typedef xs at s defined names) = omega arith
 
 some_more : (xs ys : List Terminal) → 0 < length xs → 0 < length (xs ++ ys)
 some_more [] ys h = absurd (omega arith)
 some_more (x ∷ xs) ys h = omega arith
 
-unit_some : {h : ℕ} {ts : List Terminal} {ds : List DeclTree} → ReadsUnit h ts ds → 0 < length ts
+unit_some : {set : NameSet} {h : ℕ} {ts : List Terminal} {ds : List DeclTree} → ReadsExternals set h ts ds → 0 < length ts
 unit_some (a_last_external r) = external_some r
 unit_some (an_external {xs = xs} {ys = ys} r s) = some_more xs ys (external_some r)
 

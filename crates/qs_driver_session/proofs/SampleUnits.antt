@@ -12,7 +12,7 @@ use Rattle.qs_syntax.specs.Reads.{Postfix, Level, Assignment, Reads, a_name, a_c
 use Rattle.qs_syntax.specs.ReadsTypes.{no_prefix, an_int, no_const, a_type, an_outer_type, no_star}
 use Rattle.qs_syntax.specs.ReadsDeclarations.{ReadsHead, are_given, no_length, a_named_parameter, a_last_parameter, a_void_head, some_parameters}
 use Rattle.qs_syntax.specs.ReadsStatements.{something_there, an_expression, a_return, a_statement, no_item, an_item}
-use Rattle.qs_syntax.specs.ReadsUnits.{ReadsExternal, ReadsUnit, a_last_external, an_external, a_definition}
+use Rattle.qs_syntax.specs.ReadsUnits.{ReadsExternal, ReadsUnit, a_last_external, an_external, a_plain_external, a_definition}
 use Rattle.qs_syntax.specs.Trees.{unnumbered, ExprTree, expr, call, no_exprs, expr_and, FunctionTree, function, UnitTree}
 use Rattle.qs_lexer.proofs.RestOfText.{LexesAs, Lexed, lexed, nothing_left}
 use Rattle.qs_driver_session.specs.SampleSource.{calling, function_after, functions, main_function, sample_text}
@@ -86,10 +86,10 @@ first_tokens t =
 abbrev first_tree : (t : ℕ) → FunctionTree
 first_tree t = function_of (unnumbered t) (unnumbered (up 4 t)) (unnumbered (up 7 t)) 1 (next (unnumbered (up 8 t)) (unnumbered (up 8 t)) (unnumbered (up 10 t)))
 
-first_reads : (t : ℕ) → ReadsExternal (function_height next_height) (first_tokens t) (function (first_tree t))
+first_reads : (t : ℕ) → ReadsExternal [] (function_height next_height) (first_tokens t) (function (first_tree t))
 first_reads t =
-    a_definition (up 1 t) (up 2 t) (up 5 t) (up 6 t) (up 12 t) (function_name 1) (an_outer_type no_prefix (an_int t) no_const) no_star (a_head (up 3 t) (up 4 t))
-    (an_item (a_statement (a_return (up 7 t) (up 11 t) (something_there (a_plain_assignment (a_next (up 8 t) (up 9 t) (up 10 t)))))) no_item)
+    a_plain_external (a_definition (up 1 t) (up 2 t) (up 5 t) (up 6 t) (up 12 t) (function_name 1) (an_outer_type no_prefix (an_int t) no_const) no_star (a_head (up 3 t) (up 4 t))
+    (an_item (a_statement (a_return (up 7 t) (up 11 t) (something_there (a_plain_assignment (a_next (up 8 t) (up 9 t) (up 10 t)))))) no_item))
 
 first_lexes : (rest : List ℕ) (t : ℕ) {ls : List Terminal} → LexesAs true rest (up 13 t) ls
     → LexesAs true (codes "int " ++ (function_name 1 ++ (codes "(int x){return x+1;}" ++ 10 ∷ rest))) t (first_tokens t ++ ls)
@@ -125,11 +125,11 @@ called_tree j t = expr (unnumbered (up 8 t)) (call (function_name j) (expr_and (
 abbrev calling_tree : (k j t : ℕ) → FunctionTree
 calling_tree k j t = function_of (unnumbered t) (unnumbered (up 4 t)) (unnumbered (up 7 t)) k (called_tree j t)
 
-calling_reads : (k j t : ℕ) → ReadsExternal (function_height (suc next_height)) (calling_tokens k j t) (function (calling_tree k j t))
+calling_reads : (k j t : ℕ) → ReadsExternal [] (function_height (suc next_height)) (calling_tokens k j t) (function (calling_tree k j t))
 calling_reads k j t =
-    a_definition (up 1 t) (up 2 t) (up 5 t) (up 6 t) (up 15 t) (function_name k) (an_outer_type no_prefix (an_int t) no_const) no_star (a_head (up 3 t) (up 4 t))
+    a_plain_external (a_definition (up 1 t) (up 2 t) (up 5 t) (up 6 t) (up 15 t) (function_name k) (an_outer_type no_prefix (an_int t) no_const) no_star (a_head (up 3 t) (up 4 t))
     (an_item (a_statement (a_return (up 7 t) (up 14 t) (something_there (a_plain_assignment (as_assignment
-    (a_call (up 8 t) (up 9 t) (up 13 t) (function_name j) (a_last_argument (a_next (up 10 t) (up 11 t) (up 12 t))))))))) no_item)
+    (a_call (up 8 t) (up 9 t) (up 13 t) (function_name j) (a_last_argument (a_next (up 10 t) (up 11 t) (up 12 t))))))))) no_item))
 
 calling_lexes : (k j : ℕ) (rest : List ℕ) (t : ℕ) {ls : List Terminal} → k < 512 → j < 512 → LexesAs true rest (up 16 t) ls
     → LexesAs true (codes "int " ++ (function_name k ++ (codes "(int x){return " ++ (function_name j ++ (codes "(x+1);}" ++ 10 ∷ rest))))) t (calling_tokens k j t ++ ls)
@@ -191,11 +191,11 @@ a_digit n t =
     (as_level_1 (a_call (up 10 t) (up 11 t) (up 13 t) (function_name n) (a_last_argument (as_assignment (a_constant (up 12 t) 0 false)))))
     (as_level_0 (a_constant (up 15 t) 10 false)))
 
-main_reads : (n t : ℕ) → ReadsExternal main_height (main_tokens n t) (function (main_of (unnumbered t) (main_nodes t) n))
+main_reads : (n t : ℕ) → ReadsExternal [] main_height (main_tokens n t) (function (main_of (unnumbered t) (main_nodes t) n))
 main_reads n t =
-    a_definition (up 1 t) (up 2 t) (up 4 t) (up 5 t) (up 21 t) (codes "main") (an_outer_type no_prefix (an_int t) no_const) no_star (a_void_head (up 3 t))
+    a_plain_external (a_definition (up 1 t) (up 2 t) (up 4 t) (up 5 t) (up 21 t) (codes "main") (an_outer_type no_prefix (an_int t) no_const) no_star (a_void_head (up 3 t))
     (an_item (a_statement (an_expression (up 17 t) (a_plain_assignment (as_assignment (a_call (up 6 t) (up 7 t) (up 16 t) (codes "putchar") (a_last_argument (sum_as_assignment (a_digit n t))))))))
-    (an_item (a_statement (a_return (up 18 t) (up 20 t) (something_there (a_plain_assignment (as_assignment (a_constant (up 19 t) 0 false)))))) no_item))
+    (an_item (a_statement (a_return (up 18 t) (up 20 t) (something_there (a_plain_assignment (as_assignment (a_constant (up 19 t) 0 false)))))) no_item)))
 
 main_lexes : (n t : ℕ) → n < 512 → LexesAs true (codes "int main(void){putchar('0'+" ++ (function_name n ++ (codes "(0)%10);return 0;}" ++ 10 ∷ []))) t (main_tokens n t)
 main_lexes n t l =

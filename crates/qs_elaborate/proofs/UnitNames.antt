@@ -1,7 +1,7 @@
 -- The names by the nodes of variables are those of the unit.
 use Rattle.std.proofs.Common.{◌≡◌, ℕ, ◌+◌, ◌<◌, List, [], ◌∷◌, ◌++◌, Option, Some, None, length, drop, get_or, refl, sym, ap, ◌∙◌, arith, append_assoc}
 use Rattle.std.proofs.lemmas.List.{drop_more, drop-drop, get_or-drop, length-append}
-use Rattle.qs_syntax.specs.Trees.{Stmts, DeclTree, structure, forward, function, variables, UnitTree}
+use Rattle.qs_syntax.specs.Trees.{Stmts, DeclTree, structure, forward, function, variables, UnitTree, typedef}
 use Rattle.qs_types.specs.Contexts.{Context, start_context}
 use Rattle.qs_types.specs.UnitRules.{after_declaration}
 use Rattle.qs_elaborate_bodies.specs.Names.{FunctionNames, function_names, declaration_names, declarations_names, names_in}
@@ -13,6 +13,7 @@ takes_its_own : (c : Context) (d : DeclTree) (ds : UnitTree) (rest : List (List 
     → declarations_named (declaration_variables c d ++ rest) (d ∷ ds) ≡ declaration_names c d ++ declarations_named rest ds
 takes_its_own c (structure d) ds rest = refl
 takes_its_own c (forward d) ds rest = refl
+takes_its_own c (typedef d) ds rest = refl
 takes_its_own c (variables d) ds rest = refl
 takes_its_own c (function f) ds rest = by_body f.body
   where

@@ -1,6 +1,6 @@
 -- The names of a unit, where the nodes of its functions' variables are known.
 use Rattle.std.specs.Prelude.{ℕ, List, [], ◌∷◌, ◌++◌, Option, Some, None, length, drop, map, slice_index_or}
-use Rattle.qs_syntax.specs.Trees.{ParameterTree, Stmts, FunctionTree, DeclTree, structure, forward, function, variables, UnitTree}
+use Rattle.qs_syntax.specs.Trees.{ParameterTree, Stmts, FunctionTree, DeclTree, structure, forward, function, variables, UnitTree, typedef}
 use Rattle.qs_elaborate_bodies.specs.Names.{FunctionNames, parameter_name, function_declares, name_at}
 
 -- ---- names by these nodes
@@ -18,6 +18,7 @@ function_named nodes f (Some body) = names_with f body nodes ∷ []
 abbrev pub declaration_named : (nodes : List ℕ) → DeclTree → List FunctionNames
 declaration_named nodes (structure d) = []
 declaration_named nodes (forward d) = []
+declaration_named nodes (typedef d) = []
 declaration_named nodes (function f) = function_named nodes f f.body
 declaration_named nodes (variables d) = []
 

@@ -80,6 +80,7 @@ fn put_declaration(
     match d {
         Decl::Struct(_) => Ok(()),
         Decl::Forward(_) => Ok(()),
+        Decl::Typedef(_) => Ok(()),
         Decl::Function(f) => put_function(alloc, names, nodes, f),
         Decl::Variable(_) => Ok(()),
     }

@@ -1,7 +1,7 @@
 -- What core says of a function beside what its typed tree says: the names of its parameters and variables.
 use Rattle.std.specs.Prelude.{ℕ, ◌+◌, ◌==◌, List, [], ◌∷◌, ◌++◌, Option, Some, None, length, map, filter, if◌then◌else◌}
 use Rattle.qs_base.specs.Bytes.{same_bytes}
-use Rattle.qs_syntax.specs.Trees.{VariableTree, ParameterTree, StartTree, no_start, start_expression, start_declaration, StmtTree, empty, expression, declaration, block, branch, while_loop, do_loop, for_loop, break, continue, return, Stmts, no_stmts, stmt_and, Else, no_else, else_by, FunctionTree, DeclTree, structure, forward, function, variables, UnitTree}
+use Rattle.qs_syntax.specs.Trees.{VariableTree, ParameterTree, StartTree, no_start, start_expression, start_declaration, StmtTree, empty, expression, declaration, block, branch, while_loop, do_loop, for_loop, break, continue, return, Stmts, no_stmts, stmt_and, Else, no_else, else_by, FunctionTree, DeclTree, structure, forward, function, variables, UnitTree, typedef}
 use Rattle.qs_types.specs.Contexts.{Context, start_context}
 use Rattle.qs_types.specs.UnitRules.{after_declaration}
 use Rattle.qs_meaning.specs.Units.{function_locals}
@@ -91,6 +91,7 @@ function_names c f (Some body) = body_names c f body ∷ []
 abbrev pub declaration_names : Context → DeclTree → List FunctionNames
 declaration_names c (structure d) = []
 declaration_names c (forward d) = []
+declaration_names c (typedef d) = []
 declaration_names c (function f) = function_names c f f.body
 declaration_names c (variables d) = []
 

@@ -65,10 +65,10 @@ initialiser_unbroken c after base v own =
     let tests = variable_tests false c after base v in
     let parts = none_right (faults_of v.declarator.node.id tests) (lengths_faults c v.declarator.lengths.given ++ option_initialiser_faults false after type v.initialiser) own in
     let initialiser = none_right (lengths_faults c v.declarator.lengths.given) (option_initialiser_faults false after type v.initialiser) parts in
-    let whole_tests = ap (λ b. breaks_one (if b then [] else again_tests c v ++ ((variable_declared c base v).tests ++ initialiser_tests false after type v.initialiser)))
+    let whole_tests = ap (λ b. breaks_one (if b then [] else again_tests false c v ++ ((variable_declared c base v).tests ++ initialiser_tests false after type v.initialiser)))
     (sym (not_held_back false after type v.initialiser initialiser))
     ∙ unbroken v.declarator.node.id tests (none_left (faults_of v.declarator.node.id tests) _ own) in
-    let later_tests = second_unbroken (again_tests c v) ((variable_declared c base v).tests ++ initialiser_tests false after type v.initialiser) whole_tests in
+    let later_tests = second_unbroken (again_tests false c v) ((variable_declared c base v).tests ++ initialiser_tests false after type v.initialiser) whole_tests in
     second_unbroken (variable_declared c base v).tests (initialiser_tests false after type v.initialiser) later_tests
 
 pub initialiser_faultless : (c after : Context) (base : Base) (v : VariableTree) → variable_faults false c after base v ≡ []

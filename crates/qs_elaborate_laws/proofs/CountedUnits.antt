@@ -4,7 +4,7 @@ use Rattle.std.specs.Prelude.{sum_by}
 use Rattle.std.proofs.lemmas.List.{length-append}
 use Rattle.std.proofs.lemmas.List.Sums.{sum_by-cons, sum_by-append}
 use Rattle.std.proofs.lemmas.Option.{same_Some}
-use Rattle.qs_syntax.specs.Trees.{ParameterTree, FunctionTree, DeclTree, structure, forward, function, variables, UnitTree}
+use Rattle.qs_syntax.specs.Trees.{ParameterTree, FunctionTree, DeclTree, structure, forward, function, variables, UnitTree, typedef}
 use Rattle.qs_syntax.specs.Trees as trees
 use Rattle.qs_syntax.specs.Nodes.{all_count, option_count, parameter_count, stmts_count, decl_count, unit_count}
 use Rattle.qs_memory.proofs.Options.{followed}
@@ -80,6 +80,8 @@ declaration_counted (structure d) s now faults q =
     subst (λ (z : TypedProgram). FunctionsCounted (decl_count (structure d)) [] z.functions) (same_Some _ now q) (record { nodes = omega arith; number = refl })
 declaration_counted (forward d) s now faults q =
     subst (λ (z : TypedProgram). FunctionsCounted 1 [] z.functions) (same_Some _ now q) (record { nodes = omega arith; number = refl })
+declaration_counted (typedef d) s now faults q =
+    subst (λ (z : TypedProgram). FunctionsCounted (decl_count (typedef d)) [] z.functions) (same_Some _ now q) (record { nodes = omega arith; number = refl })
 declaration_counted (variables d) s now faults q =
     let bs = followed (file_variables_typed s d.base d.variables) _ now q in
     subst (λ (z : TypedProgram). FunctionsCounted (decl_count (variables d)) [] z.functions) (same_Some _ now bs.then) (record { nodes = omega arith; number = refl })
@@ -94,6 +96,7 @@ declaration_counted (function f) s now faults q =
 names_joined : (d : DeclTree) (ds : UnitTree) → length (functions_in (d ∷ ds)) ≡ length (functions_in (d ∷ [])) + length (functions_in ds)
 names_joined (structure d) ds = omega arith
 names_joined (forward d) ds = omega arith
+names_joined (typedef d) ds = omega arith
 names_joined (variables d) ds = omega arith
 names_joined (function f) ds =
     let a = length-append (name_with_body f.name f.body) (functions_in ds) in

@@ -13,7 +13,7 @@ use Rattle.qs_base.specs.Names.{is_name}
 use Rattle.qs_base.specs.Bytes.{same_bytes}
 use Rattle.qs_base.proofs.ByteLaws.{bytes_exact}
 use Rattle.qs_syntax.specs.declared.nodes.Node.{Node}
-use Rattle.qs_syntax.specs.Trees.{ParameterTree, Stmts, FunctionTree, DeclTree, structure, forward, function, variables, UnitTree}
+use Rattle.qs_syntax.specs.Trees.{ParameterTree, Stmts, FunctionTree, DeclTree, structure, forward, function, variables, UnitTree, typedef}
 use Rattle.qs_syntax.specs.Nodes.{function_nodes, decl_nodes, unit_nodes}
 use Rattle.qs_memory.specs.Partial.{◌>>=◌}
 use Rattle.qs_memory.proofs.Options.{followed}
@@ -187,6 +187,7 @@ body_gives s h f faultless names nodes (Some body) is fs k =
 abbrev names_with_body : DeclTree → List (List ℕ)
 names_with_body (structure d) = []
 names_with_body (forward d) = []
+names_with_body (typedef d) = []
 names_with_body (function f) = name_with_body f.name f.body
 names_with_body (variables d) = []
 
@@ -194,6 +195,7 @@ declaration_gives : (s : Scope) → IsFileScope s.context → (d : DeclTree) →
     → (now : TypedProgram) → declaration_typed s d ≡ Some now → GivesFunctions (declaration_names s.context d) (names_with_body d) now.functions
 declaration_gives s h (structure d) faultless names nodes now k = none_given now.functions (ap (λ (p : TypedProgram). p.functions) (same_Some _ now k))
 declaration_gives s h (forward d) faultless names nodes now k = none_given now.functions (ap (λ (p : TypedProgram). p.functions) (same_Some _ now k))
+declaration_gives s h (typedef d) faultless names nodes now k = none_given now.functions (ap (λ (p : TypedProgram). p.functions) (same_Some _ now k))
 declaration_gives s h (function f) faultless names nodes now k =
     let fs = followed (function_typed s f f.body) _ now k in
     subst (λ (p : TypedProgram). GivesFunctions (function_names s.context f f.body) (name_with_body f.name f.body) p.functions) (same_Some _ now fs.then)
@@ -204,6 +206,7 @@ declaration_gives s h (variables d) faultless names nodes now k =
 functions_of : (d : DeclTree) (ds : UnitTree) → names_with_body d ++ functions_in ds ≡ functions_in (d ∷ ds)
 functions_of (structure d) ds = refl
 functions_of (forward d) ds = refl
+functions_of (typedef d) ds = refl
 functions_of (function f) ds = refl
 functions_of (variables d) ds = refl
 

@@ -6,7 +6,7 @@ use Rattle.std.proofs.lemmas.Option.{same_Some}
 use Rattle.qs_base.specs.Bytes.{same_bytes}
 use Rattle.qs_base.proofs.ByteLaws.{bytes_exact}
 use Rattle.qs_syntax.specs.declared.types.Base.{Base}
-use Rattle.qs_syntax.specs.Trees.{VariableTree, ParameterTree, Stmts, DeclTree, structure, forward, function, variables, UnitTree}
+use Rattle.qs_syntax.specs.Trees.{VariableTree, ParameterTree, Stmts, DeclTree, structure, forward, function, variables, UnitTree, typedef, DeclaratorTree, StructTree, DefinedTree, of_struct, of_base}
 use Rattle.qs_memory.specs.Scalars.{is_type, is_promoted}
 use Rattle.qs_memory.specs.declared.scalar.Scalar.{Scalar}
 use Rattle.qs_memory.specs.declared.scalar.Scalar.TheVariants as scalars
@@ -17,16 +17,18 @@ use Rattle.qs_types.specs.GivenFunctions.{Signature, main_name}
 use Rattle.qs_types.specs.Contexts.{Entity, local_variable, file_variable, given, Binding, Context, lookup, start_context}
 use Rattle.qs_types.specs.Contexts as contexts
 use Rattle.qs_types.specs.StatementRules.{after_variable, after_variables}
-use Rattle.qs_types.specs.UnitRules.{is_name_in, parameter_types, after_parameter, may_be, is_main_parameter, declared_function, signature_by, header_of, after_function, with_tag, no_members, after_members, define_at, after_struct, after_declaration, context_after}
+use Rattle.qs_types.specs.UnitRules.{is_name_in, parameter_types, after_parameter, may_be, is_main_parameter, declared_function, signature_by, header_of, after_function, with_tag, no_members, after_members, define_at, after_struct, after_declaration, context_after, with_new_tag, with_option_tag, option_place, with_base_tag, after_defined, defined_type, after_type_name, after_type_names, after_typedef}
 use Rattle.qs_types.specs.WellTyped.{entity_has_body, end_context, has_main}
 use Rattle.qs_types.specs.Placed.{Local, parameters_locals}
-use Rattle.qs_types.specs.Declarations.{variable_declared, parameter_declared}
+use Rattle.qs_types.specs.Declarations.{variable_declared, parameter_declared, type_name_declared}
 use Rattle.qs_meaning.specs.Typed.{Function}
 use Rattle.qs_meaning.specs.Conversions.{scalar_of}
 use Rattle.qs_meaning.specs.Interfaces.{types_of}
 use Rattle.qs_meaning.specs.Runs.{main_from}
 use Rattle.qs_meaning.specs.Units.{scalars_of, result_scalar, name_with_body, functions_in}
 use Rattle.qs_elaborate_laws.proofs.FitRules.{has_body_here, tag_inner, struct_inner}
+use Rattle.qs_syntax.specs.declared.types.Base.TheVariants as bases
+use Rattle.qs_meaning.proofs.FitSignatures.{typedef_inner}
 
 -- ---- types (5.1.2.2.1)
 
@@ -67,7 +69,27 @@ parameters_promoted (p ∷ ps) c rest (q ∷ qs) ss long h k =
 tag_outer : (c : Context) (tag : List ℕ) → (with_tag c tag).outer ≡ c.outer
 tag_outer c tag = by_test (is_some (contexts.tag_place c tag))
   where
-    by_test : (b : Bool) → (if b then c else record c { structs = c.structs ++ None ∷ []; tags = c.tags ++ tag ∷ [] }).outer ≡ c.outer
+    by_test : (b : Bool) → (if b then c else with_new_tag c tag).outer ≡ c.outer
+    by_test true = refl
+    by_test false = refl
+
+option_outer : (c : Context) (tag : Option (List ℕ)) → (with_option_tag c tag).outer ≡ c.outer
+option_outer c None = refl
+option_outer c (Some tag) = tag_outer c tag
+
+base_outer : (c : Context) (b : Base) → (with_base_tag c b).outer ≡ c.outer
+base_outer c bases.Void = refl
+base_outer c bases.Int = refl
+base_outer c bases.Unsigned = refl
+base_outer c bases.Char = refl
+base_outer c (bases.Struct tag) = tag_outer c tag
+base_outer c (bases.Named x) = refl
+
+type_names_outer : (c : Context) (base : Option TypeTree) (ds : List DeclaratorTree) → (after_type_names c base ds).outer ≡ c.outer
+type_names_outer c base [] = refl
+type_names_outer c base (d ∷ ds) = type_names_outer (after_type_name c base d) base ds ∙ by_test (contexts.is_type_name c d.name)
+  where
+    by_test : (b : Bool) → (if b then c else record c { type_names = contexts.add_type c.type_names d.name (type_name_declared c base d).type }).outer ≡ c.outer
     by_test true = refl
     by_test false = refl
 
@@ -83,10 +105,18 @@ variables_outer : (vs : List VariableTree) (c : Context) (base : Base) → (afte
 variables_outer [] c base = refl
 variables_outer (v ∷ vs) c base = variables_outer vs (after_variable true c base v) base
 
+struct_outer : (c : Context) (s : StructTree) → (after_struct c s).outer ≡ c.outer
+struct_outer c s =
+    defined_outer (with_option_tag c s.name) (after_members (with_option_tag c s.name) no_members s.members).members (option_place c s.name) ∙ option_outer c s.name
+
+names_outer : (c : Context) (d : DefinedTree) → (after_defined c d).outer ≡ c.outer
+names_outer c (of_struct s) = struct_outer c s
+names_outer c (of_base b) = base_outer c b
+
 declaration_outer : (d : DeclTree) (c : Context) → (after_declaration c d).outer ≡ c.outer
-declaration_outer (structure s) c =
-    defined_outer (with_tag c s.name) (after_members (with_tag c s.name) no_members s.members).members (contexts.tag_place (with_tag c s.name) s.name) ∙ tag_outer c s.name
+declaration_outer (structure s) c = struct_outer c s
 declaration_outer (forward g) c = tag_outer c g.name
+declaration_outer (typedef t) c = type_names_outer (after_defined c t.defined) (defined_type c t.defined) t.names ∙ names_outer c t.defined
 declaration_outer (function g) c = refl
 declaration_outer (variables d) c = variables_outer d.variables c d.base
 
@@ -136,6 +166,11 @@ body_given (forward g ∷ ds) c x h = by_rest (body_given ds (with_tag c g.name)
   where
     by_rest : (has_body_here (with_tag c g.name) x ≡ true) ⊎ (is_name_in x (functions_in ds) ≡ true) → (has_body_here c x ≡ true) ⊎ (is_name_in x (functions_in ds) ≡ true)
     by_rest (inl k) = inl (ap (λ (bs : List Binding). entity_has_body (lookup x bs)) (sym (tag_inner c g.name)) ∙ k)
+    by_rest (inr k) = inr k
+body_given (typedef g ∷ ds) c x h = by_rest (body_given ds (after_typedef c g) x h)
+  where
+    by_rest : (has_body_here (after_typedef c g) x ≡ true) ⊎ (is_name_in x (functions_in ds) ≡ true) → (has_body_here c x ≡ true) ⊎ (is_name_in x (functions_in ds) ≡ true)
+    by_rest (inl k) = inl (ap (λ (bs : List Binding). entity_has_body (lookup x bs)) (sym (typedef_inner c g)) ∙ k)
     by_rest (inr k) = inr k
 body_given (variables d ∷ ds) c x h = by_rest (body_given ds (after_variables true c d.base d.variables) x h)
   where

@@ -11,8 +11,11 @@ use Rattle.qs_syntax.specs.Nodes.{variable_count, parameter_count, decl_count}
 use Rattle.qs_syntax.specs.Numbering.{Relabelling, numbered, relabel_all, relabel_variable, relabel_parameter, relabel_start, relabel_stmt, relabel_stmts, relabel_decl, relabel_declaration}
 use Rattle.qs_syntax.specs.ReadsDeclarations.{a_declarator, ReadsVariable, an_unset_variable, a_set_variable, ReadsVariables, a_last_variable, a_variable, ReadsDeclaration, a_declaration, ReadsParameter, a_named_parameter, an_unnamed_parameter, ReadsParameters, a_last_parameter, a_parameter, ReadsHead, no_parameter, a_void_head, some_parameters}
 use Rattle.qs_syntax.specs.ReadsStatements.{ReadsStart, a_start_declaration, a_start_expression, no_start_at_all, ReadsStatement, a_block, an_empty, an_expression, an_if, an_if_with_else, a_while, a_do, a_for, a_break, a_continue, a_return, ReadsItem, a_statement, a_declared, ReadsItems, no_item, an_item}
-use Rattle.qs_syntax.specs.ReadsUnits.{ReadsExternal, a_struct_with_members, a_forward, a_header, a_definition, some_variables, ReadsUnit, a_last_external, an_external}
+use Rattle.qs_syntax.specs.ReadsTypes.{a_plain_name}
+use Rattle.qs_syntax.specs.ReadsUnits.{ReadsPlain, a_struct_with_members, a_forward, a_header, a_definition, some_variables, ReadsExternal, a_plain_external, a_typedef, ReadsExternals, a_last_external, an_external}
+use Rattle.qs_syntax_vocabulary.specs.Marks.{NameSet}
 use Rattle.qs_syntax_vocabulary.specs.WellFormed.{is_well_formed}
+use Rattle.qs_meaning.proofs.FitReadings.{marked_in}
 use Rattle.qs_elaborate_bodies.specs.Names.{Declared, declared_variable, start_declares, statement_declares, statements_declare}
 use Rattle.qs_elaborate_laws.specs.FitLaws.{has_name, parameter_has_name, declaration_has_names, has_names, ReadUnitsHaveNames}
 
@@ -37,8 +40,8 @@ name_of {x = x} h = (and_parts (is_name x) _ h.formed).0
 
 module _ (f : Relabelling) where
   variable_named : (h : ℕ) (ts : List Terminal) (v : VariableTree) → ReadsVariable h ts v → AreTokens ts → (n : ℕ) → has_name (declared_variable (relabel_variable f n v)) ≡ true
-  variable_named h ts v (an_unset_variable (a_declarator {xs = xs} {ys = ys} at x stars lengths)) k n = name_of (behind xs (Name at x ∷ ys) k)
-  variable_named h ts v (a_set_variable {ys = zs} sign (a_declarator {xs = xs} {ys = ys} at x stars lengths) i) k n =
+  variable_named h ts v (an_unset_variable (a_declarator {xs = xs} {ys = ys} stars (a_plain_name at x) lengths)) k n = name_of (behind xs (Name at x ∷ ys) k)
+  variable_named h ts v (a_set_variable {ys = zs} sign (a_declarator {xs = xs} {ys = ys} stars (a_plain_name at x) lengths) i) k n =
       name_of (behind xs (Name at x ∷ ys) (front (xs ++ Name at x ∷ ys) _ k))
 
   variables_named : {h : ℕ} {ts : List Terminal} {vs : List VariableTree} → ReadsVariables h ts vs → AreTokens ts → (n : ℕ) → list_all has_name (map declared_variable (relabel_all f variable_count (relabel_variable f) n vs)) ≡ true
@@ -99,18 +102,22 @@ module _ (f : Relabelling) where
 
   -- ---- units
 
-  external_named : {h : ℕ} {ts : List Terminal} {d : DeclTree} → ReadsExternal h ts d → AreTokens ts → (n : ℕ) → declaration_has_names (relabel_decl f n d) ≡ true
-  external_named (a_struct_with_members at n o c s x ms) k m = refl
-  external_named (a_forward at n s x) k m = refl
-  external_named (a_header n o c s x type stars head) k m = refl
-  external_named (a_definition {xs = xs} {ys = ys} {zs = zs} {ws = ws} n o c b e x type stars head items) k m =
+  plain_named : {h : ℕ} {ts : List Terminal} {d : DeclTree} → ReadsPlain h ts d → AreTokens ts → (n : ℕ) → declaration_has_names (relabel_decl f n d) ≡ true
+  plain_named (a_struct_with_members at o c s x ms) k m = refl
+  plain_named (a_forward at s x) k m = refl
+  plain_named (a_header n o c s x type stars head) k m = refl
+  plain_named (a_definition {xs = xs} {ys = ys} {zs = zs} {ws = ws} n o c b e x type stars head items) k m =
       let named = behind ys _ (behind xs _ k) in
       let rest = next (next named) in
       let body = next (next (behind zs _ rest)) in
       and_from _ _ (and_from _ _ (name_of named) (head_named head (front zs _ rest) _)) (items_named items (front ws _ body) _)
-  external_named (some_variables r) k m = refl
+  plain_named (some_variables r) k m = refl
 
-  unit_named : {h : ℕ} {ts : List Terminal} {ds : UnitTree} → ReadsUnit h ts ds → AreTokens ts → (n : ℕ) → list_all declaration_has_names (relabel_all f decl_count (relabel_decl f) n ds) ≡ true
+  external_named : {set : NameSet} {h : ℕ} {ts : List Terminal} {d : DeclTree} → ReadsExternal set h ts d → AreTokens ts → (n : ℕ) → declaration_has_names (relabel_decl f n d) ≡ true
+  external_named (a_plain_external {set = set} {ts = ts} r) k m = plain_named r (record { formed = marked_in set ts k.formed }) m
+  external_named (a_typedef xs at s defined names) k m = refl
+
+  unit_named : {set : NameSet} {h : ℕ} {ts : List Terminal} {ds : UnitTree} → ReadsExternals set h ts ds → AreTokens ts → (n : ℕ) → list_all declaration_has_names (relabel_all f decl_count (relabel_decl f) n ds) ≡ true
   unit_named (a_last_external r) k n = and_from _ _ (external_named r k n) refl
   unit_named (an_external {xs = xs} {ys = ys} r rs) k n = and_from _ _ (external_named r (front xs ys k) n) (unit_named rs (behind xs ys k) _)
 

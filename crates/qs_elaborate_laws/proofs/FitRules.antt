@@ -7,7 +7,7 @@ use Rattle.std.proofs.lemmas.Bool.{and_parts, and_from, not_from_false, not-true
 use Rattle.qs_base.specs.Bytes.{same_bytes}
 use Rattle.qs_base.proofs.ByteLaws.{bytes_exact}
 use Rattle.qs_syntax.specs.declared.types.Base.{Base}
-use Rattle.qs_syntax.specs.Trees.{VariableTree, ParameterTree, Stmts, StructTree, FunctionTree, DeclTree, structure, forward, function, variables, UnitTree}
+use Rattle.qs_syntax.specs.Trees.{VariableTree, ParameterTree, Stmts, StructTree, FunctionTree, DeclTree, structure, forward, function, variables, UnitTree, typedef}
 use Rattle.qs_core.specs.Fits.{differ}
 use Rattle.qs_types.specs.Types.{TypeTree, is_scalar, MemberTree, Structs}
 use Rattle.qs_types.specs.declared.rules.Rule.{Rule}
@@ -19,7 +19,7 @@ use Rattle.qs_types.specs.GivenFunctions.{Signature}
 use Rattle.qs_types.specs.Declarations.{all_typed, lengths_faults, variable_declared, parameter_declared}
 use Rattle.qs_types.specs.InitialiserRules.{initialiser_tests}
 use Rattle.qs_types.specs.StatementRules.{after_variable, after_variables, again_tests, variable_tests, option_initialiser_faults, variable_faults, variables_faults}
-use Rattle.qs_types.specs.UnitRules.{after_parameter, with_parameter, header_of, Header, agree, agrees_with, may_declare, result_tests, main_tests, header_tests, declared_function, signature_by, after_function, is_name_declared, signature_tests, parameter_tests, parameters_faults, function_faults, with_tag, no_members, after_members, define_at, after_struct, after_declaration, declaration_faults, declarations_faults}
+use Rattle.qs_types.specs.UnitRules.{after_parameter, with_parameter, header_of, Header, agree, agrees_with, may_declare, result_tests, main_tests, header_tests, declared_function, signature_by, after_function, is_name_declared, signature_tests, parameter_tests, parameters_faults, function_faults, with_tag, no_members, after_members, define_at, after_struct, after_declaration, declaration_faults, declarations_faults, with_new_tag, with_option_tag, option_place}
 use Rattle.qs_types.specs.WellTyped.{entity_has_body}
 use Rattle.qs_meaning.specs.Names.{Scope, within}
 use Rattle.qs_meaning.specs.Units.{name_with_body, functions_in}
@@ -32,6 +32,7 @@ use Rattle.qs_meaning.proofs.FunctionsTyped.{file_sound}
 use Rattle.qs_meaning.proofs.FileVariables.{file_variables_known}
 use Rattle.qs_meaning.proofs.UnitsTyped.{declaration_known}
 use Rattle.qs_elaborate_bodies.specs.Names.{parameter_name}
+use Rattle.qs_meaning.proofs.FitSignatures.{typedef_inner}
 
 -- ---- tests
 
@@ -116,9 +117,13 @@ has_body_here c x = entity_has_body (lookup x c.inner)
 pub tag_inner : (c : Context) (tag : List ℕ) → (with_tag c tag).inner ≡ c.inner
 tag_inner c tag = by_test (is_some (contexts.tag_place c tag))
   where
-    by_test : (b : Bool) → (if b then c else record c { structs = c.structs ++ None ∷ []; tags = c.tags ++ tag ∷ [] }).inner ≡ c.inner
+    by_test : (b : Bool) → (if b then c else with_new_tag c tag).inner ≡ c.inner
     by_test true = refl
     by_test false = refl
+
+option_inner : (c : Context) (tag : Option (List ℕ)) → (with_option_tag c tag).inner ≡ c.inner
+option_inner c None = refl
+option_inner c (Some tag) = tag_inner c tag
 
 defined_inner : (c : Context) (ms : List MemberTree) (o : Option ℕ) → (define_at c ms o).inner ≡ c.inner
 defined_inner c ms None = refl
@@ -130,7 +135,7 @@ defined_inner c ms (Some k) = by_test _ _
 
 pub struct_inner : (c : Context) (s : StructTree) → (after_struct c s).inner ≡ c.inner
 struct_inner c s =
-    defined_inner (with_tag c s.name) (after_members (with_tag c s.name) no_members s.members).members (contexts.tag_place (with_tag c s.name) s.name) ∙ tag_inner c s.name
+    defined_inner (with_option_tag c s.name) (after_members (with_option_tag c s.name) no_members s.members).members (option_place c s.name) ∙ option_inner c s.name
 
 -- a declaration of another name
 past_name : (b : Bool) (e : Entity) (o : Option Entity) → b ≡ false → (if b then Some e else o) ≡ o
@@ -173,11 +178,11 @@ body_is_known (Some (contexts.function n r earlier)) h node s k = either earlier
     either false = refl
 body_is_known (Some (given r)) h node s k = let never = (and_parts (agree (Some r) h) false k).1 in cc
 
-may_be_declared : (c : Context) (f : FunctionTree) → function_faults c f ≡ [] → may_declare c f ≡ true
+may_be_declared : (c : Context) (f : FunctionTree) → function_faults c f ≡ [] → agrees_with (lookup f.name c.inner) (header_of c f) (is_some f.body) ≡ true
 may_be_declared c f h =
-    kept_test rules.DeclaredTwice (may_declare c f)
+    (and_parts (not (contexts.is_type_name c f.name)) _ (kept_test rules.DeclaredTwice (may_declare c f)
     (first_unbroken (keeps rules.DeclaredTwice (may_declare c f)) (result_tests c f ++ main_tests f (header_of c f))
-    (unbroken f.node.id (header_tests c f) (none_left (faults_of f.node.id (header_tests c f)) _ h)))
+    (unbroken f.node.id (header_tests c f) (none_left (faults_of f.node.id (header_tests c f)) _ h))))).1
 
 pub main_type_kept : (c : Context) (f : FunctionTree) → function_faults c f ≡ [] → breaks_one (main_tests f (header_of c f)) ≡ false
 main_type_kept c f h =
@@ -197,12 +202,17 @@ module _ (s₀ : Scope) where
       (option_initialiser_faults true after (variable_declared c base v).type v.initialiser) parts in
       let typed_lengths = lengths_typed c (has_types (within s₀ c) [] (file_sound s₀ c [] h)) v.declarator.lengths.given (none_left _ _ parts) in
       let others = (variable_declared c base v).tests ++ initialiser_tests true after (variable_declared c base v).type v.initialiser in
-      let whole_tests = ap (λ b. breaks_one (if b then [] else again_tests c v ++ others))
+      let whole_tests = ap (λ b. breaks_one (if b then [] else again_tests true c v ++ others))
       (sym (not_held_back true after (variable_declared c base v).type v.initialiser initialiser))
       ∙ unbroken v.declarator.node.id tests (none_left (faults_of v.declarator.node.id tests) _ own) in
-      unbroken_test rules.DeclaredTwice (is_declared_here c v.declarator.name)
-      (tests_in (all_typed c v.declarator.lengths.given) (test rules.DeclaredTwice (is_declared_here c v.declarator.name)) typed_lengths
-      (first_unbroken (again_tests c v) others whole_tests))
+      neither (contexts.is_type_name c v.declarator.name) (is_declared_here c v.declarator.name)
+      (unbroken_test rules.DeclaredTwice (contexts.is_taken true c v.declarator.name)
+      (tests_in (all_typed c v.declarator.lengths.given) (test rules.DeclaredTwice (contexts.is_taken true c v.declarator.name)) typed_lengths
+      (first_unbroken (again_tests true c v) others whole_tests)))
+    where
+      neither : (a b : Bool) → (a || b) ≡ false → b ≡ false
+      neither true b e = cc
+      neither false b e = e
 
   -- a name that is declared is none of a variable that isn't
   other_name : (c : Context) (x y : List ℕ) → entity_has_body (lookup x c.inner) ≡ true → is_declared_here c y ≡ false → same_bytes y x ≡ false
@@ -238,6 +248,7 @@ module _ (s₀ : Scope) where
   pub body_kept : (d : DeclTree) (c : Context) → IsFileScope c → declaration_faults c d ≡ [] → (x : List ℕ) → has_body_here c x ≡ true → has_body_here (after_declaration c d) x ≡ true
   body_kept (structure s) c h f x k = ap (λ (bs : List Binding). entity_has_body (lookup x bs)) (struct_inner c s) ∙ k
   body_kept (forward g) c h f x k = ap (λ (bs : List Binding). entity_has_body (lookup x bs)) (tag_inner c g.name) ∙ k
+  body_kept (typedef g) c h f x k = ap (λ (bs : List Binding). entity_has_body (lookup x bs)) (typedef_inner c g) ∙ k
   body_kept (function g) c h f x k = function_keeps g c x k
   body_kept (variables d) c h f x k = variables_keep d.variables c d.base h f x k
 
@@ -253,7 +264,7 @@ module _ (s₀ : Scope) where
       by_test true false g k = g refl
 
   -- the function's own name is known behind it
-  own_known : (g : FunctionTree) (c : Context) → may_declare c g ≡ true → is_some g.body ≡ true → has_body_here (after_function c g) g.name ≡ true
+  own_known : (g : FunctionTree) (c : Context) → agrees_with (lookup g.name c.inner) (header_of c g) (is_some g.body) ≡ true → is_some g.body ≡ true → has_body_here (after_function c g) g.name ≡ true
   own_known g c may body =
       ap (λ b. entity_has_body (if b then Some (declared_function (lookup g.name c.inner) g.node.id (signature_by (header_of c g)) (is_some g.body)) else lookup g.name c.inner)) ((bytes_exact g.name g.name).1 refl)
       ∙ ap (λ b. entity_has_body (Some (declared_function (lookup g.name c.inner) g.node.id (signature_by (header_of c g)) b))) body
@@ -284,6 +295,7 @@ module _ (s₀ : Scope) where
           → (list_all (λ x. not (has_body_here c x)) (functions_in (d ∷ ds)) ≡ true) × (differ bytes_eq (functions_in (d ∷ ds)) ≡ true)
       by_declaration (structure s) still own rest = (still (functions_in ds) rest.0, rest.1)
       by_declaration (forward g) still own rest = (still (functions_in ds) rest.0, rest.1)
+      by_declaration (typedef g) still own rest = (still (functions_in ds) rest.0, rest.1)
       by_declaration (variables vs) still own rest = (still (functions_in ds) rest.0, rest.1)
       by_declaration (function g) still own rest = by_body g.body refl
         where

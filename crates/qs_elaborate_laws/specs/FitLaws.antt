@@ -2,7 +2,7 @@
 use Rattle.std.specs.Prelude.{◌≡◌, ℕ, ◌==◌, ◌&&◌, Bool, true, false, List, [], ◌∷◌, map, Option, Some, None, bytes_eq}
 use Rattle.std.specs.List.{slice_get, list_all}
 use Rattle.qs_base.specs.Names.{is_name}
-use Rattle.qs_syntax.specs.Trees.{ParameterTree, Stmts, FunctionTree, DeclTree, structure, forward, function, variables, UnitTree}
+use Rattle.qs_syntax.specs.Trees.{ParameterTree, Stmts, FunctionTree, DeclTree, structure, forward, function, variables, UnitTree, typedef}
 use Rattle.qs_syntax.specs.Units.{Reading, IsRead}
 use Rattle.qs_memory.specs.Values.{Value}
 use Rattle.qs_memory.specs.Soundness.{IsSound}
@@ -73,6 +73,7 @@ body_has_names f (Some body) = is_name f.name && list_all parameter_has_name f.p
 abbrev pub declaration_has_names : DeclTree → Bool
 declaration_has_names (structure d) = true
 declaration_has_names (forward d) = true
+declaration_has_names (typedef d) = true
 declaration_has_names (function f) = body_has_names f f.body
 declaration_has_names (variables d) = true
 

@@ -7,7 +7,7 @@ use Rattle.std.proofs.lemmas.List.Folds.{list_any-append}
 use Rattle.std.proofs.lemmas.Bool.{and_parts, or_right}
 use Rattle.qs_base.specs.Bytes.{same_bytes}
 use Rattle.qs_base.proofs.ByteLaws.{bytes_exact}
-use Rattle.qs_syntax.specs.Trees.{Stmts, structure, forward, function, variables, UnitTree}
+use Rattle.qs_syntax.specs.Trees.{Stmts, structure, forward, function, variables, UnitTree, typedef}
 use Rattle.qs_types.specs.Contexts.{start_context}
 use Rattle.qs_types.specs.UnitRules.{is_name_in, with_name_once}
 use Rattle.qs_types.specs.Limits.{names_from, function_count}
@@ -95,6 +95,7 @@ stays : (x : List ℕ) (names : List (List ℕ)) (ds : UnitTree) → is_name_in 
 stays x names [] h = h
 stays x names (structure s ∷ ds) h = stays x names ds h
 stays x names (forward f ∷ ds) h = stays x names ds h
+stays x names (typedef f ∷ ds) h = stays x names ds h
 stays x names (function f ∷ ds) h = stays x (with_name_once names f.name) ds (name_kept x f.name names h)
 stays x names (variables d ∷ ds) h = stays x names ds h
 
@@ -102,6 +103,7 @@ bodies_named : (names : List (List ℕ)) (ds : UnitTree) → list_all (λ y. is_
 bodies_named names [] = refl
 bodies_named names (structure s ∷ ds) = bodies_named names ds
 bodies_named names (forward f ∷ ds) = bodies_named names ds
+bodies_named names (typedef f ∷ ds) = bodies_named names ds
 bodies_named names (variables d ∷ ds) = bodies_named names ds
 bodies_named names (function f ∷ ds) = by f.body (bodies_named (with_name_once names f.name) ds)
   where

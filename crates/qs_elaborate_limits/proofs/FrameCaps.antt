@@ -4,7 +4,7 @@ use Rattle.std.specs.List.{list_all}
 use Rattle.std.proofs.lemmas.List.{map-append}
 use Rattle.std.specs.Cmp.{first_so, second_so}
 use Rattle.std.proofs.lemmas.Option.{same_Some}
-use Rattle.qs_syntax.specs.Trees.{Stmts, FunctionTree, DeclTree, structure, forward, function, variables, UnitTree}
+use Rattle.qs_syntax.specs.Trees.{Stmts, FunctionTree, DeclTree, structure, forward, function, variables, UnitTree, typedef}
 use Rattle.qs_memory.specs.declared.scalar.Scalar.{Scalar}
 use Rattle.qs_memory.proofs.Options.{followed}
 use Rattle.qs_types.specs.Contexts.{Context, start_context, inner_scope}
@@ -21,10 +21,10 @@ use Rattle.qs_meaning.specs.FitLaws.{body_filled, declaration_filled}
 use Rattle.qs_meaning.specs.TypedLaws.{IsFileScope}
 use Rattle.qs_meaning.proofs.FaultlessExpressions.{none_left, none_right}
 use Rattle.qs_meaning.proofs.UnitsTyped.{start_known}
-use Rattle.qs_meaning.proofs.FitTypes.{SmallTable}
+use Rattle.qs_meaning.proofs.FitTypes.{SmallTable, SmallNames}
 use Rattle.qs_meaning.proofs.FitReadings.{read_is_as_read}
 use Rattle.qs_meaning.proofs.FitSignatures.{file_after}
-use Rattle.qs_meaning.proofs.FitBlocks.{table_after, start_small}
+use Rattle.qs_meaning.proofs.FitBlocks.{table_after, start_small, named_after, start_named}
 use Rattle.qs_elaborate_laws.specs.Counts.{expressions_in}
 use Rattle.qs_elaborate_laws.specs.ExpressionCounts.{stmts_expressions}
 use Rattle.qs_elaborate_bodies.specs.Names.{FunctionNames, names_in}
@@ -82,10 +82,10 @@ scalars_length (l ∷ ls) ss e =
     subst (λ z. length z ≡ length (l ∷ ls)) (same_Some _ ss rest.then) (omega arith)
 
 function_capped :
-    (s : Scope) → SmallTable s.context.structs → (f : FunctionTree) (o : Option Stmts) (gs : List Function) → body_filled o ≡ true → body_faults s.context f o ≡ []
-    → function_typed s f o ≡ Some gs → EachBelow (map typed_need gs) (body_cap s.context f o)
-function_capped s table f None gs filled faults q = subst (λ z. EachBelow (map typed_need z) []) (same_Some _ gs q) tt
-function_capped s table f (Some body) gs filled faults q =
+    (s : Scope) → SmallTable s.context.structs → SmallNames s.context.structs s.context.type_names → (f : FunctionTree) (o : Option Stmts) (gs : List Function)
+    → body_filled o ≡ true → body_faults s.context f o ≡ [] → function_typed s f o ≡ Some gs → EachBelow (map typed_need gs) (body_cap s.context f o)
+function_capped s table named f None gs filled faults q = subst (λ z. EachBelow (map typed_need z) []) (same_Some _ gs q) tt
+function_capped s table named f (Some body) gs filled faults q =
     let addressed = addressed_in s.context f body in
     let ps = parameters_in s.context f in
     let ls = statements_locals (body_context s.context f) body in
@@ -95,7 +95,7 @@ function_capped s table f (Some body) gs filled faults q =
     let z = followed (sizes_of s.context.structs (placed_among addressed (ps ++ ls))) _ g.value y.then in
     let w = followed (statements_typed (in_body s f (locals_of addressed ps ls)) body) _ g.value z.then in
     let is = same_Some _ g.value w.then in
-    let bytes = sym (ap (λ (g : Function). bytes_in_words g.blocks) is) ∙ blocks_are s.context table f body filled z.value z.first in
+    let bytes = sym (ap (λ (g : Function). bytes_in_words g.blocks) is) ∙ blocks_are s.context table named f body filled z.value z.first in
     let vars = sym (ap (λ (g : Function). length g.variables) is) ∙ scalars_length (variables_among addressed ps ls) y.value y.first in
     let parts = statements_parts body (in_body s f (locals_of addressed ps ls)) w.value faults w.first in
     let most = subst (λ (g : Function). expressions_in g ≤ stmts_expressions body) is parts in
@@ -113,42 +113,45 @@ function_capped s table f (Some body) gs filled faults q =
 abbrev declared_caps : Context → DeclTree → List ℕ
 declared_caps c (structure t) = []
 declared_caps c (forward t) = []
+declared_caps c (typedef t) = []
 declared_caps c (variables v) = []
 declared_caps c (function f) = body_cap c f f.body
 
 caps_joined : (c : Context) (d : DeclTree) (ds : UnitTree) → declared_caps c d ++ caps_from (after_declaration c d) ds ≡ caps_from c (d ∷ ds)
 caps_joined c (structure t) ds = refl
 caps_joined c (forward t) ds = refl
+caps_joined c (typedef t) ds = refl
 caps_joined c (variables v) ds = refl
 caps_joined c (function f) ds = refl
 
 declaration_capped :
-    (d : DeclTree) (s : Scope) (now : TypedProgram) → SmallTable s.context.structs → declaration_filled d ≡ true → declaration_faults s.context d ≡ []
-    → declaration_typed s d ≡ Some now → EachBelow (map typed_need now.functions) (declared_caps s.context d)
-declaration_capped (structure t) s now table filled faults q = subst (λ (z : TypedProgram). EachBelow (map typed_need z.functions) []) (same_Some _ now q) tt
-declaration_capped (forward t) s now table filled faults q = subst (λ (z : TypedProgram). EachBelow (map typed_need z.functions) []) (same_Some _ now q) tt
-declaration_capped (variables v) s now table filled faults q =
+    (d : DeclTree) (s : Scope) (now : TypedProgram) → SmallTable s.context.structs → SmallNames s.context.structs s.context.type_names → declaration_filled d ≡ true
+    → declaration_faults s.context d ≡ [] → declaration_typed s d ≡ Some now → EachBelow (map typed_need now.functions) (declared_caps s.context d)
+declaration_capped (structure t) s now table named filled faults q = subst (λ (z : TypedProgram). EachBelow (map typed_need z.functions) []) (same_Some _ now q) tt
+declaration_capped (forward t) s now table named filled faults q = subst (λ (z : TypedProgram). EachBelow (map typed_need z.functions) []) (same_Some _ now q) tt
+declaration_capped (typedef t) s now table named filled faults q = subst (λ (z : TypedProgram). EachBelow (map typed_need z.functions) []) (same_Some _ now q) tt
+declaration_capped (variables v) s now table named filled faults q =
     let bs = followed (file_variables_typed s v.base v.variables) _ now q in
     subst (λ (z : TypedProgram). EachBelow (map typed_need z.functions) []) (same_Some _ now bs.then) tt
-declaration_capped (function f) s now table filled faults q =
+declaration_capped (function f) s now table named filled faults q =
     let gs = followed (function_typed s f f.body) _ now q in
     let inside = none_right (parameters_faults (inner_scope s.context) (is_some f.body) f.parameters) _ (none_right (faults_of f.node.id (header_tests s.context f)) _ faults) in
     subst (λ (z : TypedProgram). EachBelow (map typed_need z.functions) (body_cap s.context f f.body)) (same_Some _ now gs.then)
-    (function_capped s table f f.body gs.value filled inside gs.first)
+    (function_capped s table named f f.body gs.value filled inside gs.first)
 
 module _ (s₀ : Scope) where
   declarations_capped :
-      (ds : UnitTree) (c : Context) (u : TypedProgram) → IsFileScope c → SmallTable c.structs → declarations_faults c ds ≡ [] → list_all declaration_filled ds ≡ true
+      (ds : UnitTree) (c : Context) (u : TypedProgram) → IsFileScope c → SmallTable c.structs → SmallNames c.structs c.type_names → declarations_faults c ds ≡ [] → list_all declaration_filled ds ≡ true
       → declarations_typed (within s₀ c) ds ≡ Some u → EachBelow (map typed_need u.functions) (caps_from c ds)
-  declarations_capped [] c u h table faults filled q = subst (λ (z : TypedProgram). EachBelow (map typed_need z.functions) []) (same_Some _ u q) tt
-  declarations_capped (d ∷ ds) c u h table faults filled q =
+  declarations_capped [] c u h table named faults filled q = subst (λ (z : TypedProgram). EachBelow (map typed_need z.functions) []) (same_Some _ u q) tt
+  declarations_capped (d ∷ ds) c u h table named faults filled q =
       let after = after_declaration c d in
       let now = followed (declaration_typed (within s₀ c) d) _ u q in
       let rest = followed (declarations_typed (within s₀ after) ds) _ u now.then in
       let own = none_left (declaration_faults c d) (declarations_faults after ds) faults in
-      let here = declaration_capped d (within s₀ c) now.value table (first_so _ _ filled) own now.first in
+      let here = declaration_capped d (within s₀ c) now.value table named (first_so _ _ filled) own now.first in
       let later =
-      declarations_capped ds after rest.value (file_after s₀ c d h own) (table_after s₀ d c h table own (first_so _ _ filled))
+      declarations_capped ds after rest.value (file_after s₀ c d h own) (table_after s₀ d c h table named own (first_so _ _ filled)) (named_after s₀ d c h table named own (first_so _ _ filled))
       (none_right (declaration_faults c d) (declarations_faults after ds) faults) (second_so (declaration_filled d) _ filled) rest.first
       in
       let both = below_both (map typed_need now.value.functions) (declared_caps c d) (map typed_need rest.value.functions) (caps_from after ds) here later in
@@ -161,7 +164,7 @@ caps_are_kept unit core read well q =
     let m = made unit core q in
     let d = followed (declarations_typed (start_scope unit) unit) _ m.typed m.tree in
     let source = subst (λ (z : TypedProgram). EachBelow (map typed_need z.functions) (caps unit)) (same_Some _ m.typed d.then)
-    (declarations_capped (start_scope unit) unit start_context d.value start_known start_small well.keeps_rules (read_is_as_read unit read).lists d.first) in
+    (declarations_capped (start_scope unit) unit start_context d.value start_known start_small start_named well.keeps_rules (read_is_as_read unit read).lists d.first) in
     subst (λ fs. EachBelow (map needed fs) (caps unit)) (functions_are unit core m)
     (below_through (map needed (functions_core (names_in unit) m.typed.functions)) (map typed_need m.typed.functions) (caps unit)
     (cores_need (names_in unit) m.typed.functions) source)

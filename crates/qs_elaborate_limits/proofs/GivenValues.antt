@@ -6,7 +6,7 @@ use Rattle.std.specs.Cmp.{first_so}
 use Rattle.std.proofs.lemmas.Option.{same_Some}
 use Rattle.qs_base.specs.Bytes.{same_bytes}
 use Rattle.qs_syntax.specs.declared.types.Base.{Base}
-use Rattle.qs_syntax.specs.Trees.{ExprTree, VariableTree, ParameterTree, StartTree, no_start, start_expression, start_declaration, StmtTree, empty, expression, declaration, block, branch, while_loop, do_loop, for_loop, break, continue, return, Stmts, no_stmts, stmt_and, Else, no_else, else_by, FunctionTree, DeclTree, structure, forward, function, variables, UnitTree}
+use Rattle.qs_syntax.specs.Trees.{ExprTree, VariableTree, ParameterTree, StartTree, no_start, start_expression, start_declaration, StmtTree, empty, expression, declaration, block, branch, while_loop, do_loop, for_loop, break, continue, return, Stmts, no_stmts, stmt_and, Else, no_else, else_by, FunctionTree, DeclTree, structure, forward, function, variables, UnitTree, typedef}
 use Rattle.qs_memory.proofs.Options.{followed}
 use Rattle.qs_types.specs.Types.{TypeTree, int, unsigned, char, void, pointer, array, struct, same_type}
 use Rattle.qs_types.specs.Rules.{keeps, breaks_one, faults_of}
@@ -203,6 +203,7 @@ functions_give s f (Some body) gs faults inside q =
 declaration_gives : (d : DeclTree) (s : Scope) (now : TypedProgram) → declaration_faults s.context d ≡ [] → declaration_typed s d ≡ Some now → All GivesIfMain now.functions
 declaration_gives (structure d) s now f q = subst (λ (z : TypedProgram). All GivesIfMain z.functions) (same_Some _ now q) (All-nil GivesIfMain)
 declaration_gives (forward d) s now f q = subst (λ (z : TypedProgram). All GivesIfMain z.functions) (same_Some _ now q) (All-nil GivesIfMain)
+declaration_gives (typedef d) s now f q = subst (λ (z : TypedProgram). All GivesIfMain z.functions) (same_Some _ now q) (All-nil GivesIfMain)
 declaration_gives (variables d) s now f q =
     let bs = followed (file_variables_typed s d.base d.variables) _ now q in
     subst (λ (z : TypedProgram). All GivesIfMain z.functions) (same_Some _ now bs.then) (All-nil GivesIfMain)

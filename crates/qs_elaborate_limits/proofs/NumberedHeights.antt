@@ -2,7 +2,7 @@
 use Rattle.std.proofs.Common.{◌≡◌, ◌≤◌, ℕ, ◌+◌, List, [], ◌∷◌, Option, Some, None, refl, ap, arith}
 use Rattle.std.proofs.Math.Logic.{∥∥₁_elim}
 use native.Mathlib.Bridge.{le_prop}
-use Rattle.qs_syntax.specs.Trees.{ExprTree, expr, ShapeTree, constant, text, name, unary, step, cast, sizeof_type, sizeof_expr, binary, assign, conditional, comma, subscript, member, call, Exprs, no_exprs, expr_and, InitialiserTree, value, list, Initialisers, no_initialisers, initialiser_and, VariableTree, DeclarationTree, StartTree, no_start, start_expression, start_declaration, StmtTree, empty, expression, declaration, block, branch, while_loop, do_loop, for_loop, break, continue, return, Stmts, no_stmts, stmt_and, Else, no_else, else_by, DeclTree, structure, forward, function, variables, UnitTree}
+use Rattle.qs_syntax.specs.Trees.{ExprTree, expr, ShapeTree, constant, text, name, unary, step, cast, sizeof_type, sizeof_expr, binary, assign, conditional, comma, subscript, member, call, Exprs, no_exprs, expr_and, InitialiserTree, value, list, Initialisers, no_initialisers, initialiser_and, VariableTree, DeclarationTree, StartTree, no_start, start_expression, start_declaration, StmtTree, empty, expression, declaration, block, branch, while_loop, do_loop, for_loop, break, continue, return, Stmts, no_stmts, stmt_and, Else, no_else, else_by, DeclTree, structure, forward, function, variables, UnitTree, typedef}
 use Rattle.qs_syntax.specs.Nodes.{all_count, option_count, expr_count, declarator_count, initialiser_count, variable_count, parameter_count, start_count, stmt_count, decl_count}
 use Rattle.qs_syntax.specs.Numbering.{Relabelling, relabel_all, relabel_option, relabel_expr, relabel_shape, relabel_exprs, relabel_initialiser, relabel_initialisers, relabel_variable, relabel_declaration, relabel_start, relabel_stmt, relabel_stmts, relabel_else, relabel_decl, relabel_unit, numbered}
 use Rattle.qs_syntax.specs.Units.{height_limit, Reading, IsRead}
@@ -97,6 +97,7 @@ module _ (f : Relabelling) where
   decl_keeps : (n : ℕ) (d : DeclTree) → decl_height (relabel_decl f n d) ≡ decl_height d
   decl_keeps n (structure s) = refl
   decl_keeps n (forward d) = refl
+  decl_keeps n (typedef d) = refl
   decl_keeps n (function d) = option_keeps stmts_height (relabel_stmts f) stmts_keeps (f.onward (f.onward n 1) (all_count parameter_count d.parameters)) d.body
   decl_keeps n (variables d) = refl
 

@@ -5,7 +5,8 @@ use Rattle.qs_syntax.specs.Trees.{ExprTree, Exprs, InitialiserTree, Initialisers
 use Rattle.qs_syntax.specs.Reads.{Form, Reads, ReadsArguments, a_name, an_empty_call, a_call, a_constant, a_text, in_parentheses, an_index, a_member, an_increment_after, a_decrement_after, a_postfix, an_increment, a_decrement, an_operator, a_size_of_type, a_size_of_value, a_cast, an_operand, stronger, an_operation, a_plain_level, a_choice, a_plain_conditional, an_assignment, a_plain_assignment, a_comma, a_last_argument, an_argument}
 use Rattle.qs_syntax.specs.ReadsDeclarations.{ReadsInitialiser, a_value, a_list, ReadsInitialisers, a_last_initialiser, a_last_with_comma, an_initialiser, ReadsVariable, an_unset_variable, a_set_variable, ReadsVariables, a_last_variable, a_variable, ReadsDeclaration, a_declaration}
 use Rattle.qs_syntax.specs.ReadsStatements.{ReadsOptional, nothing_there, something_there, ReadsStart, a_start_declaration, a_start_expression, no_start_at_all, ReadsStatement, a_block, an_empty, an_expression, an_if, an_if_with_else, a_while, a_do, a_for, a_break, a_continue, a_return, ReadsItem, a_statement, a_declared, ReadsItems, no_item, an_item}
-use Rattle.qs_syntax.specs.ReadsUnits.{ReadsExternal, a_struct_with_members, a_forward, a_header, a_definition, some_variables, ReadsUnit, a_last_external, an_external}
+use Rattle.qs_syntax_vocabulary.specs.Marks.{NameSet}
+use Rattle.qs_syntax.specs.ReadsUnits.{ReadsPlain, a_struct_with_members, a_forward, a_header, a_definition, some_variables, ReadsExternal, a_plain_external, a_typedef, ReadsExternals, a_last_external, an_external}
 use Rattle.qs_elaborate_limits.proofs.SourceHeights.{highest, option_height, expr_height, exprs_height, initialiser_height, initialisers_height, variable_height, declaration_height, start_height, stmt_height, stmts_height, decl_height, unit_height}
 
 -- ---- expressions
@@ -19,7 +20,7 @@ mutual
   expr_low (a_text at first r) = omega arith
   expr_low (in_parentheses o c r) = let i = expr_low r in omega arith
   expr_low (an_index o c r s) = let i = expr_low r in let j = expr_low s in omega arith
-  expr_low (a_member access d n x r) = let i = expr_low r in omega arith
+  expr_low (a_member access d r x) = let i = expr_low r in omega arith
   expr_low (an_increment_after s r) = let i = expr_low r in omega arith
   expr_low (a_decrement_after s r) = let i = expr_low r in omega arith
   expr_low (a_postfix r) = expr_low r
@@ -103,13 +104,17 @@ mutual
 
 -- ---- units
 
-external_low : {h : ℕ} {ts : List Terminal} {d : DeclTree} → ReadsExternal h ts d → decl_height d ≤ h
-external_low (a_struct_with_members at n o c s x r) = omega arith
-external_low (a_forward at n s x) = omega arith
-external_low (a_header n o c s x t u r) = omega arith
-external_low (a_definition n o c b e x t u r q) = let i = items_low q in omega arith
-external_low (some_variables r) = omega arith
+plain_low : {h : ℕ} {ts : List Terminal} {d : DeclTree} → ReadsPlain h ts d → decl_height d ≤ h
+plain_low (a_struct_with_members at o c s x r) = omega arith
+plain_low (a_forward at s x) = omega arith
+plain_low (a_header n o c s x t u r) = omega arith
+plain_low (a_definition n o c b e x t u r q) = let i = items_low q in omega arith
+plain_low (some_variables r) = omega arith
 
-pub unit_low : {h : ℕ} {ts : List Terminal} {ds : List DeclTree} → ReadsUnit h ts ds → unit_height ds ≤ h
+external_low : {set : NameSet} {h : ℕ} {ts : List Terminal} {d : DeclTree} → ReadsExternal set h ts d → decl_height d ≤ h
+external_low (a_plain_external r) = plain_low r
+external_low (a_typedef xs at s defined names) = omega arith
+
+pub unit_low : {set : NameSet} {h : ℕ} {ts : List Terminal} {ds : List DeclTree} → ReadsExternals set h ts ds → unit_height ds ≤ h
 unit_low (a_last_external r) = let i = external_low r in omega arith
 unit_low (an_external r s) = let i = external_low r in let j = unit_low s in omega arith

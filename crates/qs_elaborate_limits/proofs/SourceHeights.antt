@@ -1,7 +1,7 @@
 -- How high the expressions are that a tree of the source evaluates, and the statements that choose or repeat: such a node is 1 higher
 -- than its highest part. Other statements and lists are as high as the highest thing in them.
 use Rattle.std.specs.Prelude.{ℕ, ◌+◌, max, List, [], ◌∷◌, Option, Some, None}
-use Rattle.qs_syntax.specs.Trees.{ExprTree, expr, ShapeTree, constant, text, name, unary, step, cast, sizeof_type, sizeof_expr, binary, assign, conditional, comma, subscript, member, call, Exprs, no_exprs, expr_and, InitialiserTree, value, list, Initialisers, no_initialisers, initialiser_and, VariableTree, DeclarationTree, StartTree, no_start, start_expression, start_declaration, StmtTree, empty, expression, declaration, block, branch, while_loop, do_loop, for_loop, break, continue, return, Stmts, no_stmts, stmt_and, Else, no_else, else_by, DeclTree, structure, forward, function, variables, UnitTree}
+use Rattle.qs_syntax.specs.Trees.{ExprTree, expr, ShapeTree, constant, text, name, unary, step, cast, sizeof_type, sizeof_expr, binary, assign, conditional, comma, subscript, member, call, Exprs, no_exprs, expr_and, InitialiserTree, value, list, Initialisers, no_initialisers, initialiser_and, VariableTree, DeclarationTree, StartTree, no_start, start_expression, start_declaration, StmtTree, empty, expression, declaration, block, branch, while_loop, do_loop, for_loop, break, continue, return, Stmts, no_stmts, stmt_and, Else, no_else, else_by, DeclTree, structure, forward, function, variables, UnitTree, typedef}
 
 abbrev pub highest : {A : Type 0} → (A → ℕ) → List A → ℕ
 highest height [] = 0
@@ -90,6 +90,7 @@ abbrev mutual
 abbrev pub decl_height : DeclTree → ℕ
 decl_height (structure s) = 0
 decl_height (forward f) = 0
+decl_height (typedef f) = 0
 decl_height (function f) = option_height stmts_height f.body
 decl_height (variables d) = 0
 

@@ -1,7 +1,7 @@
 -- The functions of a unit's typed tree are at most as high as the unit, and have as many parameters as their headers.
 use Rattle.std.proofs.Common.{◌≡◌, ◌≤◌, ℕ, max, List, [], ◌∷◌, ◌++◌, Option, Some, None, length, subst, arith}
 use Rattle.std.proofs.lemmas.Option.{same_Some}
-use Rattle.qs_syntax.specs.Trees.{FunctionTree, DeclTree, structure, forward, function, variables, UnitTree}
+use Rattle.qs_syntax.specs.Trees.{FunctionTree, DeclTree, structure, forward, function, variables, UnitTree, typedef}
 use Rattle.qs_syntax.specs.Trees as trees
 use Rattle.qs_memory.proofs.Options.{followed}
 use Rattle.qs_types.specs.Limits.{parameter_count}
@@ -68,6 +68,7 @@ declaration_low :
     (d : DeclTree) (s : Scope) (now : TypedProgram) → declaration_typed s d ≡ Some now → FunctionsLow (decl_height d) (parameter_count (d ∷ [])) now.functions
 declaration_low (structure d) s now q = subst (λ (z : TypedProgram). FunctionsLow 0 0 z.functions) (same_Some _ now q) (none_low 0 0)
 declaration_low (forward d) s now q = subst (λ (z : TypedProgram). FunctionsLow 0 0 z.functions) (same_Some _ now q) (none_low 0 0)
+declaration_low (typedef d) s now q = subst (λ (z : TypedProgram). FunctionsLow 0 0 z.functions) (same_Some _ now q) (none_low 0 0)
 declaration_low (variables d) s now q =
     let bs = followed (file_variables_typed s d.base d.variables) _ now q in
     subst (λ (z : TypedProgram). FunctionsLow 0 0 z.functions) (same_Some _ now bs.then) (none_low 0 0)
@@ -82,6 +83,7 @@ declaration_low (function f) s now q =
 most_parameters : (d : DeclTree) (ds : UnitTree) → parameter_count (d ∷ ds) ≡ max (parameter_count (d ∷ [])) (parameter_count ds)
 most_parameters (structure d) ds = omega arith
 most_parameters (forward d) ds = omega arith
+most_parameters (typedef d) ds = omega arith
 most_parameters (variables d) ds = omega arith
 most_parameters (function f) ds = omega arith
 

@@ -2,7 +2,7 @@
 use Rattle.std.proofs.Common.{◌≡◌, ◌≤◌, ℕ, ◌+◌, ◌*◌, Bool, true, false, not, List, [], ◌∷◌, ◌++◌, length, filter, Option, Some, None, is_some, sym, ap, ◌∙◌, subst, arith, length-append, cond}
 use Rattle.std.proofs.lemmas.Option.{same_Some}
 use Rattle.qs_syntax.specs.declared.types.Base.{Base}
-use Rattle.qs_syntax.specs.Trees.{InitialiserTree, value, list, Initialisers, no_initialisers, initialiser_and, VariableTree, ParameterTree, StartTree, no_start, start_expression, start_declaration, StmtTree, empty, expression, declaration, block, branch, while_loop, do_loop, for_loop, break, continue, return, Stmts, no_stmts, stmt_and, Else, no_else, else_by, FunctionTree, DeclTree, structure, forward, function, variables, UnitTree}
+use Rattle.qs_syntax.specs.Trees.{InitialiserTree, value, list, Initialisers, no_initialisers, initialiser_and, VariableTree, ParameterTree, StartTree, no_start, start_expression, start_declaration, StmtTree, empty, expression, declaration, block, branch, while_loop, do_loop, for_loop, break, continue, return, Stmts, no_stmts, stmt_and, Else, no_else, else_by, FunctionTree, DeclTree, structure, forward, function, variables, UnitTree, typedef}
 use Rattle.qs_syntax.specs.Nodes.{all_count, option_count, initialiser_count, initialisers_count, variable_count, parameter_count, start_count, stmt_count, stmts_count, else_count, decl_count, unit_count}
 use Rattle.qs_memory.proofs.Options.{followed}
 use Rattle.qs_types.specs.Types.{TypeTree}
@@ -166,6 +166,7 @@ declaration_values :
     → highest typed_values now.functions ≤ 3 * decl_count d
 declaration_values (structure t) s now f q = subst (λ (z : TypedProgram). highest typed_values z.functions ≤ 3 * decl_count (structure t)) (same_Some _ now q) (omega arith)
 declaration_values (forward t) s now f q = subst (λ (z : TypedProgram). highest typed_values z.functions ≤ 3 * decl_count (forward t)) (same_Some _ now q) (omega arith)
+declaration_values (typedef t) s now f q = subst (λ (z : TypedProgram). highest typed_values z.functions ≤ 3 * decl_count (typedef t)) (same_Some _ now q) (omega arith)
 declaration_values (variables v) s now f q =
     let bs = followed (file_variables_typed s v.base v.variables) _ now q in
     subst (λ (z : TypedProgram). highest typed_values z.functions ≤ 3 * decl_count (variables v)) (same_Some _ now bs.then) (omega arith)

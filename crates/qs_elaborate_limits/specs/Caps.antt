@@ -1,6 +1,6 @@
 -- How much of the stack a call of a function takes at most, by the function's source: its cap.
 use Rattle.std.specs.Prelude.{ℕ, ◌+◌, ◌*◌, ◌/◌, ◌≤◌, List, [], ◌∷◌, ◌++◌, Option, Some, None, length}
-use Rattle.qs_syntax.specs.Trees.{Stmts, FunctionTree, structure, forward, function, variables, UnitTree}
+use Rattle.qs_syntax.specs.Trees.{Stmts, FunctionTree, structure, forward, function, variables, UnitTree, typedef}
 use Rattle.qs_types.specs.Contexts.{Context, start_context}
 use Rattle.qs_types.specs.Limits.{placed_bytes}
 use Rattle.qs_types.specs.Placed.{addressed_in, statements_locals}
@@ -32,6 +32,7 @@ abbrev pub caps_from : Context → UnitTree → List ℕ
 caps_from c [] = []
 caps_from c (structure s ∷ ds) = caps_from (after_declaration c (structure s)) ds
 caps_from c (forward f ∷ ds) = caps_from (after_declaration c (forward f)) ds
+caps_from c (typedef f ∷ ds) = caps_from (after_declaration c (typedef f)) ds
 caps_from c (function f ∷ ds) = body_cap c f f.body ++ caps_from (after_declaration c (function f)) ds
 caps_from c (variables d ∷ ds) = caps_from (after_declaration c (variables d)) ds
 

@@ -13,7 +13,7 @@ use Rattle.qs_types.specs.Types.{TypeTree, int, unsigned, char, void, pointer, a
 use Rattle.qs_types.specs.Layout.{and_then, StructLayout, Layouts, array_extent, struct_extent, extent_by, extent_within, sized_by, is_sized, is_complete, extent_of, size_of, layout_of}
 use Rattle.qs_types.specs.declared.rules.Rule.TheVariants as rules
 use Rattle.qs_types.specs.Rules.{Test, keeps, breaks_one, faults_of, is_any}
-use Rattle.qs_types.specs.Contexts.{local_variable, Context, inner_scope, inside_loop}
+use Rattle.qs_types.specs.Contexts.{local_variable, Context, inner_scope, inside_loop, base_type}
 use Rattle.qs_types.specs.Expressions.{type_of}
 use Rattle.qs_types.specs.ExpressionFaults.{used, discarded, whole, expr_faults}
 use Rattle.qs_types.specs.Declarations.{all_typed, lengths_faults, lengths_of, whole_lengths, element_tests, object_type, size_tests, with_size_tests, object_declared, Declared, undeclared, declared, length_by, variable_declared}
@@ -83,7 +83,7 @@ declared_known c base d first e h = go (all_typed c d.lengths.given) e h
 
     go : (b : Bool) → b ≡ true → breaks_one (if b then object_declared c base d.stars lengths else undeclared).tests ≡ false
         → DeclaredAs c.structs (if b then object_declared c base d.stars lengths else undeclared)
-    go true e h = with_size_known c (element_tests c base d.stars ++ keeps rules.ArrayLength (is_some lengths)) (object_type c base d.stars lengths) h
+    go true e h = with_size_known c (element_tests c (base_type c base) d.stars ++ keeps rules.ArrayLength (is_some lengths)) (object_type (base_type c base) d.stars lengths) h
     go false e h = never e
 
 pub lengths_typed : (c : Context) → HasTypes c → (es : List ExprTree) → lengths_faults c es ≡ [] → all_typed c es ≡ true
@@ -210,10 +210,10 @@ module _ (s₀ : Scope) (declared_nodes : List ℕ) where
       let initialiser = none_right (lengths_faults c v.declarator.lengths.given) _ parts in
       let typed_lengths = lengths_typed c (has_types (within s₀ c) declared_nodes h.sound) v.declarator.lengths.given (none_left _ _ parts) in
       let unheld = not_held_back false after (variable_declared c base v).type v.initialiser initialiser in
-      let whole_tests = ap (λ b. breaks_one (if b then [] else again_tests c v ++
+      let whole_tests = ap (λ b. breaks_one (if b then [] else again_tests false c v ++
       ((variable_declared c base v).tests ++ initialiser_tests false after (variable_declared c base v).type v.initialiser)))
       (sym unheld) ∙ unbroken v.declarator.node.id (variable_tests false c after base v) tests_faults in
-      let later_tests = second_unbroken (again_tests c v) _ whole_tests in
+      let later_tests = second_unbroken (again_tests false c v) _ whole_tests in
       let d = declared_known c base v.declarator (length_by v.initialiser) typed_lengths (first_unbroken (variable_declared c base v).tests _ later_tests) in
       let fine_here = first_so (is_fine_local declared_nodes placed (record { node = v.declarator.node.id; type = (variable_declared c base v).type })) _ fine in
       let stands = variable_stands c h base v d fine_here in

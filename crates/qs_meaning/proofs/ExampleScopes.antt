@@ -4,7 +4,7 @@ use Rattle.std.proofs.Common.{ℕ, true, List, [], ◌∷◌, Option, Some}
 use Rattle.qs_syntax.specs.Trees.{unnumbered, ExprTree, expr}
 use Rattle.qs_syntax.specs.Trees as trees
 use Rattle.qs_types.specs.Types.{TypeTree, int, unsigned, char, void, pointer, array, struct, Structs}
-use Rattle.qs_types.specs.Contexts.{Binding, local_variable, file_variable, function, Context, given_functions}
+use Rattle.qs_types.specs.Contexts.{Binding, local_variable, file_variable, function, Context, given_functions, no_type_names, add_tag}
 use Rattle.qs_meaning.specs.Names.{Scope}
 use Rattle.qs_meaning.specs.Forms.{Form, TypedExpr}
 
@@ -17,7 +17,7 @@ local x node t = record { name = x ∷ []; entity = local_variable node (Some t)
 abbrev pub context : Context
 context = record {
   structs = structs;
-  tags = (115 ∷ []) ∷ [];
+  type_names = add_tag no_type_names (115 ∷ []) 0;
   inner =
       local 99 1 char ∷ local 105 2 int ∷ local 117 3 unsigned ∷ local 112 4 (pointer int) ∷ local 116 5 (pointer char)
       ∷ local 120 6 int ∷ local 97 7 (array int 3) ∷ local 118 8 (struct 0) ∷ local 113 9 (pointer (struct 0)) ∷ [];

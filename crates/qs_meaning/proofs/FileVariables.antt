@@ -84,9 +84,9 @@ not_both b e f = never (sym f ∙ e)
 
 -- an integer constant has an integer type
 constant_integer : (c : Context) (e : ExprTree) (u : TypeTree) → type_of c e ≡ Some u → is_some (constant_of c e) ≡ true → is_integer u ≡ true
-constant_integer c e u t k = go (is_integer u) (subst (λ o. is_some (and_then o (λ t. if is_integer t && is_built e then value_of c e else None)) ≡ true) t k)
+constant_integer c e u t k = go (is_integer u) (subst (λ o. is_some (and_then o (λ t. if is_integer t && is_built c.type_names e then value_of c e else None)) ≡ true) t k)
   where
-    go : (b : Bool) → is_some (if b && is_built e then value_of c e else None) ≡ true → b ≡ true
+    go : (b : Bool) → is_some (if b && is_built c.type_names e then value_of c e else None) ≡ true → b ≡ true
     go true e = refl
     go false e = never e
 
@@ -380,11 +380,11 @@ module _ (s₀ : Scope) where
       let initialiser = none_right (lengths_faults c v.declarator.lengths.given)
       (option_initialiser_faults true after (variable_declared c base v).type v.initialiser) parts in
       let typed_lengths = lengths_typed c (has_types (within s₀ c) [] (file_sound s₀ c [] h)) v.declarator.lengths.given (none_left _ _ parts) in
-      let whole_tests = ap (λ b. breaks_one (if b then [] else again_tests c v ++
+      let whole_tests = ap (λ b. breaks_one (if b then [] else again_tests true c v ++
       ((variable_declared c base v).tests ++ initialiser_tests true after (variable_declared c base v).type v.initialiser)))
       (sym (not_held_back true after (variable_declared c base v).type v.initialiser initialiser))
       ∙ unbroken v.declarator.node.id tests (none_left (faults_of v.declarator.node.id tests) _ own) in
-      let later_tests = second_unbroken (again_tests c v) ((variable_declared c base v).tests ++ initialiser_tests true after
+      let later_tests = second_unbroken (again_tests true c v) ((variable_declared c base v).tests ++ initialiser_tests true after
       (variable_declared c base v).type v.initialiser) whole_tests in
       let d = declared_known c base v.declarator (length_by v.initialiser) typed_lengths
       (first_unbroken (variable_declared c base v).tests (initialiser_tests true after (variable_declared c base v).type v.initialiser) later_tests) in

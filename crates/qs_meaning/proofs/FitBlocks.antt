@@ -8,7 +8,7 @@ use Rattle.std.proofs.lemmas.Bool.{and_from}
 use Rattle.std.specs.Cmp.{first_so, second_so}
 use Rattle.std.proofs.lemmas.Option.{same_Some}
 use Rattle.qs_syntax.specs.declared.types.Base.{Base}
-use Rattle.qs_syntax.specs.Trees.{InitialiserTree, VariableTree, DeclTree, structure, forward, function, variables, UnitTree}
+use Rattle.qs_syntax.specs.Trees.{InitialiserTree, VariableTree, DeclTree, structure, forward, function, variables, UnitTree, typedef}
 use Rattle.qs_syntax.specs.Trees as trees
 use Rattle.qs_memory.specs.Memory.{Cell, byte, BlankTree, blank_cells}
 use Rattle.qs_memory.specs.Sizes.{largest_size}
@@ -44,15 +44,16 @@ use Rattle.qs_meaning.proofs.Bindings.{has_types}
 use Rattle.qs_meaning.proofs.Bodies.{not_held_back}
 use Rattle.qs_meaning.proofs.FunctionsTyped.{file_sound}
 use Rattle.qs_meaning.proofs.UnitsTyped.{start_known}
-use Rattle.qs_meaning.proofs.FitTypes.{SmallTable, size_room}
+use Rattle.qs_meaning.proofs.FitTypes.{SmallTable, size_room, SmallNames}
 use Rattle.qs_meaning.proofs.FitLeaves.{is_short}
 use Rattle.qs_meaning.proofs.FitDeclarations.{SizedType, variable_small}
 use Rattle.qs_meaning.proofs.DeclaredSizes.{declared_size}
-use Rattle.qs_meaning.proofs.FitTables.{tag_after, struct_after}
+use Rattle.qs_meaning.proofs.FitTables.{tag_after, struct_after, typedef_after}
 use Rattle.qs_meaning.proofs.FitSignatures.{file_after, variable_after}
 use Rattle.qs_meaning.proofs.FitSites.{literals_short}
 use Rattle.qs_meaning.proofs.FitData.{shape_width, over_there, pieces_written}
 use Rattle.qs_meaning.proofs.Shapes.{bytes, shape_of, Conforms, are_whole, conforms_length, blank_conforms, text_conforms, whole_part}
+use Rattle.qs_meaning.proofs.FitLocals.{variables_named}
 
 -- ---- blocks
 
@@ -163,10 +164,10 @@ module _ (s₀ : Scope) where
                 (blank_conforms b.value) ps.then;
           }
 
-  variables_good : (vs : List VariableTree) (c : Context) (base : Base) (bs : List StaticBlock) → IsFileScope c → SmallTable c.structs → variables_faults true c base vs ≡ []
+  variables_good : (vs : List VariableTree) (c : Context) (base : Base) (bs : List StaticBlock) → IsFileScope c → SmallTable c.structs → SmallNames c.structs c.type_names → variables_faults true c base vs ≡ []
       → variables_filled vs ≡ true → file_variables_typed (within s₀ c) base vs ≡ Some bs → AreGood (sizes_of (variables_blocks c base vs)) bs
-  variables_good [] c base bs h table f filled q = subst (λ z. AreGood [] z) (same_Some [] bs q) tt
-  variables_good (v ∷ vs) c base bs h table f filled q =
+  variables_good [] c base bs h table named f filled q = subst (λ z. AreGood [] z) (same_Some [] bs q) tt
+  variables_good (v ∷ vs) c base bs h table named f filled q =
       let after = after_variable true c base v in
       let now = followed (file_variable_typed (within s₀ c) base v) _ bs q in
       let later = followed (file_variables_typed (within s₀ after) base vs) _ bs now.then in
@@ -176,40 +177,51 @@ module _ (s₀ : Scope) where
       let parts = none_right (faults_of v.declarator.node.id tests)
       (lengths_faults c v.declarator.lengths.given ++ option_initialiser_faults true after (variable_declared c base v).type v.initialiser) own in
       let initialiser = none_right (lengths_faults c v.declarator.lengths.given) (option_initialiser_faults true after (variable_declared c base v).type v.initialiser) parts in
-      let whole_tests = ap (λ b. breaks_one (if b then [] else again_tests c v ++
+      let whole_tests = ap (λ b. breaks_one (if b then [] else again_tests true c v ++
       ((variable_declared c base v).tests ++ initialiser_tests true after (variable_declared c base v).type v.initialiser)))
       (sym (not_held_back true after (variable_declared c base v).type v.initialiser initialiser))
       ∙ unbroken v.declarator.node.id tests (none_left (faults_of v.declarator.node.id tests) _ own) in
       let own_tests = second_unbroken (variable_declared c base v).tests (initialiser_tests true after (variable_declared c base v).type v.initialiser)
-      (second_unbroken (again_tests c v) ((variable_declared c base v).tests ++ initialiser_tests true after (variable_declared c base v).type v.initialiser) whole_tests) in
+      (second_unbroken (again_tests true c v) ((variable_declared c base v).tests ++ initialiser_tests true after (variable_declared c base v).type v.initialiser) whole_tests) in
       let scope = variable_after s₀ c base v h own in
-      let sized = variable_small c base v t.value (first_so _ _ filled) t.first in
+      let sized = variable_small c named base v t.value (first_so _ _ filled) t.first in
       let here = block_good after (has_types (within s₀ after) [] (file_sound s₀ after [] scope)) table t.value sized v.initialiser now.value
       (subst (λ o. breaks_one (initialiser_tests true after o v.initialiser) ≡ false) t.first own_tests)
       (subst (λ o. option_initialiser_faults true after o v.initialiser ≡ []) t.first initialiser) t.then in
       let counted_size = ap (type_size c.structs) t.first ∙ declared_size c.structs table t.value sized.small sized.size sized.is in
       subst (λ z. AreGood (sizes_of (variables_blocks c base (v ∷ vs))) z) (same_Some _ bs later.then) (
         subst (λ n. IsGood n now.value) (sym counted_size) here,
-        variables_good vs after base later.value scope table
+        variables_good vs after base later.value scope table named
             (none_right (variable_faults true c after base v) (variables_faults true after base vs) f) (second_so (is_filled v.initialiser) _ filled) later.first,
       )
 
   -- ---- declarations
 
-  pub table_after : (d : DeclTree) (c : Context) → IsFileScope c → SmallTable c.structs → declaration_faults c d ≡ [] → declaration_filled d ≡ true → SmallTable (after_declaration c d).structs
-  table_after (structure t) c h table f filled = (struct_after s₀ c t h table filled f).table
-  table_after (forward t) c h table f filled = (tag_after c t.name h table).table
-  table_after (function g) c h table f filled = table
-  table_after (variables d) c h table f filled = subst SmallTable (sym (same_structs d.variables c d.base)) table
+  pub table_after : (d : DeclTree) (c : Context) → IsFileScope c → SmallTable c.structs → SmallNames c.structs c.type_names → declaration_faults c d ≡ [] → declaration_filled d ≡ true
+      → SmallTable (after_declaration c d).structs
+  table_after (structure t) c h table named f filled = (struct_after s₀ c t h table named filled f).table
+  table_after (forward t) c h table named f filled = (tag_after c t.name h table).table
+  table_after (typedef t) c h table named f filled = (typedef_after s₀ c t h table named filled f).table
+  table_after (function g) c h table named f filled = table
+  table_after (variables d) c h table named f filled = subst SmallTable (sym (same_structs d.variables c d.base)) table
     where
       same_structs : (vs : List VariableTree) (c : Context) (base : Base) → (after_variables true c base vs).structs ≡ c.structs
       same_structs [] c base = refl
       same_structs (v ∷ vs) c base = same_structs vs (after_variable true c base v) base
 
+  pub named_after : (d : DeclTree) (c : Context) → IsFileScope c → SmallTable c.structs → SmallNames c.structs c.type_names → declaration_faults c d ≡ [] → declaration_filled d ≡ true
+      → SmallNames (after_declaration c d).structs (after_declaration c d).type_names
+  named_after (structure t) c h table named f filled = (struct_after s₀ c t h table named filled f).named named
+  named_after (forward t) c h table named f filled = (tag_after c t.name h table).named named
+  named_after (typedef t) c h table named f filled = (typedef_after s₀ c t h table named filled f).named named
+  named_after (function g) c h table named f filled = named
+  named_after (variables d) c h table named f filled = variables_named true d.base d.variables c named
+
   -- the sizes of the blocks that a declaration makes
   abbrev declared_sizes : Context → DeclTree → List ℕ
   declared_sizes c (structure t) = []
   declared_sizes c (forward t) = []
+  declared_sizes c (typedef t) = []
   declared_sizes c (function g) = []
   declared_sizes c (variables d) = sizes_of (variables_blocks c d.base d.variables)
 
@@ -217,31 +229,33 @@ module _ (s₀ : Scope) where
       → declared_sizes c d ++ sizes_of (variable_blocks_from (after_declaration c d) ds) ≡ sizes_of (variable_blocks_from c (d ∷ ds))
   sizes_joined (structure t) ds c = refl
   sizes_joined (forward t) ds c = refl
+  sizes_joined (typedef t) ds c = refl
   sizes_joined (function g) ds c = refl
   sizes_joined (variables d) ds c = sym (map-append (λ (b : Block). b.size) (variables_blocks c d.base d.variables) (variable_blocks_from (after_declaration c (variables d)) ds))
 
-  declaration_good : (d : DeclTree) (c : Context) (now : TypedProgram) → IsFileScope c → SmallTable c.structs → declaration_faults c d ≡ [] → declaration_filled d ≡ true
+  declaration_good : (d : DeclTree) (c : Context) (now : TypedProgram) → IsFileScope c → SmallTable c.structs → SmallNames c.structs c.type_names → declaration_faults c d ≡ [] → declaration_filled d ≡ true
       → declaration_typed (within s₀ c) d ≡ Some now → AreGood (declared_sizes c d) now.blocks
-  declaration_good (structure t) c now h table f filled q = subst (λ (z : TypedProgram). AreGood [] z.blocks) (same_Some _ now q) tt
-  declaration_good (forward t) c now h table f filled q = subst (λ (z : TypedProgram). AreGood [] z.blocks) (same_Some _ now q) tt
-  declaration_good (function g) c now h table f filled q =
+  declaration_good (structure t) c now h table named f filled q = subst (λ (z : TypedProgram). AreGood [] z.blocks) (same_Some _ now q) tt
+  declaration_good (forward t) c now h table named f filled q = subst (λ (z : TypedProgram). AreGood [] z.blocks) (same_Some _ now q) tt
+  declaration_good (typedef t) c now h table named f filled q = subst (λ (z : TypedProgram). AreGood [] z.blocks) (same_Some _ now q) tt
+  declaration_good (function g) c now h table named f filled q =
       let fs = followed (function_typed (within s₀ c) g g.body) _ now q in subst (λ (z : TypedProgram). AreGood [] z.blocks) (same_Some _ now fs.then) tt
-  declaration_good (variables d) c now h table f filled q =
+  declaration_good (variables d) c now h table named f filled q =
       let bs = followed (file_variables_typed (within s₀ c) d.base d.variables) _ now q in
       subst (λ (z : TypedProgram). AreGood (sizes_of (variables_blocks c d.base d.variables)) z.blocks) (same_Some _ now bs.then)
-      (variables_good d.variables c d.base bs.value h table f filled bs.first)
+      (variables_good d.variables c d.base bs.value h table named f filled bs.first)
 
-  declarations_good : (ds : UnitTree) (c : Context) (rest : TypedProgram) → IsFileScope c → SmallTable c.structs → declarations_faults c ds ≡ [] → list_all declaration_filled ds ≡ true
+  declarations_good : (ds : UnitTree) (c : Context) (rest : TypedProgram) → IsFileScope c → SmallTable c.structs → SmallNames c.structs c.type_names → declarations_faults c ds ≡ [] → list_all declaration_filled ds ≡ true
       → declarations_typed (within s₀ c) ds ≡ Some rest → AreGood (sizes_of (variable_blocks_from c ds)) rest.blocks
-  declarations_good [] c rest h table f filled q = subst (λ (z : TypedProgram). AreGood [] z.blocks) (same_Some _ rest q) tt
-  declarations_good (d ∷ ds) c rest h table f filled q =
+  declarations_good [] c rest h table named f filled q = subst (λ (z : TypedProgram). AreGood [] z.blocks) (same_Some _ rest q) tt
+  declarations_good (d ∷ ds) c rest h table named f filled q =
       let after = after_declaration c d in
       let now = followed (declaration_typed (within s₀ c) d) _ rest q in
       let later = followed (declarations_typed (within s₀ after) ds) _ rest now.then in
       let own = none_left (declaration_faults c d) (declarations_faults after ds) f in
       let all = good_both (declared_sizes c d) (sizes_of (variable_blocks_from after ds)) now.value.blocks later.value.blocks
-      (declaration_good d c now.value h table own (first_so _ _ filled) now.first)
-      (declarations_good ds after later.value (file_after s₀ c d h own) (table_after d c h table own (first_so _ _ filled))
+      (declaration_good d c now.value h table named own (first_so _ _ filled) now.first)
+      (declarations_good ds after later.value (file_after s₀ c d h own) (table_after d c h table named own (first_so _ _ filled)) (named_after d c h table named own (first_so _ _ filled))
       (none_right (declaration_faults c d) (declarations_faults after ds) f) (second_so (declaration_filled d) _ filled) later.first) in
       subst (λ (z : TypedProgram). AreGood (sizes_of (variable_blocks_from c (d ∷ ds))) z.blocks) (same_Some _ rest later.then)
       (subst (λ ns. AreGood ns (now.value.blocks ++ later.value.blocks)) (sizes_joined d ds c) all)
@@ -249,6 +263,9 @@ module _ (s₀ : Scope) where
 -- the table of a unit's structs is empty at its begin
 pub start_small : SmallTable start_context.structs
 start_small = record { members = λ k ms e. nothing ms e; sizes = λ k l e. nothing l e }
+
+pub start_named : SmallNames start_context.structs start_context.type_names
+start_named = record { each = λ x t e. nothing t e }
 
 -- the blocks of a unit are as many bytes as are counted
 pub typed_data_is_good : (unit : UnitTree) (u : TypedProgram) → IsAsRead unit → WellTyped unit → IsWithinLimits unit → typed_of unit ≡ Some u
@@ -258,7 +275,7 @@ typed_data_is_good unit u read well limits e =
     let blocks = variable_blocks_from start_context unit in
     let texts = map counted.text_block (literal_blocks unit) in
     let all = good_both (sizes_of blocks) (sizes_of texts) d.value.blocks (map text_block (literal_blocks unit))
-    (declarations_good (start_scope unit) unit start_context d.value start_known start_small well.keeps_rules read.lists d.first)
+    (declarations_good (start_scope unit) unit start_context d.value start_known start_small start_named well.keeps_rules read.lists d.first)
     (texts_good (literal_blocks unit) (literals_short unit limits.globals)) in
     subst (λ (z : TypedProgram). AreGood (sizes_of (data_blocks unit)) z.blocks) (same_Some _ u d.then)
     (subst (λ ns. AreGood ns (d.value.blocks ++ map text_block (literal_blocks unit))) (sym (map-append (λ (b : Block). b.size) blocks texts)) all)

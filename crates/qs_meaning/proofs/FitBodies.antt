@@ -38,17 +38,17 @@ use Rattle.qs_meaning.proofs.FaultlessExpressions.{none_right, second_unbroken}
 use Rattle.qs_meaning.proofs.TypedExpressions.{kept}
 use Rattle.qs_meaning.proofs.Functions.{all_scalar, same_result, same_structs_with}
 use Rattle.qs_meaning.proofs.UnitsTyped.{header_parts, header_unbroken, header_result, header_scalar}
-use Rattle.qs_meaning.proofs.FitTypes.{SmallTable}
+use Rattle.qs_meaning.proofs.FitTypes.{SmallTable, SmallNames}
 use Rattle.qs_meaning.proofs.FitLeaves.{is_short, places, AllFit}
 use Rattle.qs_meaning.proofs.FitInitialisers.{LocalPlace, in_variable, in_block, site_sure}
 use Rattle.qs_meaning.proofs.FitStatements.{LocalIs, LocalsAre, InBody, statements_there}
 use Rattle.qs_meaning.proofs.FitLocals.{sub_same, sub_append, sub_map, sub_filter, sub_different, In, in_left, in_right, in_either, in_filter, node_in, not_among, scalar_at, SizeAt, size_at, below_length, place_behind, ids, among_both, parameters_among, statements_among, SmallLocals, small_both, statements_small}
-use Rattle.qs_meaning.proofs.FitFunctions.{AllFile, all_in_function, parameters_small, small_in, sizes_small, in_filtered, parameter_place, variable_place, locals_in, Made}
+use Rattle.qs_meaning.proofs.FitFunctions.{AllFile, all_in_function, parameters_small, with_parameters_named, small_in, sizes_small, in_filtered, parameter_place, variable_place, locals_in, Made}
 
 module _ (i : Interface) (called : List ℕ → Bool) (there : TextBlock → Bool) (s : Scope)
     (short : (t : TextBlock) → there t ≡ true → is_short t ≡ true)
     (blocks : (t : TextBlock) → there t ≡ true → nat_lt (length s.statics.variables + place_among t.node s.statics.texts) (length i.data_blocks) ≡ true)
-    (h : IsFileScope s.context) (table : SmallTable s.context.structs) (flat : s.context.in_loop ≡ false)
+    (h : IsFileScope s.context) (table : SmallTable s.context.structs) (small_names : SmallNames s.context.structs s.context.type_names) (flat : s.context.in_loop ≡ false)
     (f : FunctionTree) (body : Stmts) (faultless : function_faults s.context f ≡ []) (with_body : f.body ≡ Some body)
     (names : AllFile i called s.statics s.functions s.context.structs ((after_function s.context f).inner ++ (after_function s.context f).outer))
     (different : are_different (ids (all_nodes parameter_nodes f.parameters ++ stmts_nodes body)) ≡ true)
@@ -180,11 +180,14 @@ module _ (i : Interface) (called : List ℕ → Bool) (there : TextBlock → Boo
   body_structs = same_structs_with f.parameters types (record (inner_scope (after_function c f)) { result = result_type c f })
 
   small_parameters : SmallLocals structs parameters
-  small_parameters = parameters_small f.parameters (inner_scope c)
+  small_parameters = parameters_small f.parameters (inner_scope c) small_names
+
+  body_named : SmallNames (body_context c f).structs (body_context c f).type_names
+  body_named = with_parameters_named f.parameters types (record (inner_scope (after_function c f)) { result = result_type c f }) small_names
 
   small_all : SmallLocals structs all
   small_all = small_both structs parameters in_statements small_parameters
-      (subst (λ z. SmallLocals z in_statements) body_structs (statements_small body (body_context c f) filled))
+      (subst (λ z. SmallLocals z in_statements) body_structs (statements_small body (body_context c f) body_named filled))
 
   sizes_are_small : are_small made.sizes ≡ true
   sizes_are_small = sizes_small structs table (placed_among operands all) made.sizes
@@ -221,6 +224,7 @@ module _ (i : Interface) (called : List ℕ → Bool) (there : TextBlock → Boo
     names = with_names f.parameters types (record (inner_scope (after_function c f)) { result = result_type c f })
         (all_in_function i g called (places s₀) structs ((after_function c f).inner ++ (after_function c f).outer) names) parameters_are small_parameters scalar;
     result = λ t e. result_is ∙ ap result_scalar (sym (same_result f.parameters types (record (inner_scope (after_function c f)) { result = result_type c f })) ∙ e);
+    named = subst (λ z. SmallNames z (body_context c f).type_names) body_structs body_named;
     loop = λ e. never_loop (sym (with_loop f.parameters types (record (inner_scope (after_function c f)) { result = result_type c f }) ∙ flat) ∙ e);
   }
     where

@@ -10,16 +10,16 @@ use Rattle.qs_types.specs.Types.{TypeTree, unsigned, array, same_type, Structs}
 use Rattle.qs_types.specs.Layout.{and_then, array_extent, extent_within, layout_of, size_of, sized_by, is_sized}
 use Rattle.qs_types.specs.Rules.{keeps, breaks_one}
 use Rattle.qs_types.specs.declared.rules.Rule.TheVariants as rules
-use Rattle.qs_types.specs.Contexts.{Context, starred_type}
+use Rattle.qs_types.specs.Contexts.{Context, base_type, starred}
 use Rattle.qs_types.specs.Expressions.{type_or_void, type_of}
 use Rattle.qs_types.specs.Constants.{constant_of, length_within, length_of}
-use Rattle.qs_types.specs.Declarations.{all_typed, lengths_of, arrays, whole_lengths, element_tests, object_type, size_tests, object_declared, undeclared, declared, initialisers_count, text_of, length_by, variable_declared}
+use Rattle.qs_types.specs.Declarations.{all_typed, lengths_of, arrays, whole_lengths, element_tests, object_type, size_tests, undeclared, declared, initialisers_count, text_of, length_by, variable_declared, object_over, declared_over, plain_tests, plain_declared, has_brackets, type_name_declared}
 use Rattle.qs_meaning.specs.FitLaws.{is_filled}
 use Rattle.qs_meaning.proofs.Options.{never, nothing, went, Known, known}
 use Rattle.qs_meaning.proofs.FaultlessExpressions.{first_unbroken, second_unbroken}
 use Rattle.qs_meaning.proofs.TypedExpressions.{unless}
-use Rattle.qs_meaning.proofs.FitTypes.{is_small, sized_is}
-use Rattle.qs_meaning.proofs.FitSmall.{starred_small}
+use Rattle.qs_meaning.proofs.FitTypes.{is_small, sized_is, SmallNames}
+use Rattle.qs_meaning.proofs.FitSmall.{SmallOption, base_small, stars_small}
 
 -- ---- lengths (6.7.6.2p1)
 
@@ -96,31 +96,50 @@ has_size structs t small sized =
     let k : Known (sized_by (layout_of structs) t) = known _ sized in
     record { small = small; size = k.value.size; is = ap (λ o. and_then o (λ (e : Extent). Some e.size)) (sized_is (layout_of structs) t k.value k.is) }
 
-pub object_small : (c : Context) (base : Base) (stars : ℕ) (ns : Option (List ℕ)) (t : TypeTree) → ((ms : List ℕ) → ns ≡ Some ms → AllPositive ms)
-    → (object_declared c base stars ns).type ≡ Some t → SizedType c.structs t
-object_small c base stars ns t h e =
+pub object_small : (c : Context) (base : Option TypeTree) (stars : ℕ) (ns : Option (List ℕ)) (t : TypeTree) → SmallOption c.structs base
+    → ((ms : List ℕ) → ns ≡ Some ms → AllPositive ms) → (object_over c base stars ns).type ≡ Some t → SizedType c.structs t
+object_small c base stars ns t small h e =
     let before = element_tests c base stars ++ keeps rules.ArrayLength (is_some ns) in
-    let u = unless (before ++ size_tests c before (object_type c base stars ns)) (object_type c base stars ns) t e in
-    let sized = sized_kept (breaks_one before) (is_sized c.structs (object_type c base stars ns)) (first_unbroken before (size_tests c before (object_type c base stars ns)) u.unbroken)
-    (second_unbroken before (size_tests c before (object_type c base stars ns)) u.unbroken) in
-    subst (SizedType c.structs) u.type (has_size c.structs (object_type c base stars ns) (small ns h sized) sized)
+    let u = unless (before ++ size_tests c before (object_type base stars ns)) (object_type base stars ns) t e in
+    let sized = sized_kept (breaks_one before) (is_sized c.structs (object_type base stars ns)) (first_unbroken before (size_tests c before (object_type base stars ns)) u.unbroken)
+    (second_unbroken before (size_tests c before (object_type base stars ns)) u.unbroken) in
+    subst (SizedType c.structs) u.type (has_size c.structs (object_type base stars ns) (all_small ns h sized) sized)
   where
-    small : (ns : Option (List ℕ)) → ((ms : List ℕ) → ns ≡ Some ms → AllPositive ms) → is_sized c.structs (object_type c base stars ns) ≡ true
-        → is_small c.structs (object_type c base stars ns) ≡ true
-    small None h e = refl
-    small (Some ms) h e = arrays_small c.structs (type_or_void (starred_type c base stars)) ms (starred_small c base stars) (h ms refl) e
+    all_small : (ns : Option (List ℕ)) → ((ms : List ℕ) → ns ≡ Some ms → AllPositive ms) → is_sized c.structs (object_type base stars ns) ≡ true
+        → is_small c.structs (object_type base stars ns) ≡ true
+    all_small None h e = refl
+    all_small (Some ms) h e = arrays_small c.structs (type_or_void (starred base stars)) ms (stars_small c.structs base stars small) (h ms refl) e
 
-pub declared_small : (c : Context) (base : Base) (d : DeclaratorTree) (first : Option ℕ) (t : TypeTree) → IfPositive first → (declared c base d first).type ≡ Some t
-    → SizedType c.structs t
-declared_small c base d first t h e = go (all_typed c d.lengths.given) e
+over_small : (c : Context) (base : Option TypeTree) (d : DeclaratorTree) (first : Option ℕ) (t : TypeTree) → SmallOption c.structs base → IfPositive first
+    → (declared_over c base d first).type ≡ Some t → SizedType c.structs t
+over_small c base d first t small h e = go (all_typed c d.lengths.given) e
   where
     lengths : Option (List ℕ)
     lengths = whole_lengths d.lengths first (lengths_of c d.lengths.given)
 
-    go : (b : Bool) → (if b then object_declared c base d.stars lengths else undeclared).type ≡ Some t → SizedType c.structs t
-    go true e = object_small c base d.stars lengths t
+    go : (b : Bool) → (if b then object_over c base d.stars lengths else undeclared).type ≡ Some t → SizedType c.structs t
+    go true e = object_small c base d.stars lengths t small
         (λ ms p. whole_positive d.lengths first (lengths_of c d.lengths.given) ms h (lengths_positive c d.lengths.given) p) e
     go false e = nothing t e
+
+pub declared_small : (c : Context) → SmallNames c.structs c.type_names → (base : Base) (d : DeclaratorTree) (first : Option ℕ) (t : TypeTree) → IfPositive first
+    → (declared c base d first).type ≡ Some t → SizedType c.structs t
+declared_small c named base d first t h e = over_small c (base_type c base) d first t (base_small c.structs c.type_names named base) h e
+
+pub plain_small : (structs : Structs) (base : Option TypeTree) (stars : ℕ) (t : TypeTree) → SmallOption structs base → (plain_declared base stars).type ≡ Some t
+    → is_small structs t ≡ true
+plain_small structs base stars t small e =
+    let u = unless (plain_tests base) (type_or_void (starred base stars)) t e in
+    subst (λ z. is_small structs z ≡ true) u.type (stars_small structs base stars small)
+
+-- the type that a type name gets is small
+pub type_name_small : (c : Context) (base : Option TypeTree) (d : DeclaratorTree) (t : TypeTree) → SmallOption c.structs base → (type_name_declared c base d).type ≡ Some t
+    → is_small c.structs t ≡ true
+type_name_small c base d t small e = go (has_brackets d.lengths) e
+  where
+    go : (b : Bool) → (if b then declared_over c base d None else plain_declared base d.stars).type ≡ Some t → is_small c.structs t ≡ true
+    go true e = (over_small c base d None t small (λ n p. nothing n p) e).small
+    go false e = plain_small c.structs base d.stars t small e
 
 -- ---- variables
 
@@ -138,6 +157,6 @@ first_positive (Some (trees.list node (initialiser_and i is))) h n e = subst (λ
     positive : (n : ℕ) → 1 ≤ suc n
     positive n = omega arith
 
-pub variable_small : (c : Context) (base : Base) (v : VariableTree) (t : TypeTree) → is_filled v.initialiser ≡ true → (variable_declared c base v).type ≡ Some t
+pub variable_small : (c : Context) → SmallNames c.structs c.type_names → (base : Base) (v : VariableTree) (t : TypeTree) → is_filled v.initialiser ≡ true → (variable_declared c base v).type ≡ Some t
     → SizedType c.structs t
-variable_small c base v t h e = declared_small c base v.declarator (length_by v.initialiser) t (first_positive v.initialiser h) e
+variable_small c named base v t h e = declared_small c named base v.declarator (length_by v.initialiser) t (first_positive v.initialiser h) e

@@ -663,7 +663,7 @@ module _ (i : Interface) (g : Function) (called : List ℕ → Bool) (there : Te
       }))
 
   named_small : (name : TypeName) (t : TypeTree) → named_type c name ≡ Some t → is_small types t ≡ true
-  named_small name t e = subst (λ o. is_small types (type_or_void o) ≡ true) e (starred_small c name.base name.stars)
+  named_small name t e = subst (λ o. is_small types (type_or_void o) ≡ true) e (starred_small c place.named name.base name.stars)
 
   mutual
     pub expression_there : (e : ExprTree) (a : TypedExpr) → is_sure called there e ≡ true → typed s e ≡ Some a → FormFits i g a.type a.form

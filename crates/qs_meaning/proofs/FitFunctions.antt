@@ -1,5 +1,5 @@
 -- The typed tree of a function fits, and has the signature that its header gives.
-use Rattle.std.proofs.Common.{◌≡◌, ◌⊎◌, inl, inr, ℕ, nat_lt, Bool, true, false, cond, not, List, [], ◌∷◌, ◌++◌, length, map, filter, Option, Some, None, is_some, option_map, refl, sym, ap, ◌∙◌, subst, if◌then◌else◌, le-leb}
+use Rattle.std.proofs.Common.{◌≡◌, ◌⊎◌, inl, inr, ℕ, nat_lt, Bool, true, false, cond, not, List, [], ◌∷◌, ◌++◌, length, map, filter, Option, Some, None, option_map, refl, sym, ap, ◌∙◌, subst, if◌then◌else◌, le-leb}
 use Rattle.std.proofs.lemmas.Bool.{eq-eqb, and_from}
 use Rattle.std.proofs.lemmas.Option.{same_Some}
 use Rattle.qs_base.specs.Bytes.{same_bytes}
@@ -16,12 +16,10 @@ use Rattle.qs_calls.specs.Starts.{Interface, signature_of}
 use Rattle.qs_types.specs.Types.{TypeTree, int, unsigned, char, void, pointer, array, struct, is_scalar, Structs}
 use Rattle.qs_types.specs.Layout.{and_then, size_of}
 use Rattle.qs_types.specs.GivenFunctions.{Signature, putchar_name, main_name}
-use Rattle.qs_types.specs.Rules.{keeps, test}
 use Rattle.qs_types.specs.declared.rules.Rule.TheVariants as rules
-use Rattle.qs_types.specs.Contexts.{Entity, local_variable, file_variable, function, given, Binding, Context, inner_scope, starred_type, is_void_base, base_type}
-use Rattle.qs_types.specs.Expressions.{type_or_void}
-use Rattle.qs_types.specs.Declarations.{undeclared, all_typed, lengths_of, object_declared, element_lengths, first_length, is_length, is_length_typed, is_array_parameter, array_parameter, held_parameter, plain_parameter, parameter_declared}
-use Rattle.qs_types.specs.UnitRules.{with_parameter, after_parameter, parameter_types, result_type, header_of, all_of, signature_by, body_context}
+use Rattle.qs_types.specs.Contexts.{Entity, local_variable, file_variable, function, given, Binding, Context, inner_scope, base_type}
+use Rattle.qs_types.specs.Declarations.{undeclared, all_typed, lengths_of, object_declared, element_lengths, first_length, is_length, is_length_typed, has_brackets, array_parameter, held_parameter, plain_parameter, parameter_declared, plain_declared}
+use Rattle.qs_types.specs.UnitRules.{with_parameter, after_parameter, parameter_types, result_type, header_of, all_of, signature_by, body_context, with_parameters}
 use Rattle.qs_types.specs.Placed.{Local, is_one_of, parameters_locals, statements_locals, addressed_in}
 use Rattle.qs_meaning.specs.Typed.{Expr, pointer_to, Lvalue, variable, object, local}
 use Rattle.qs_meaning.specs.Typed as typed_trees
@@ -32,13 +30,13 @@ use Rattle.qs_meaning.specs.Units.{placed_among, plain_among, variables_among, l
 use Rattle.qs_meaning.specs.Interfaces.{types_of, signature}
 use Rattle.qs_meaning.specs.Fits.{is_size, place_fits, are_small}
 use Rattle.qs_meaning.proofs.Options.{never, nothing, went}
-use Rattle.qs_meaning.proofs.TypedExpressions.{unless}
-use Rattle.qs_meaning.proofs.FitTypes.{is_small, SmallTable, size_room}
+use Rattle.qs_meaning.proofs.FitTypes.{is_small, SmallTable, size_room, SmallNames, small_decayed}
 use Rattle.qs_meaning.proofs.FitLeaves.{Places, scalar_signature, EntityFits, AllFit}
-use Rattle.qs_meaning.proofs.FitSmall.{starred_small}
+use Rattle.qs_meaning.proofs.FitSmall.{SmallOption, base_small}
 use Rattle.qs_meaning.proofs.FitInitialisers.{LocalPlace, in_variable, in_block}
-use Rattle.qs_meaning.proofs.FitDeclarations.{AllPositive, lengths_positive, object_small}
+use Rattle.qs_meaning.proofs.FitDeclarations.{AllPositive, lengths_positive, object_small, plain_small}
 use Rattle.qs_meaning.proofs.FitLocals.{In, SmallLocals}
+use Rattle.qs_types.specs.Conversions.{decayed}
 
 -- ---- names at file scope
 
@@ -78,14 +76,22 @@ pointed_small : (structs : Structs) (o : Option TypeTree) (t : TypeTree) → ((u
 pointed_small structs None t h e = nothing t e
 pointed_small structs (Some u) t h e = subst (λ z. is_small structs z ≡ true) (same_Some _ t e) (h u refl)
 
-pub parameter_small : (c : Context) (p : ParameterTree) (t : TypeTree) → (parameter_declared c p).type ≡ Some t → is_small c.structs t ≡ true
-parameter_small c p t e =
-    go (is_array_parameter p.lengths) (all_typed c (element_lengths p.lengths)) (is_length_typed c (first_length p.lengths)) e
+adjusted_small : (structs : Structs) (o : Option TypeTree) (t : TypeTree) → ((u : TypeTree) → o ≡ Some u → is_small structs u ≡ true) → option_map decayed o ≡ Some t
+    → is_small structs t ≡ true
+adjusted_small structs None t h e = nothing t e
+adjusted_small structs (Some u) t h e = subst (λ z. is_small structs z ≡ true) (same_Some _ t e) (small_decayed structs u (h u refl))
+
+pub parameter_small : (c : Context) → SmallNames c.structs c.type_names → (p : ParameterTree) (t : TypeTree) → (parameter_declared c p).type ≡ Some t → is_small c.structs t ≡ true
+parameter_small c named p t e =
+    go (has_brackets p.lengths) (all_typed c (element_lengths p.lengths)) (is_length_typed c (first_length p.lengths)) e
   where
+    small : SmallOption c.structs (base_type c p.type_name.base)
+    small = base_small c.structs c.type_names named p.type_name.base
+
     pointer_small : (ns : Option (List ℕ)) → ((ms : List ℕ) → ns ≡ Some ms → AllPositive ms)
         → option_map pointer (object_declared c p.type_name.base p.type_name.stars ns).type ≡ Some t → is_small c.structs t ≡ true
     pointer_small ns h e = pointed_small c.structs (object_declared c p.type_name.base p.type_name.stars ns).type t
-        (λ u q. (object_small c p.type_name.base p.type_name.stars ns u h q).small) e
+        (λ u q. (object_small c (base_type c p.type_name.base) p.type_name.stars ns u small h q).small) e
 
     chosen : (b : Bool) (ms : List ℕ) → (if b then lengths_of c (element_lengths p.lengths) else None) ≡ Some ms → AllPositive ms
     chosen true ms q = lengths_positive c (element_lengths p.lengths) ms q
@@ -94,10 +100,8 @@ parameter_small c p t e =
     go : (is_array typed first_is_typed : Bool)
         → (if not is_array then plain_parameter c p else if not typed then undeclared else if first_is_typed then array_parameter c p else held_parameter c p).type ≡ Some t
         → is_small c.structs t ≡ true
-    go false typed first e =
-        let u = unless (keeps rules.UnknownTag (is_some (base_type c p.type_name.base)) ++ test rules.IncompleteType (is_void_base p.type_name.base))
-        (type_or_void (starred_type c p.type_name.base p.type_name.stars)) t e in
-        subst (λ z. is_small c.structs z ≡ true) u.type (starred_small c p.type_name.base p.type_name.stars)
+    go false typed first e = adjusted_small c.structs (plain_declared (base_type c p.type_name.base) p.type_name.stars).type t
+        (λ u q. plain_small c.structs (base_type c p.type_name.base) p.type_name.stars u small q) e
     go true true true e = pointer_small (if is_length c (first_length p.lengths) then lengths_of c (element_lengths p.lengths) else None)
         (chosen (is_length c (first_length p.lengths))) e
     go true true false e = pointer_small (lengths_of c (element_lengths p.lengths)) (λ ms q. lengths_positive c (element_lengths p.lengths) ms q) e
@@ -110,12 +114,30 @@ after_structs c p = go p.name
     go None = refl
     go (Some x) = refl
 
-pub parameters_small : (ps : List ParameterTree) (c : Context) → SmallLocals c.structs (parameters_locals ps (parameter_types c ps))
-parameters_small [] c = tt
-parameters_small (p ∷ ps) c = (
-  λ t e. parameter_small c p t e,
-  subst (λ z. SmallLocals z (parameters_locals ps (parameter_types (after_parameter c p) ps))) (after_structs c p) (parameters_small ps (after_parameter c p)),
+after_named : (c : Context) (p : ParameterTree) → SmallNames c.structs c.type_names → SmallNames (after_parameter c p).structs (after_parameter c p).type_names
+after_named c p named = go p.name
+  where
+    go : (x : Option (List ℕ)) → SmallNames (with_parameter c p (parameter_declared c p).type x).structs (with_parameter c p (parameter_declared c p).type x).type_names
+    go None = named
+    go (Some x) = named
+
+pub parameters_small : (ps : List ParameterTree) (c : Context) → SmallNames c.structs c.type_names → SmallLocals c.structs (parameters_locals ps (parameter_types c ps))
+parameters_small [] c named = tt
+parameters_small (p ∷ ps) c named = (
+  λ t e. parameter_small c named p t e,
+  subst (λ z. SmallLocals z (parameters_locals ps (parameter_types (after_parameter c p) ps))) (after_structs c p)
+      (parameters_small ps (after_parameter c p) (after_named c p named)),
 )
+
+pub with_parameters_named : (ps : List ParameterTree) (ts : List (Option TypeTree)) (c : Context) → SmallNames c.structs c.type_names
+    → SmallNames (with_parameters c ps ts).structs (with_parameters c ps ts).type_names
+with_parameters_named [] ts c named = named
+with_parameters_named (p ∷ ps) [] c named = named
+with_parameters_named (p ∷ ps) (t ∷ ts) c named = with_parameters_named ps ts (with_parameter c p t p.name) (go p.name)
+  where
+    go : (x : Option (List ℕ)) → SmallNames (with_parameter c p t x).structs (with_parameter c p t x).type_names
+    go None = named
+    go (Some x) = named
 
 -- ---- lists of locals
 

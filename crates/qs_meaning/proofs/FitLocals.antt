@@ -23,7 +23,7 @@ use Rattle.qs_meaning.specs.Names.{place_among}
 use Rattle.qs_meaning.specs.Units.{nodes_of, scalars_of, sizes_of}
 use Rattle.qs_meaning.specs.FitLaws.{are_different, is_filled, variables_filled, start_filled, statement_filled, statements_filled, else_filled}
 use Rattle.qs_meaning.proofs.Options.{never}
-use Rattle.qs_meaning.proofs.FitTypes.{is_small}
+use Rattle.qs_meaning.proofs.FitTypes.{is_small, SmallNames}
 use Rattle.qs_meaning.proofs.FitDeclarations.{variable_small}
 
 -- ---- lists in others, in order
@@ -341,40 +341,69 @@ statement_structs (break node) c = refl
 statement_structs (continue node) c = refl
 statement_structs (return node e) c = refl
 
-variables_small : (vs : List VariableTree) (c : Context) (base : Base) → variables_filled vs ≡ true → SmallLocals c.structs (variables_locals c base vs)
-variables_small [] c base h = tt
-variables_small (v ∷ vs) c base h =
-    (λ t e. (variable_small c base v t (first_so _ _ h) e).small, variables_small vs (after_variable false c base v) base (second_so (is_filled v.initialiser) _ h))
+-- the types of type names are small where an expression or a statement stands
+abbrev Named : Context → Type 0
+Named c = SmallNames c.structs c.type_names
 
-start_small : (start : StartTree) (c : Context) → start_filled start ≡ true → SmallLocals c.structs (start_locals c start)
-start_small no_start c h = tt
-start_small (start_expression e) c h = tt
-start_small (start_declaration d) c h = variables_small d.variables c d.base h
+pub variables_named : (at_file_scope : Bool) (base : Base) (vs : List VariableTree) (c : Context) → SmallNames c.structs c.type_names
+    → SmallNames (after_variables at_file_scope c base vs).structs (after_variables at_file_scope c base vs).type_names
+variables_named at_file_scope base [] c named = named
+variables_named at_file_scope base (v ∷ vs) c named = variables_named at_file_scope base vs (after_variable at_file_scope c base v) named
+
+start_named : (start : StartTree) (c : Context) → Named c → Named (after_start c start)
+start_named no_start c named = named
+start_named (start_expression e) c named = named
+start_named (start_declaration d) c named = variables_named false d.base d.variables c named
+
+statement_named : (t : StmtTree) (c : Context) → Named c → Named (after_statement c t)
+statement_named (declaration d) c named = variables_named false d.base d.variables c named
+statement_named (empty node) c named = named
+statement_named (expression node e) c named = named
+statement_named (block ss) c named = named
+statement_named (branch node e t r) c named = named
+statement_named (while_loop node e t) c named = named
+statement_named (do_loop node t e) c named = named
+statement_named (for_loop node start e u t) c named = named
+statement_named (break node) c named = named
+statement_named (continue node) c named = named
+statement_named (return node e) c named = named
+
+variables_small : (vs : List VariableTree) (c : Context) → Named c → (base : Base) → variables_filled vs ≡ true → SmallLocals c.structs (variables_locals c base vs)
+variables_small [] c named base h = tt
+variables_small (v ∷ vs) c named base h = (
+  λ t e. (variable_small c named base v t (first_so _ _ h) e).small,
+  variables_small vs (after_variable false c base v) named base (second_so (is_filled v.initialiser) _ h),
+)
+
+start_small : (start : StartTree) (c : Context) → Named c → start_filled start ≡ true → SmallLocals c.structs (start_locals c start)
+start_small no_start c named h = tt
+start_small (start_expression e) c named h = tt
+start_small (start_declaration d) c named h = variables_small d.variables c named d.base h
 
 mutual
-  statement_small : (t : StmtTree) (c : Context) → statement_filled t ≡ true → SmallLocals c.structs (statement_locals c t)
-  statement_small (empty node) c h = tt
-  statement_small (expression node e) c h = tt
-  statement_small (declaration d) c h = variables_small d.variables c d.base h
-  statement_small (block ss) c h = statements_small ss (inner_scope c) h
-  statement_small (branch node e t r) c h =
-      small_both c.structs (statement_locals (inner_scope c) t) (else_locals c r) (statement_small t (inner_scope c) (first_so _ _ h)) (else_small r c (second_so (statement_filled t) _ h))
-  statement_small (while_loop node e t) c h = statement_small t (inside_loop (inner_scope c)) h
-  statement_small (do_loop node t e) c h = statement_small t (inside_loop (inner_scope c)) h
-  statement_small (for_loop node start e u t) c h =
+  statement_small : (t : StmtTree) (c : Context) → Named c → statement_filled t ≡ true → SmallLocals c.structs (statement_locals c t)
+  statement_small (empty node) c named h = tt
+  statement_small (expression node e) c named h = tt
+  statement_small (declaration d) c named h = variables_small d.variables c named d.base h
+  statement_small (block ss) c named h = statements_small ss (inner_scope c) named h
+  statement_small (branch node e t r) c named h =
+      small_both c.structs (statement_locals (inner_scope c) t) (else_locals c r) (statement_small t (inner_scope c) named (first_so _ _ h)) (else_small r c named (second_so (statement_filled t) _ h))
+  statement_small (while_loop node e t) c named h = statement_small t (inside_loop (inner_scope c)) named h
+  statement_small (do_loop node t e) c named h = statement_small t (inside_loop (inner_scope c)) named h
+  statement_small (for_loop node start e u t) c named h =
       let inside = inside_loop (inner_scope (for_context c start)) in
-      small_both c.structs (start_locals (inner_scope c) start) (statement_locals inside t) (start_small start (inner_scope c) (first_so _ _ h))
-      (subst (λ z. SmallLocals z (statement_locals inside t)) (start_structs start (inner_scope c)) (statement_small t inside (second_so (start_filled start) _ h)))
-  statement_small (break node) c h = tt
-  statement_small (continue node) c h = tt
-  statement_small (return node e) c h = tt
+      small_both c.structs (start_locals (inner_scope c) start) (statement_locals inside t) (start_small start (inner_scope c) named (first_so _ _ h))
+      (subst (λ z. SmallLocals z (statement_locals inside t)) (start_structs start (inner_scope c)) (statement_small t inside (start_named start (inner_scope c) named) (second_so (start_filled start) _ h)))
+  statement_small (break node) c named h = tt
+  statement_small (continue node) c named h = tt
+  statement_small (return node e) c named h = tt
 
-  pub statements_small : (ss : Stmts) (c : Context) → statements_filled ss ≡ true → SmallLocals c.structs (statements_locals c ss)
-  statements_small no_stmts c h = tt
-  statements_small (stmt_and t ts) c h =
-      small_both c.structs (statement_locals c t) (statements_locals (after_statement c t) ts) (statement_small t c (first_so _ _ h))
-      (subst (λ z. SmallLocals z (statements_locals (after_statement c t) ts)) (statement_structs t c) (statements_small ts (after_statement c t) (second_so (statement_filled t) _ h)))
+  pub statements_small : (ss : Stmts) (c : Context) → Named c → statements_filled ss ≡ true → SmallLocals c.structs (statements_locals c ss)
+  statements_small no_stmts c named h = tt
+  statements_small (stmt_and t ts) c named h =
+      small_both c.structs (statement_locals c t) (statements_locals (after_statement c t) ts) (statement_small t c named (first_so _ _ h))
+      (subst (λ z. SmallLocals z (statements_locals (after_statement c t) ts)) (statement_structs t c) (statements_small ts (after_statement c t) (statement_named t c named) (second_so (statement_filled t) _ h)))
 
-  else_small : (r : Else) (c : Context) → else_filled r ≡ true → SmallLocals c.structs (else_locals c r)
-  else_small no_else c h = tt
-  else_small (else_by t) c h = statement_small t (inner_scope c) h
+  else_small : (r : Else) (c : Context) → Named c → else_filled r ≡ true → SmallLocals c.structs (else_locals c r)
+  else_small no_else c named h = tt
+  else_small (else_by t) c named h = statement_small t (inner_scope c) named h

@@ -1,5 +1,5 @@
 -- A unit that is read is as the laws on typed trees ask: its nodes have different numbers, its constants are words and its texts bytes, and its lists are filled.
-use Rattle.std.proofs.Common.{◌≡◌, ◌<◌, ℕ, ◌+◌, ◌==◌, ◌^◌, nat_lt, Bool, true, false, not, ◌||◌, List, [], ◌∷◌, ◌++◌, Option, Some, refl, sym, ap, ◌∙◌, subst, arith, if◌then◌else◌}
+use Rattle.std.proofs.Common.{◌≡◌, ◌<◌, ℕ, ◌+◌, ◌==◌, ◌^◌, nat_lt, Bool, true, false, not, ◌||◌, List, [], ◌∷◌, ◌++◌, Option, Some, None, refl, sym, ap, ◌∙◌, subst, arith, if◌then◌else◌}
 use Rattle.std.specs.List.{list_all}
 use Rattle.std.proofs.lemmas.Bool.Decides.{nat_tests}
 use Rattle.std.proofs.lemmas.List.Folds.{list_all-append}
@@ -11,26 +11,29 @@ use Rattle.qs_base.specs.Names.{is_name}
 use Rattle.qs_syntax.specs.declared.nodes.Node.{Node}
 use Rattle.qs_syntax.specs.declared.types.Base.{Base}
 use Rattle.qs_syntax_vocabulary.specs.declared.terminal.Terminal.{Terminal}
+use Rattle.qs_syntax_vocabulary.specs.declared.terminal.Terminal.TheVariants as terminals
+use Rattle.qs_syntax_vocabulary.specs.Marks.{NameSet, is_in, mark, marked}
 use Rattle.qs_syntax.specs.Units.{Reading}
 use Rattle.qs_syntax_vocabulary.specs.WellFormed.{is_byte, is_well_formed}
-use Rattle.qs_syntax.specs.Trees.{ExprTree, Exprs, LengthsTree, DeclaratorTree, InitialiserTree, Initialisers, VariableTree, DeclarationTree, ParameterTree, MembersTree, StartTree, StmtTree, Stmts, FunctionTree, DeclTree, UnitTree}
+use Rattle.qs_syntax.specs.Trees.{ExprTree, Exprs, LengthsTree, DeclaratorTree, InitialiserTree, Initialisers, VariableTree, DeclarationTree, ParameterTree, MembersTree, StartTree, StmtTree, Stmts, DefinedTree, FunctionTree, DeclTree, UnitTree}
 use Rattle.qs_syntax.specs.Trees as trees
-use Rattle.qs_syntax.specs.Nodes.{all_count, option_count, start_count, stmt_count, expr_count, declarator_count, variable_count, parameter_count, members_count, decl_count, unit_nodes}
-use Rattle.qs_syntax.specs.Numbering.{relabel_nodes, relabel_all, relabel_option, relabel_expr, relabel_exprs, relabel_lengths, relabel_declarator, relabel_initialiser, relabel_initialisers, relabel_variable, relabel_parameter, relabel_members, relabel_start, relabel_stmt, relabel_stmts, relabel_function, relabel_decl, numbered}
+use Rattle.qs_syntax.specs.Nodes.{all_count, option_count, start_count, stmt_count, expr_count, declarator_count, variable_count, parameter_count, members_count, defined_count, decl_count, unit_nodes}
+use Rattle.qs_syntax.specs.Numbering.{relabel_nodes, relabel_all, relabel_option, relabel_expr, relabel_exprs, relabel_lengths, relabel_declarator, relabel_initialiser, relabel_initialisers, relabel_variable, relabel_parameter, relabel_members, relabel_start, relabel_stmt, relabel_stmts, relabel_defined, relabel_function, relabel_decl, numbered}
 use Rattle.qs_syntax.specs.Reads.{Form, Reads, ReadsArguments, ReadsTexts, no_text, a_further_text, place, a_name, an_empty_call, a_call, a_constant, a_text, in_parentheses, an_index, a_member, an_increment_after, a_decrement_after, a_postfix, an_increment, a_decrement, an_operator, a_size_of_type, a_size_of_value, a_cast, an_operand, stronger, an_operation, a_plain_level, a_choice, a_plain_conditional, an_assignment, a_plain_assignment, a_comma, a_last_argument, an_argument}
 use Rattle.qs_syntax.specs.ReadsDeclarations.{ReadsGiven, no_length, a_length, ReadsLengths, are_given, first_open, ReadsDeclarator, a_declarator, ReadsInitialiser, a_value, a_list, ReadsInitialisers, a_last_initialiser, a_last_with_comma, an_initialiser, ReadsVariable, an_unset_variable, a_set_variable, ReadsVariables, a_last_variable, a_variable, ReadsDeclaration, a_declaration, ReadsOuterDeclaration, an_outer_declaration, ReadsDeclarators, a_last_member, ReadsMembers, a_group, ReadsAllMembers, a_last_group, a_further_group, ReadsParameter, a_named_parameter, an_unnamed_parameter, ReadsParameters, a_last_parameter, a_parameter, ReadsHead, no_parameter, a_void_head, some_parameters}
 use Rattle.qs_syntax.specs.ReadsDeclarations as declarations
 use Rattle.qs_syntax.specs.ReadsStatements.{ReadsOptional, nothing_there, something_there, ReadsStart, a_start_declaration, a_start_expression, no_start_at_all, ReadsStatement, a_block, an_empty, an_expression, an_if, an_if_with_else, a_while, a_do, a_for, a_break, a_continue, a_return, ReadsItem, a_statement, a_declared, ReadsItems, no_item, an_item}
-use Rattle.qs_syntax.specs.ReadsUnits.{ReadsExternal, a_struct_with_members, a_forward, a_header, a_definition, some_variables, ReadsUnit, a_last_external, an_external}
+use Rattle.qs_syntax.specs.ReadsTypes.{Names}
+use Rattle.qs_syntax.specs.ReadsUnits.{ReadsPlain, a_struct_with_members, a_forward, a_header, a_definition, some_variables, ReadsDefined, a_struct_with_tag, a_struct_without_tag, a_known_type, ReadsTypeNames, a_last_name, a_name_before, ReadsExternal, a_plain_external, a_typedef, ReadsExternals, a_last_external, an_external}
 use Rattle.qs_syntax.proofs.NodeLaws.{unit_at}
 use Rattle.qs_types.specs.Types.{TypeTree}
 use Rattle.qs_types.specs.Contexts.{Context, start_context, inner_scope, inside_loop}
 use Rattle.qs_types.specs.InitialiserRules.{option_part}
 use Rattle.qs_types.specs.Placed.{is_one_of}
 use Rattle.qs_types.specs.StatementRules.{after_variable, after_statement, for_context}
-use Rattle.qs_types.specs.Sites.{Site, site, sites, option_sites, declarator_sites, declarators_sites, initialiser_sites, elements_sites, variable_sites, variables_sites, start_sites, statement_sites, statements_sites, members_sites, parameters_sites, declaration_sites, declarations_sites}
-use Rattle.qs_types.specs.UnitRules.{with_tag, body_context, after_declaration}
-use Rattle.qs_meaning.specs.FitLaws.{are_different, numbers_differ, literals_fit, all_literals_fit, unit_literals_fit, is_filled, variables_filled, start_filled, statement_filled, statements_filled, has_declarators, members_filled, declaration_filled, lists_are_filled, IsAsRead, ReadIsAsRead}
+use Rattle.qs_types.specs.Sites.{Site, site, sites, option_sites, declarator_sites, declarators_sites, initialiser_sites, elements_sites, variable_sites, variables_sites, start_sites, statement_sites, statements_sites, members_sites, defined_sites, type_names_sites, parameters_sites, declaration_sites, declarations_sites}
+use Rattle.qs_types.specs.UnitRules.{with_option_tag, after_defined, defined_type, after_type_name, body_context, after_declaration}
+use Rattle.qs_meaning.specs.FitLaws.{are_different, numbers_differ, literals_fit, all_literals_fit, unit_literals_fit, is_filled, variables_filled, start_filled, statement_filled, statements_filled, has_declarators, members_filled, defined_filled, declaration_filled, lists_are_filled, IsAsRead, ReadIsAsRead}
 use Rattle.qs_meaning.proofs.Options.{all_left, all_right}
 use Rattle.qs_meaning.proofs.FitLocals.{ids}
 
@@ -62,6 +65,23 @@ front xs ys h = all_left is_well_formed xs ys h
 back : (xs ys : List Terminal) → In (xs ++ ys) → In ys
 back xs ys h = all_right is_well_formed xs ys h
 
+-- whatever names are types'
+pub marked_in : (set : NameSet) (ts : List Terminal) → list_all is_well_formed ts ≡ true → list_all is_well_formed (marked set ts) ≡ true
+marked_in set [] h = refl
+marked_in set (t ∷ ts) h = and_from _ _ (one t ∙ first_so _ _ h) (marked_in set ts (second_so (is_well_formed t) _ h))
+  where
+    named : (b : Bool) (at : ℕ) (x : List ℕ) → is_well_formed (if b then terminals.TypeName at x else terminals.Name at x) ≡ is_name x
+    named true at x = refl
+    named false at x = refl
+
+    one : (t : Terminal) → is_well_formed (mark set t) ≡ is_well_formed t
+    one (terminals.Name at x) = named (is_in set x) at x
+    one (terminals.TypeName at x) = named (is_in set x) at x
+    one (terminals.Keyword at k) = refl
+    one (terminals.Constant at n unsigned) = refl
+    one (terminals.Text at bytes) = refl
+    one (terminals.Punctuator at m) = refl
+
 -- 6.4.4.1: a constant is a value of its type
 word : (n : ℕ) (unsigned : Bool) → nat_lt n (if unsigned then 2 ^ 32 else 2 ^ 31) ≡ true → nat_lt n (2 ^ 32) ≡ true
 word n true h = h
@@ -86,7 +106,7 @@ mutual
   expr_read (a_text {bytes = bytes} at first r) i n = list_all-append is_byte first bytes ∙ and_from _ _ (first_so _ _ i) (texts_read r (second_so (list_all is_byte first) _ i))
   expr_read (in_parentheses {ts = ts} o c r) i n = expr_read r (front ts _ i) n
   expr_read (an_index {xs = xs} {ys = ys} {a = a} {b = b} o c r s) i n = and_from _ _ (expr_read r (front xs _ i) _) (expr_read s (front ys _ (back xs _ i)) _)
-  expr_read (a_member {xs = xs} access d k x r) i n = expr_read r (front xs _ i) _
+  expr_read (a_member {xs = xs} access d r x) i n = expr_read r (front xs _ i) _
   expr_read (an_increment_after {xs = xs} s r) i n = expr_read r (front xs _ i) _
   expr_read (a_decrement_after {xs = xs} s r) i n = expr_read r (front xs _ i) _
   expr_read (a_postfix r) i n = expr_read r i n
@@ -128,8 +148,8 @@ lengths_read : {h : ℕ} {ts : List Terminal} {l : LengthsTree} → ReadsLengths
 lengths_read (are_given r) i n c = given_read r i n c
 lengths_read (first_open o k r) i n c = given_read r i n c
 
-declarator_read : {h : ℕ} {ts : List Terminal} {d : DeclaratorTree} → ReadsDeclarator h ts d → In ts → (n : ℕ) (c : Context) → are_fine (declarator_sites c (relabel_declarator numbered n d)) ≡ true
-declarator_read (a_declarator {xs = xs} at x s r) i n c = lengths_read r (second_so (is_name x) _ (back xs _ i)) _ c
+declarator_read : {names : Names} {h : ℕ} {ts : List Terminal} {d : DeclaratorTree} → ReadsDeclarator names h ts d → In ts → (n : ℕ) (c : Context) → are_fine (declarator_sites c (relabel_declarator numbered n d)) ≡ true
+declarator_read (a_declarator {xs = xs} {t = t} s x r) i n c = lengths_read r (second_so (is_well_formed t) _ (back xs _ i)) _ c
 
 mutual
   initialiser_read : {h : ℕ} {ts : List Terminal} {x : InitialiserTree} → ReadsInitialiser h ts x → In ts → (n : ℕ) (file : Bool) (c : Context) (t : Option TypeTree)
@@ -322,25 +342,50 @@ both_read : (f : FunctionTree) (ss : Stmts) (c : Context) → are_fine (paramete
 both_read f ss c h k =
     let x = k (body_context c f) in record { fine = two (parameters_sites (inner_scope c) f.parameters) (statements_sites (body_context c f) ss) h x.fine; full = x.full }
 
-external_read : {h : ℕ} {ts : List Terminal} {d : DeclTree} → ReadsExternal h ts d → In ts → (n : ℕ) (c : Context)
+plain_read : {h : ℕ} {ts : List Terminal} {d : DeclTree} → ReadsPlain h ts d → In ts → (n : ℕ) (c : Context)
     → StatementRead (declaration_sites c (relabel_decl numbered n d)) (declaration_filled (relabel_decl numbered n d))
-external_read (a_struct_with_members {ts = ts} at m o k s x r) i n c =
-    let y = all_members_read r (front ts _ (second_so (is_name x) _ i)) _ (with_tag c x) in record { fine = y.0; full = y.1 }
-external_read (a_forward at m s x) i n c = record { fine = refl; full = refl }
-external_read (a_header {xs = xs} {ys = ys} {zs = zs} {ps = ps} m o k s x t u r) i n c = record {
+plain_read (a_struct_with_members {t = t} {ts = ts} {x = x} at o k s y r) i n c =
+    let z = all_members_read r (front ts _ (second_so (is_well_formed t) _ i)) _ (with_option_tag c (Some x)) in record { fine = z.0; full = z.1 }
+plain_read (a_forward at s x) i n c = record { fine = refl; full = refl }
+plain_read (a_header {xs = xs} {ys = ys} {zs = zs} {ps = ps} m o k s x t u r) i n c = record {
   fine = two (parameters_sites (inner_scope c) (relabel_all numbered parameter_count (relabel_parameter numbered) (n + 1) ps)) []
       (head_read r (front zs _ (second_so (is_name x) _ (back ys _ (back xs _ i)))) (n + 1) (inner_scope c)) refl;
   full = refl;
 }
-external_read (a_definition {m = stars} {xs = xs} {ys = ys} {zs = zs} {ws = ws} {base = base} {ps = ps} {ss = ss} m o k b e x t u r q) i n c =
+plain_read (a_definition {m = stars} {xs = xs} {ys = ys} {zs = zs} {ws = ws} {base = base} {ps = ps} {ss = ss} m o k b e x t u r q) i n c =
     let behind = second_so (is_name x) _ (back ys _ (back xs _ i)) in
     both_read
     (relabel_function numbered n (record { node = trees.unnumbered (place xs); result_type = record { base = base; stars = stars }; name = x; parameters = ps; body = Some ss }))
     (relabel_stmts numbered (n + 1 + all_count parameter_count ps) ss) c (head_read r (front zs _ behind) (n + 1) (inner_scope c))
     (λ d. items_read q (front ws _ (back zs _ behind)) (n + 1 + all_count parameter_count ps) d)
-external_read (some_variables {d = d} r) i n c = let x = outer_read r i n in record { fine = x.sites true c d.base; full = x.filled }
+plain_read (some_variables {d = d} r) i n c = let x = outer_read r i n in record { fine = x.sites true c d.base; full = x.filled }
 
-unit_read : {h : ℕ} {ts : List Terminal} {ds : List DeclTree} → ReadsUnit h ts ds → In ts → (n : ℕ) (c : Context)
+-- the struct that a typedef defines
+defined_read : {h : ℕ} {ts : List Terminal} {d : DefinedTree} → ReadsDefined h ts d → In ts → (n : ℕ) (c : Context)
+    → StatementRead (defined_sites c (relabel_defined numbered n d)) (defined_filled (relabel_defined numbered n d))
+defined_read (a_struct_with_tag {t = t} {ts = ts} {x = x} at o k y r) i n c =
+    let z = all_members_read r (front ts _ (second_so (is_well_formed t) _ i)) _ (with_option_tag c (Some x)) in record { fine = z.0; full = z.1 }
+defined_read (a_struct_without_tag {ts = ts} at o k r) i n c =
+    let z = all_members_read r (front ts _ i) _ (with_option_tag c None) in record { fine = z.0; full = z.1 }
+defined_read (a_known_type r) i n c = record { fine = refl; full = refl }
+
+type_names_read : {set : NameSet} {h : ℕ} {ts : List Terminal} {ds : List DeclaratorTree} → ReadsTypeNames set h ts ds → In ts → (n : ℕ) (c : Context) (base : Option TypeTree)
+    → are_fine (type_names_sites c base (relabel_all numbered declarator_count (relabel_declarator numbered) n ds)) ≡ true
+type_names_read (a_last_name {set = set} {ts = ts} {d = d} r) i n c base =
+    two (declarator_sites c (relabel_declarator numbered n d)) [] (declarator_read r (marked_in set ts i) n c) refl
+type_names_read (a_name_before {set = set} {d = d} xs at r s) i n c base =
+    two (declarator_sites c (relabel_declarator numbered n d)) _ (declarator_read r (marked_in set xs (front xs _ i)) n c)
+    (type_names_read s (back xs _ i) _ (after_type_name c base (relabel_declarator numbered n d)) base)
+
+external_read : {set : NameSet} {h : ℕ} {ts : List Terminal} {d : DeclTree} → ReadsExternal set h ts d → In ts → (n : ℕ) (c : Context)
+    → StatementRead (declaration_sites c (relabel_decl numbered n d)) (declaration_filled (relabel_decl numbered n d))
+external_read (a_plain_external {set = set} {ts = ts} r) i n c = plain_read r (marked_in set ts i) n c
+external_read (a_typedef {set = set} {ys = ys} {defined = d} {ds = ds} xs at s r q) i n c =
+    let x = defined_read r (marked_in set xs (front xs _ i)) n c in
+    let names = type_names_read q (front ys _ (back xs _ i)) (n + defined_count d) (after_defined c (relabel_defined numbered n d)) (defined_type c (relabel_defined numbered n d)) in
+    record { fine = two (defined_sites c (relabel_defined numbered n d)) _ x.fine names; full = x.full }
+
+unit_read : {set : NameSet} {h : ℕ} {ts : List Terminal} {ds : List DeclTree} → ReadsExternals set h ts ds → In ts → (n : ℕ) (c : Context)
     → StatementRead (declarations_sites c (relabel_all numbered decl_count (relabel_decl numbered) n ds)) (lists_are_filled (relabel_all numbered decl_count (relabel_decl numbered) n ds))
 unit_read (a_last_external {d = d} r) i n c = let x = external_read r i n c in record { fine = two (declaration_sites c (relabel_decl numbered n d)) [] x.fine refl; full = and_from _ _ x.full refl }
 unit_read (an_external {xs = xs} {d = d} {ds = ds} r s) i n c =

@@ -7,7 +7,7 @@ use Rattle.std.proofs.lemmas.Option.{same_Some}
 use Rattle.qs_base.specs.Bytes.{same_bytes}
 use Rattle.qs_base.proofs.ByteLaws.{bytes_exact}
 use Rattle.qs_syntax.specs.declared.types.Base.{Base}
-use Rattle.qs_syntax.specs.Trees.{StructTree, VariableTree, FunctionTree, Stmts, DeclTree, structure, forward, function, variables, UnitTree}
+use Rattle.qs_syntax.specs.Trees.{StructTree, VariableTree, FunctionTree, Stmts, DeclTree, structure, forward, function, variables, UnitTree, DeclaratorTree, DefinedTree, of_struct, of_base, TypedefTree, typedef}
 use Rattle.qs_memory.proofs.Options.{followed}
 use Rattle.qs_calls.specs.Starts as starts
 use Rattle.qs_types.specs.WellTyped.{entity_has_body}
@@ -16,12 +16,12 @@ use Rattle.qs_types.specs.GivenFunctions.{Signature}
 use Rattle.qs_types.specs.Rules.{Fault, test, breaks_one, faults_of}
 use Rattle.qs_types.specs.declared.rules.Rule.TheVariants as rules
 use Rattle.qs_types.specs.Layout.{and_then, layout_of, member_types, sized_layout, with_members}
-use Rattle.qs_types.specs.Contexts.{Entity, local_variable, file_variable, given, Binding, Context, lookup, tag_place, is_declared_here}
+use Rattle.qs_types.specs.Contexts.{Entity, local_variable, file_variable, given, Binding, Context, lookup, tag_place, is_declared_here, add_type, is_type_name, is_taken}
 use Rattle.qs_types.specs.Contexts as contexts
-use Rattle.qs_types.specs.Declarations.{all_typed, lengths_faults, variable_declared}
+use Rattle.qs_types.specs.Declarations.{all_typed, lengths_faults, variable_declared, type_name_declared}
 use Rattle.qs_types.specs.InitialiserRules.{initialiser_tests}
 use Rattle.qs_types.specs.StatementRules.{after_variable, after_variables, again_tests, variable_tests, variable_faults, option_initialiser_faults, variables_faults}
-use Rattle.qs_types.specs.UnitRules.{with_tag, no_members, after_members, has_no_members, define_at, after_struct, body_context, Header, header_of, all_of, signature_by, may_be, may_all_be, agree, agrees_with, may_declare, declared_function, after_function, function_faults, after_declaration, declaration_faults, declarations_faults, context_after}
+use Rattle.qs_types.specs.UnitRules.{with_tag, no_members, after_members, has_no_members, define_at, after_struct, body_context, Header, header_of, all_of, signature_by, may_be, may_all_be, agree, agrees_with, may_declare, declared_function, after_function, function_faults, after_declaration, declaration_faults, declarations_faults, context_after, with_new_tag, with_option_tag, option_place, after_defined, defined_type, after_type_name, after_type_names, after_typedef}
 use Rattle.qs_types.specs.Placed.{statements_locals, addressed_in}
 use Rattle.qs_meaning.specs.Typed.{Function, TypedProgram}
 use Rattle.qs_meaning.specs.Names.{Scope, within, function_number}
@@ -33,11 +33,12 @@ use Rattle.qs_meaning.proofs.FaultlessExpressions.{none_left, none_right, unbrok
 use Rattle.qs_meaning.proofs.Bindings.{has_types}
 use Rattle.qs_meaning.proofs.Bodies.{lengths_typed, not_held_back}
 use Rattle.qs_meaning.proofs.FunctionsTyped.{file_sound}
-use Rattle.qs_meaning.proofs.StructTables.{with_tag_known, after_struct_known}
+use Rattle.qs_meaning.proofs.StructTables.{with_tag_known, after_struct_known, after_typedef_known}
 use Rattle.qs_meaning.proofs.FileVariables.{file_variables_known}
 use Rattle.qs_meaning.proofs.UnitsTyped.{header_unbroken, header_signature, after_function_known}
 use Rattle.qs_meaning.proofs.FitLeaves.{scalar_signature}
 use Rattle.qs_meaning.proofs.FitFunctions.{made, signature_there}
+use Rattle.qs_syntax.specs.declared.types.Base.TheVariants as bases
 
 -- ---- types that agree
 
@@ -133,9 +134,13 @@ in_context c d x s e h = record { node = h.node; body = h.body; is = ap (lookup 
 tag_inner : (c : Context) (tag : List ℕ) → (with_tag c tag).inner ≡ c.inner
 tag_inner c tag = go (is_some (tag_place c tag))
   where
-    go : (b : Bool) → (if b then c else record c { structs = c.structs ++ None ∷ []; tags = c.tags ++ tag ∷ [] }).inner ≡ c.inner
+    go : (b : Bool) → (if b then c else with_new_tag c tag).inner ≡ c.inner
     go true = refl
     go false = refl
+
+option_inner : (c : Context) (tag : Option (List ℕ)) → (with_option_tag c tag).inner ≡ c.inner
+option_inner c None = refl
+option_inner c (Some tag) = tag_inner c tag
 
 define_inner : (c : Context) (ms : List MemberTree) (o : Option ℕ) → (define_at c ms o).inner ≡ c.inner
 define_inner c ms None = refl
@@ -147,13 +152,34 @@ define_inner c ms (Some k) = go (has_no_members (slice_get c.structs k))
 
 struct_inner : (c : Context) (s : StructTree) → (after_struct c s).inner ≡ c.inner
 struct_inner c s =
-    define_inner (with_tag c s.name) (after_members (with_tag c s.name) no_members s.members).members (tag_place (with_tag c s.name) s.name) ∙ tag_inner c s.name
+    define_inner (with_option_tag c s.name) (after_members (with_option_tag c s.name) no_members s.members).members (option_place c s.name) ∙ option_inner c s.name
+
+defined_inner : (c : Context) (d : DefinedTree) → (after_defined c d).inner ≡ c.inner
+defined_inner c (of_struct s) = struct_inner c s
+defined_inner c (of_base bases.Void) = refl
+defined_inner c (of_base bases.Int) = refl
+defined_inner c (of_base bases.Unsigned) = refl
+defined_inner c (of_base bases.Char) = refl
+defined_inner c (of_base (bases.Struct tag)) = tag_inner c tag
+defined_inner c (of_base (bases.Named x)) = refl
+
+type_names_inner : (c : Context) (base : Option TypeTree) (ds : List DeclaratorTree) → (after_type_names c base ds).inner ≡ c.inner
+type_names_inner c base [] = refl
+type_names_inner c base (d ∷ ds) = type_names_inner (after_type_name c base d) base ds ∙ go (is_type_name c d.name)
+  where
+    go : (b : Bool) → (if b then c else record c { type_names = add_type c.type_names d.name (type_name_declared c base d).type }).inner ≡ c.inner
+    go true = refl
+    go false = refl
+
+pub typedef_inner : (c : Context) (t : TypedefTree) → (after_typedef c t).inner ≡ c.inner
+typedef_inner c t = type_names_inner (after_defined c t.defined) (defined_type c t.defined) t.names ∙ defined_inner c t.defined
 
 -- ---- what goes on behind a declaration
 
 pub file_after : (s₀ : Scope) (c : Context) (d : DeclTree) → IsFileScope c → declaration_faults c d ≡ [] → IsFileScope (after_declaration c d)
 file_after s₀ c (structure s) h f = after_struct_known c s h
 file_after s₀ c (forward g) h f = with_tag_known c g.name h
+file_after s₀ c (typedef t) h f = after_typedef_known c t h
 file_after s₀ c (function g) h f = after_function_known s₀ c g h f
 file_after s₀ c (variables d) h f = (file_variables_known s₀ d.variables c d.base h f).scope
 
@@ -174,19 +200,23 @@ variable_new s₀ c base v h f =
     (lengths_faults c v.declarator.lengths.given ++ option_initialiser_faults true after (variable_declared c base v).type v.initialiser) f in
     let initialiser = none_right (lengths_faults c v.declarator.lengths.given) (option_initialiser_faults true after (variable_declared c base v).type v.initialiser) parts in
     let typed_lengths = lengths_typed c (has_types (within s₀ c) [] (file_sound s₀ c [] h)) v.declarator.lengths.given (none_left _ _ parts) in
-    let whole_tests = ap (λ b. breaks_one (if b then [] else again_tests c v ++
+    let whole_tests = ap (λ b. breaks_one (if b then [] else again_tests true c v ++
     ((variable_declared c base v).tests ++ initialiser_tests true after (variable_declared c base v).type v.initialiser)))
     (sym (not_held_back true after (variable_declared c base v).type v.initialiser initialiser))
     ∙ unbroken v.declarator.node.id tests (none_left (faults_of v.declarator.node.id tests) _ f) in
     again (all_typed c v.declarator.lengths.given) typed_lengths
-    (first_unbroken (again_tests c v) ((variable_declared c base v).tests ++ initialiser_tests true after (variable_declared c base v).type v.initialiser) whole_tests)
+    (first_unbroken (again_tests true c v) ((variable_declared c base v).tests ++ initialiser_tests true after (variable_declared c base v).type v.initialiser) whole_tests)
   where
     only : (b : Bool) → (b || false) ≡ false → b ≡ false
     only true e = e
     only false e = refl
 
-    again : (b : Bool) → b ≡ true → breaks_one (if b then test rules.DeclaredTwice (is_declared_here c v.declarator.name) else []) ≡ false → is_declared_here c v.declarator.name ≡ false
-    again true e k = only (is_declared_here c v.declarator.name) k
+    neither : (a b : Bool) → (a || b) ≡ false → b ≡ false
+    neither true b e = never (sym e)
+    neither false b e = e
+
+    again : (b : Bool) → b ≡ true → breaks_one (if b then test rules.DeclaredTwice (is_taken true c v.declarator.name) else []) ≡ false → is_declared_here c v.declarator.name ≡ false
+    again true e k = neither (is_type_name c v.declarator.name) (is_declared_here c v.declarator.name) (only (is_taken true c v.declarator.name) k)
     again false e k = never e
 
 other : (x y : List ℕ) → (same_bytes x y ≡ true → false ≡ true) → same_bytes x y ≡ false
@@ -218,7 +248,7 @@ module _ (s₀ : Scope) (x : List ℕ) (s : Signature) where
       go false e = record { node = d.node; body = d.body; is = other_name x _ c.inner e ∙ d.is }
       go true e =
           let here = ap (λ z. lookup z c.inner) ((bytes_exact f.name x).0 e) ∙ d.is in
-          let may = kept_first (may_declare c f) _ (header_unbroken s₀ c f h faults) in
+          let may = second_so (not (is_type_name c f.name)) _ (kept_first (may_declare c f) _ (header_unbroken s₀ c f h faults)) in
           let agrees = first_so (agree (Some s) (header_of c f)) _ (subst (λ o. agrees_with o (header_of c f) (is_some f.body) ≡ true) here may) in
           let signature = header_signature s₀ c f h faults in
           record {
@@ -236,6 +266,7 @@ module _ (s₀ : Scope) (x : List ℕ) (s : Signature) where
   declaration_persists : (d : DeclTree) (c : Context) → IsFileScope c → declaration_faults c d ≡ [] → Declared c x s → Declared (after_declaration c d) x s
   declaration_persists (structure t) c h f k = in_context c (after_struct c t) x s (struct_inner c t) k
   declaration_persists (forward g) c h f k = in_context c (with_tag c g.name) x s (tag_inner c g.name) k
+  declaration_persists (typedef t) c h f k = in_context c (after_typedef c t) x s (typedef_inner c t) k
   declaration_persists (function g) c h f k = function_persist c g h f k
   declaration_persists (variables d) c h f k = variables_persist d.variables c d.base h f k
 
@@ -329,6 +360,7 @@ module _ (s₀ : Scope) (x : List ℕ) (s : Signature) where
           → slice_get (map signature (now.functions ++ fs)) (function_number x (functions_in (d ∷ ds))) ≡ Some (scalar_signature s)
       here (structure t) now own q fs go ends = none_here now fs (ap (λ (z : TypedProgram). z.functions) (sym (same_Some _ now q))) (go (ap (λ z. entity_has_body (lookup x z)) (struct_inner c t) ∙ b))
       here (forward g) now own q fs go ends = none_here now fs (ap (λ (z : TypedProgram). z.functions) (sym (same_Some _ now q))) (go (ap (λ z. entity_has_body (lookup x z)) (tag_inner c g.name) ∙ b))
+      here (typedef t) now own q fs go ends = none_here now fs (ap (λ (z : TypedProgram). z.functions) (sym (same_Some _ now q))) (go (ap (λ z. entity_has_body (lookup x z)) (typedef_inner c t) ∙ b))
       here (variables d) now own q fs go ends =
           let bs = followed (file_variables_typed (within s₀ c) d.base d.variables) _ now q in
           none_here now fs (ap (λ (z : TypedProgram). z.functions) (sym (same_Some _ now bs.then))) (go (variables_no_body d.variables c d.base b))
@@ -359,7 +391,7 @@ module _ (s₀ : Scope) (x : List ℕ) (s : Signature) where
               by_name : (t : Bool) → same_bytes f.name x ≡ t → (g : Function) → (r : Signature) → signature g ≡ scalar_signature r → signature_by (header_of c f) ≡ Some r → is_some f.body ≡ true
                   → slice_get (signature g ∷ map signature fs) (if same_bytes f.name x then 0 else function_number x (functions_in ds) + 1) ≡ Some (scalar_signature s)
               by_name true t g r k sig body =
-                  let d = with_body c f r ((bytes_exact f.name x).0 t) body (kept_first (may_declare c f) _ (header_unbroken s₀ c f h own)) sig in
+                  let d = with_body c f r ((bytes_exact f.name x).0 t) body (second_so (not (is_type_name c f.name)) _ (kept_first (may_declare c f) _ (header_unbroken s₀ c f h own))) sig in
                   ap (λ z. slice_get (signature g ∷ map signature fs) (if z then 0 else function_number x (functions_in ds) + 1)) t
                   ∙ ap Some (k ∙ ap scalar_signature (ends r d))
                 where

@@ -22,14 +22,14 @@ use Rattle.qs_types.specs.Layout.{and_then, is_complete, size_limit}
 use Rattle.qs_types.specs.Conversions.{decayed, promoted, arithmetic, common}
 use Rattle.qs_types.specs.Rules.{keeps, type_unless}
 use Rattle.qs_types.specs.declared.rules.Rule.TheVariants as rules
-use Rattle.qs_types.specs.Contexts.{Entity, local_variable, file_variable, function, given, Context, entity_of, tag_place, base_type, pointers, starred_type}
+use Rattle.qs_types.specs.Contexts.{Entity, local_variable, file_variable, function, given, Context, entity_of, base_type, pointers, starred_type, TypeNames, place_of, type_in, base_in, starred}
 use Rattle.qs_types.specs.Expressions.{Judged, judged, unary_judged, step_judged, cast_judged, type_or_void, sum_type, binary_judged, conditional_judged, assign_judged, subscript_judged, member_type, member_judged, name_judged, call_judged, type_of, shape_judged, types_of}
 use Rattle.qs_types.specs.References.{TextBlock}
 use Rattle.qs_meaning.specs.Typed.{Function}
 use Rattle.qs_meaning.specs.Names.{Scope}
 use Rattle.qs_meaning.proofs.Options.{never, nothing, went}
 use Rattle.qs_meaning.proofs.TypedExpressions.{unless}
-use Rattle.qs_meaning.proofs.FitTypes.{is_small, SmallTable, small_referenced, small_decayed, member_small}
+use Rattle.qs_meaning.proofs.FitTypes.{is_small, SmallTable, small_referenced, small_decayed, member_small, SmallNames}
 use Rattle.qs_meaning.proofs.FitLeaves.{is_sure, shape_sure, is_short, places, EntityFits}
 
 -- ---- named types
@@ -38,21 +38,33 @@ pub pointers_small : (structs : Structs) (stars : ℕ) (t : TypeTree) → is_sma
 pointers_small structs zero t h = h
 pointers_small structs (suc stars) t h = pointers_small structs stars t h
 
-base_small : (c : Context) (base : Base) (t : TypeTree) → base_type c base ≡ Some t → is_small c.structs t ≡ true
-base_small c bases.Void t e = subst (λ z. is_small c.structs z ≡ true) (same_Some _ t e) refl
-base_small c bases.Int t e = subst (λ z. is_small c.structs z ≡ true) (same_Some _ t e) refl
-base_small c bases.Unsigned t e = subst (λ z. is_small c.structs z ≡ true) (same_Some _ t e) refl
-base_small c bases.Char t e = subst (λ z. is_small c.structs z ≡ true) (same_Some _ t e) refl
-base_small c (bases.Struct tag) t e =
-    let w = went (tag_place c tag) (λ k. Some (struct k)) t e in
-    subst (λ z. is_small c.structs z ≡ true) (same_Some _ t w.gave) refl
+-- the type is small, where there is one
+abbrev pub SmallOption : Structs → Option TypeTree → Type 0
+SmallOption structs None = Unit {0}
+SmallOption structs (Some t) = is_small structs t ≡ true
 
-pub starred_small : (c : Context) (base : Base) (stars : ℕ) → is_small c.structs (type_or_void (starred_type c base stars)) ≡ true
-starred_small c base stars = go (base_type c base) refl
+pub base_small : (structs : Structs) (names : TypeNames) → SmallNames structs names → (base : Base) → SmallOption structs (base_in names base)
+base_small structs names named bases.Void = refl
+base_small structs names named bases.Int = refl
+base_small structs names named bases.Unsigned = refl
+base_small structs names named bases.Char = refl
+base_small structs names named (bases.Struct tag) = go (place_of tag names.tags)
   where
-    go : (o : Option TypeTree) → base_type c base ≡ o → is_small c.structs (type_or_void (and_then o (λ t. Some (pointers stars t)))) ≡ true
-    go None e = refl
-    go (Some t) e = pointers_small c.structs stars t (base_small c base t e)
+    go : (o : Option ℕ) → SmallOption structs (and_then o (λ k. Some (struct k)))
+    go None = tt
+    go (Some k) = refl
+base_small structs names named (bases.Named x) = go (type_in x names) refl
+  where
+    go : (o : Option TypeTree) → type_in x names ≡ o → SmallOption structs o
+    go None e = tt
+    go (Some t) e = named.each x t e
+
+pub stars_small : (structs : Structs) (base : Option TypeTree) (stars : ℕ) → SmallOption structs base → is_small structs (type_or_void (starred base stars)) ≡ true
+stars_small structs None stars h = refl
+stars_small structs (Some t) stars h = pointers_small structs stars t h
+
+pub starred_small : (c : Context) → SmallNames c.structs c.type_names → (base : Base) (stars : ℕ) → is_small c.structs (type_or_void (starred_type c base stars)) ≡ true
+starred_small c named base stars = stars_small c.structs (base_type c base) stars (base_small c.structs c.type_names named base)
 
 -- ---- results of operators
 
@@ -140,6 +152,7 @@ module _ (structs : Structs) where
 pub record Place (i : Interface) (g : Function) (called : List ℕ → Bool) (s : Scope) (c : Context) : Type 0 where
   pub entities : (x : List ℕ) (e : Entity) → entity_of c x ≡ Some e → EntityFits i g called (places s) c.structs x e
   pub table : SmallTable c.structs
+  pub named : SmallNames c.structs c.type_names
 
 module _ (i : Interface) (g : Function) (called : List ℕ → Bool) (there : TextBlock → Bool) (s : Scope) (c : Context) (place : Place i g called s c)
     (short : (t : TextBlock) → there t ≡ true → is_short t ≡ true) where
@@ -205,7 +218,7 @@ module _ (i : Interface) (g : Function) (called : List ℕ → Bool) (there : Te
     shape_small (trees.sizeof_type name) id j sure e = small_at _ j e refl
     shape_small (trees.cast name a) id j sure e =
         let w = went (type_of c a) (λ t. Some (cast_judged c name a (decayed t))) j e in
-        small_at _ j w.gave (starred_small c name.base name.stars)
+        small_at _ j w.gave (starred_small c place.named name.base name.stars)
     shape_small (trees.binary operator a b) id j sure e =
         let x = went (type_of c a) (λ t. and_then (type_of c b) (λ u. Some (binary_judged c.structs operator a (decayed t) b (decayed u)))) j e in
         let y = went (type_of c b) (λ u. Some (binary_judged c.structs operator a (decayed x.value) b (decayed u))) j x.gave in

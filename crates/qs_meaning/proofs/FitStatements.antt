@@ -39,7 +39,7 @@ use Rattle.qs_meaning.proofs.FaultlessExpressions.{HasTypes, none_left, none_rig
 use Rattle.qs_meaning.proofs.TypedExpressions.{kept}
 use Rattle.qs_meaning.proofs.Bodies.{not_held_back}
 use Rattle.qs_meaning.proofs.FitForms.{FormFits, result_of, scalar_solid, in_use, effect_there, becomes_there, null_value, assignable}
-use Rattle.qs_meaning.proofs.FitTypes.{is_small, SmallTable}
+use Rattle.qs_meaning.proofs.FitTypes.{is_small, SmallTable, SmallNames}
 use Rattle.qs_meaning.proofs.FitLeaves.{is_sure, is_short, places, EntityFits, AllFit, entity_found, names_typed}
 use Rattle.qs_meaning.proofs.FitSmall.{Place}
 use Rattle.qs_meaning.proofs.FitExpressions.{typed_type, expression_there}
@@ -85,21 +85,26 @@ module _ (i : Interface) (g : Function) (called : List ℕ → Bool) (there : Te
     pub names : AllFit i g called (places s₀) structs (c.inner ++ c.outer)
     pub result : (t : TypeTree) → c.result ≡ Some t → g.result ≡ result_scalar (Some t)
     pub loop : c.in_loop ≡ true → in_loop ≡ true
+    pub named : SmallNames structs c.type_names
+
+  named_at : (b : Bool) (c : Context) → InBody b c → SmallNames c.structs c.type_names
+  named_at b c h = subst (λ z. SmallNames z c.type_names) (sym h.same_structs) h.named
 
   place_of : (b : Bool) (c : Context) → InBody b c → Place i g called (within s₀ c) c
   place_of b c h = record {
     entities = λ x e p. subst (λ z. EntityFits i g called (places s₀) z x e) (sym h.same_structs) (entity_found i g called (places s₀) structs (c.inner ++ c.outer) x e h.names p);
     table = subst SmallTable (sym h.same_structs) table;
+    named = named_at b c h;
   }
 
   types_of : (b : Bool) (c : Context) → InBody b c → HasTypes c
   types_of b c h = names_typed i g called (places s₀) structs c h.names
 
   inner_body : (b : Bool) (c : Context) → InBody b c → InBody b (inner_scope c)
-  inner_body b c h = record { same_structs = h.same_structs; names = h.names; result = h.result; loop = h.loop }
+  inner_body b c h = record { same_structs = h.same_structs; names = h.names; result = h.result; loop = h.loop; named = h.named }
 
   loop_body : (b : Bool) (c : Context) → InBody b c → InBody true (inside_loop (inner_scope c))
-  loop_body b c h = record { same_structs = h.same_structs; names = h.names; result = h.result; loop = λ e. refl }
+  loop_body b c h = record { same_structs = h.same_structs; names = h.names; result = h.result; loop = λ e. refl; named = h.named }
 
   form_there : (b : Bool) (c : Context) → InBody b c → (e : ExprTree) (a : TypedExpr) → is_sure called there e ≡ true → typed (within s₀ c) e ≡ Some a → FormFits i g a.type a.form
   form_there b c h e a sure q = expression_there i g called there (within s₀ c) (place_of b c h) short blocks e a sure q
@@ -113,6 +118,7 @@ module _ (i : Interface) (g : Function) (called : List ℕ → Bool) (there : Te
     names = (subst (λ o. EntityFits i g called (places s₀) structs v.declarator.name (local_variable v.declarator.node.id o)) (sym p) (l.fits, small), h.names);
     result = h.result;
     loop = h.loop;
+    named = h.named;
   }
 
   initialised_there : (b : Bool) (c : Context) → InBody b c → (node : ℕ) (t : TypeTree) → LocalIs node t → SizedType c.structs t → (init : Option InitialiserTree) (set : Effect)
@@ -154,15 +160,15 @@ module _ (i : Interface) (g : Function) (called : List ℕ → Bool) (there : Te
       let tests = variable_tests false c after base v in
       let parts = none_right (faults_of v.declarator.node.id tests) (lengths_faults c v.declarator.lengths.given ++ option_initialiser_faults false after (variable_declared c base v).type v.initialiser) own in
       let initialiser = none_right (lengths_faults c v.declarator.lengths.given) (option_initialiser_faults false after (variable_declared c base v).type v.initialiser) parts in
-      let whole_tests = ap (λ b. breaks_one (if b then [] else again_tests c v ++
+      let whole_tests = ap (λ b. breaks_one (if b then [] else again_tests false c v ++
       ((variable_declared c base v).tests ++ initialiser_tests false after (variable_declared c base v).type v.initialiser)))
       (sym (not_held_back false after (variable_declared c base v).type v.initialiser initialiser))
       ∙ unbroken v.declarator.node.id tests (none_left (faults_of v.declarator.node.id tests) _ own) in
-      let later_tests = second_unbroken (again_tests c v) ((variable_declared c base v).tests ++ initialiser_tests false after (variable_declared c base v).type v.initialiser) whole_tests in
+      let later_tests = second_unbroken (again_tests false c v) ((variable_declared c base v).tests ++ initialiser_tests false after (variable_declared c base v).type v.initialiser) whole_tests in
       let own_tests = second_unbroken (variable_declared c base v).tests (initialiser_tests false after (variable_declared c base v).type v.initialiser) later_tests in
       let here = sure_left (variable_sites false c after base v) (variables_sites false after base vs) sure in
       let own_sure = sure_right (declarator_sites c v.declarator) (option_initialiser_sites false after (variable_declared c base v).type v.initialiser) here in
-      let d = variable_small c base v t.value (first_so _ _ filled) t.first in
+      let d = variable_small c (named_at b c h) base v t.value (first_so _ _ filled) t.first in
       let l = locals.0 t.value t.first in
       let body = variable_body b c h base v t.value t.first l (subst (λ z. is_small z t.value ≡ true) h.same_structs d.small) in
       let rest = variables_there vs b after base later.value body (none_right (variable_faults false c after base v) (variables_faults false after base vs) faults)

@@ -1,5 +1,5 @@
 -- What is small stays so where structs are declared and defined.
-use Rattle.std.proofs.Common.{◌≡◌, ◌≤◌, ◌⊎◌, inl, inr, ℕ, ◌+◌, nat_le, max, Bool, true, false, ◌&&◌, List, [], ◌∷◌, ◌++◌, Option, Some, None, is_some, slice_set, refl, sym, ap, ◌∙◌, subst, arith, if◌then◌else◌}
+use Rattle.std.proofs.Common.{◌≡◌, ◌≤◌, ◌⊎◌, inl, inr, ℕ, ◌+◌, nat_le, max, Bool, true, false, ◌&&◌, List, [], ◌∷◌, ◌++◌, Option, Some, None, is_some, slice_set, refl, sym, ap, ◌∙◌, subst, arith, if◌then◌else◌, length}
 use Rattle.std.specs.List.{list_all, slice_get}
 use Rattle.std.proofs.lemmas.Bool.Decides.{nat_tests}
 use Rattle.std.proofs.lemmas.List.Folds.{list_all-append}
@@ -7,17 +7,17 @@ use Rattle.std.proofs.lemmas.Bool.{and_from}
 use Rattle.std.specs.Cmp.{first_so, second_so}
 use Rattle.std.proofs.lemmas.Option.{same_Some}
 use Rattle.qs_syntax.specs.declared.types.Base.{Base}
-use Rattle.qs_syntax.specs.Trees.{DeclaratorTree, MembersTree, StructTree}
+use Rattle.qs_syntax.specs.Trees.{DeclaratorTree, MembersTree, StructTree, DefinedTree, of_struct, of_base, TypedefTree}
 use Rattle.qs_types.specs.declared.extent.Extent.{Extent}
 use Rattle.qs_types.specs.Types.{TypeTree, int, unsigned, char, void, pointer, array, struct, MemberTree, Structs}
 use Rattle.qs_types.specs.Types as types
 use Rattle.qs_types.specs.Layout.{and_then, StructLayout, Layouts, array_extent, struct_extent, struct_layout, extents_by, extent_of, end_from, rounded_up, strictest, member_types, struct_of, defined_structs, layout_of, size_limit, extent_within, layout_within, sized_by, all_sized_by, sized_layout, is_sized, with_members}
 use Rattle.qs_types.specs.Rules.{Test, test, breaks_one, faults_of}
 use Rattle.qs_types.specs.declared.rules.Rule.TheVariants as rules
-use Rattle.qs_types.specs.Contexts.{Context, tag_place}
-use Rattle.qs_types.specs.Declarations.{all_typed, Declared, declared}
-use Rattle.qs_types.specs.UnitRules.{with_tag, Before, no_members, has_room, option_extent, with_room_tests, member_declared, is_name_in, is_member, with_member, after_member, after_together, after_members, is_defined, has_no_members, define_at, after_struct, member_tests, member_faults, together_faults, members_faults, struct_faults}
-use Rattle.qs_meaning.specs.FitLaws.{has_declarators, members_filled}
+use Rattle.qs_types.specs.Contexts.{Context, tag_place, Tag, NamedType, named_in, type_in, add_type, is_type_name}
+use Rattle.qs_types.specs.Declarations.{all_typed, Declared, declared, type_name_declared}
+use Rattle.qs_types.specs.UnitRules.{with_tag, Before, no_members, has_room, option_extent, with_room_tests, member_declared, is_name_in, is_member, with_member, after_member, after_together, after_members, has_no_members, define_at, after_struct, member_tests, member_faults, together_faults, members_faults, struct_faults, with_new_tag, with_option_tag, option_place, is_option_defined, with_base_tag, after_defined, struct_at, defined_type, defined_faults, after_type_name, after_type_names, after_typedef, type_names_faults, typedef_faults}
+use Rattle.qs_meaning.specs.FitLaws.{has_declarators, members_filled, defined_filled}
 use Rattle.qs_meaning.specs.Names.{Scope, within}
 use Rattle.qs_meaning.specs.TypedLaws.{IsFileScope}
 use Rattle.qs_meaning.proofs.Options.{never, nothing, went, known}
@@ -26,10 +26,13 @@ use Rattle.qs_meaning.proofs.TypedExpressions.{kept}
 use Rattle.qs_meaning.proofs.Bindings.{has_types}
 use Rattle.qs_meaning.proofs.Bodies.{declared_known, lengths_typed}
 use Rattle.qs_meaning.proofs.FunctionsTyped.{file_sound}
-use Rattle.qs_meaning.proofs.StructTables.{GoesOn, Grown, extents_grow, layout_grows, some_grows, appended_back, appended_goes_on, set_keeps, IsNew, set_back, set_count, with_tag_known}
-use Rattle.qs_meaning.proofs.FitTypes.{is_small, IsRoom, SmallTable, sized_is, room, extents_positive, layouts_positive, rounded_above, ends_behind, laid_as}
+use Rattle.qs_meaning.proofs.StructTables.{GoesOn, Grown, extents_grow, layout_grows, some_grows, appended_back, appended_goes_on, set_keeps, IsNew, set_back, set_count, with_option_tag_known}
+use Rattle.qs_meaning.proofs.FitTypes.{is_small, IsRoom, SmallTable, sized_is, room, extents_positive, layouts_positive, rounded_above, ends_behind, laid_as, SmallNames}
 use Rattle.qs_meaning.proofs.FitLayouts.{laid}
-use Rattle.qs_meaning.proofs.FitDeclarations.{declared_small}
+use Rattle.qs_meaning.proofs.FitDeclarations.{declared_small, type_name_small}
+use Rattle.qs_syntax.specs.declared.types.Base.TheVariants as bases
+use Rattle.qs_base.specs.Bytes.{same_bytes}
+use Rattle.qs_meaning.proofs.FitSmall.{SmallOption, base_small}
 
 -- ---- types
 
@@ -80,9 +83,10 @@ pub record After (c d : Context) : Type 0 where
   pub inner : d.inner ≡ c.inner
   pub outer : d.outer ≡ c.outer
   pub in_loop : d.in_loop ≡ c.in_loop
+  pub named : SmallNames c.structs c.type_names → SmallNames d.structs d.type_names
 
 unchanged_after : (c : Context) → SmallTable c.structs → After c c
-unchanged_after c table = record { table = table; grows = λ t h. h; inner = refl; outer = refl; in_loop = refl }
+unchanged_after c table = record { table = table; grows = λ t h. h; inner = refl; outer = refl; in_loop = refl; named = λ n. n }
 
 pub after_next : (c d e : Context) → After c d → After d e → After c e
 after_next c d e h k = record {
@@ -91,14 +95,24 @@ after_next c d e h k = record {
   inner = k.inner ∙ h.inner;
   outer = k.outer ∙ h.outer;
   in_loop = k.in_loop ∙ h.in_loop;
+  named = λ n. k.named (h.named n);
 }
 
-pub tag_after : (c : Context) (tag : List ℕ) → IsFileScope c → SmallTable c.structs → After c (with_tag c tag)
-tag_after c tag h table = go (is_some (tag_place c tag))
+-- one more struct, with a tag or without
+appended_after : (c : Context) (tags : List Tag) → IsFileScope c → SmallTable c.structs
+    → After c (record c { structs = c.structs ++ None ∷ []; type_names = record c.type_names { tags = tags } })
+appended_after c tags h table = record {
+  table = record {
+    members = λ k ms e. members_grow c.structs (c.structs ++ None ∷ []) g ms (table.members k ms (appended_back c.structs k ms e));
+    sizes = size;
+  };
+  grows = small_grows c.structs (c.structs ++ None ∷ []) g;
+  inner = refl;
+  outer = refl;
+  in_loop = refl;
+  named = λ n. record { each = λ x t e. small_grows c.structs (c.structs ++ None ∷ []) g t (n.each x t e) };
+}
   where
-    more : Structs
-    more = c.structs ++ None ∷ []
-
     g : GoesOn c.structs (c.structs ++ None ∷ [])
     g = appended_goes_on c.structs
 
@@ -107,18 +121,16 @@ tag_after c tag h table = go (is_some (tag_place c tag))
         let a = laid_as (c.structs ++ None ∷ []) (defined_structs (c.structs ++ None ∷ [])) k l p in
         old_size c.structs (c.structs ++ None ∷ []) g table k l (h.laid_out k a.members (appended_back c.structs k a.members a.of)) p
 
-    go : (b : Bool) → After c (if b then c else record c { structs = c.structs ++ None ∷ []; tags = c.tags ++ tag ∷ [] })
+pub tag_after : (c : Context) (tag : List ℕ) → IsFileScope c → SmallTable c.structs → After c (with_tag c tag)
+tag_after c tag h table = go (is_some (tag_place c tag))
+  where
+    go : (b : Bool) → After c (if b then c else with_new_tag c tag)
     go true = unchanged_after c table
-    go false = record {
-      table = record {
-        members = λ k ms e. members_grow c.structs (c.structs ++ None ∷ []) g ms (table.members k ms (appended_back c.structs k ms e));
-        sizes = size;
-      };
-      grows = small_grows c.structs (c.structs ++ None ∷ []) g;
-      inner = refl;
-      outer = refl;
-      in_loop = refl;
-    }
+    go false = appended_after c (c.type_names.tags ++ record { name = tag; place = length c.structs } ∷ []) h table
+
+option_after : (c : Context) (tag : Option (List ℕ)) → IsFileScope c → SmallTable c.structs → After c (with_option_tag c tag)
+option_after c None h table = appended_after c c.type_names.tags h table
+option_after c (Some tag) h table = tag_after c tag h table
 
 -- ---- the members of a struct
 
@@ -195,6 +207,7 @@ module _ (c : Context) (h : IsFileScope c) (table : SmallTable c.structs) (k : �
     inner = refl;
     outer = refl;
     in_loop = refl;
+    named = λ n. record { each = λ x t e. small_grows c.structs more goes_on t (n.each x t e) };
   }
     where
       members_of : (j : ℕ) (ms : List MemberTree) → (struct_of c.structs j ≡ Some ms) ⊎ IsNew c.structs k new ms → list_all (λ (m : MemberTree). is_small more m.type) ms ≡ true
@@ -218,7 +231,7 @@ define_after c h table new (Some k) has small = given_members (has_no_members (s
 
     sized : (b : Bool) → is_some (sized_layout (layout_of c.structs) (member_types new)) ≡ b → struct_of c.structs k ≡ None
         → After c (record c { structs = with_members b c.structs k new })
-    sized false e n = record { table = table; grows = λ t h. h; inner = refl; outer = refl; in_loop = refl }
+    sized false e n = record { table = table; grows = λ t h. h; inner = refl; outer = refl; in_loop = refl; named = λ n. n }
     sized true e n = defined_after c h table k new n e has small
 
     given_members : (b : Bool) → has_no_members (slice_get c.structs k) ≡ b
@@ -228,7 +241,7 @@ define_after c h table new (Some k) has small = given_members (has_no_members (s
 
 -- ---- the members that a declaration gives
 
-module _ (c : Context) where
+module _ (c : Context) (named : SmallNames c.structs c.type_names) where
   abbrev AllSmall : List MemberTree → Type 0
   AllSmall ms = list_all (λ (m : MemberTree). is_small c.structs m.type) ms ≡ true
 
@@ -240,7 +253,7 @@ module _ (c : Context) where
       go false e = nothing t e
 
   member_is_small : (end : ℕ) (base : Base) (d : DeclaratorTree) (t : TypeTree) → (member_declared c end base d).type ≡ Some t → is_small c.structs t ≡ true
-  member_is_small end base d t e = (declared_small c base d None t (λ n p. nothing n p) (room_type end (declared c base d None) t e)).small
+  member_is_small end base d t e = (declared_small c named base d None t (λ n p. nothing n p) (room_type end (declared c base d None) t e)).small
 
   with_member_small : (before : Before) (x : List ℕ) (o : Option TypeTree) → ((t : TypeTree) → o ≡ Some t → is_small c.structs t ≡ true) → AllSmall before.members
       → AllSmall (with_member c.structs before x o).members
@@ -310,12 +323,96 @@ module _ (c : Context) where
       group [] e f = never e
       group (d ∷ ds) e f = together_any (after_member c no_members m.base d) m.base ds (first_any h s m.base d (none_left _ _ f))
 
-pub struct_after : (s₀ : Scope) (c : Context) (s : StructTree) → IsFileScope c → SmallTable c.structs → members_filled s.members ≡ true → struct_faults c s ≡ []
-    → After c (after_struct c s)
-struct_after s₀ c s h table filled f =
-    let tagged = tag_after c s.name h table in
-    let scope = with_tag_known c s.name h in
-    let faults = none_right (faults_of s.node.id (test rules.UnknownTag (is_defined c s.name))) (members_faults (with_tag c s.name) no_members s.members) f in
-    after_next c (with_tag c s.name) (after_struct c s) tagged
-    (define_after (with_tag c s.name) scope tagged.table (after_members (with_tag c s.name) no_members s.members).members (tag_place (with_tag c s.name) s.name)
-    (struct_any (with_tag c s.name) scope s₀ s.members filled faults) (members_small (with_tag c s.name) no_members s.members refl))
+pub struct_after : (s₀ : Scope) (c : Context) (s : StructTree) → IsFileScope c → SmallTable c.structs → SmallNames c.structs c.type_names → members_filled s.members ≡ true
+    → struct_faults c s ≡ [] → After c (after_struct c s)
+struct_after s₀ c s h table named filled f =
+    let opened = with_option_tag c s.name in
+    let tagged = option_after c s.name h table in
+    let scope = with_option_tag_known c s.name h in
+    let faults = none_right (faults_of s.node.id (test rules.UnknownTag (is_option_defined c s.name))) (members_faults opened no_members s.members) f in
+    let small = tagged.named named in
+    after_next c opened (after_struct c s) tagged
+    (define_after opened scope tagged.table (after_members opened no_members s.members).members (option_place c s.name)
+    (struct_any opened small scope s₀ s.members filled faults) (members_small opened small no_members s.members refl))
+
+-- ---- names of types
+
+base_after : (c : Context) (b : Base) → IsFileScope c → SmallTable c.structs → After c (with_base_tag c b)
+base_after c bases.Void h table = unchanged_after c table
+base_after c bases.Int h table = unchanged_after c table
+base_after c bases.Unsigned h table = unchanged_after c table
+base_after c bases.Char h table = unchanged_after c table
+base_after c (bases.Struct tag) h table = tag_after c tag h table
+base_after c (bases.Named x) h table = unchanged_after c table
+
+defined_after_all : (s₀ : Scope) (c : Context) (d : DefinedTree) → IsFileScope c → SmallTable c.structs → SmallNames c.structs c.type_names → defined_filled d ≡ true
+    → defined_faults c d ≡ [] → After c (after_defined c d)
+defined_after_all s₀ c (of_struct s) h table named filled f = struct_after s₀ c s h table named filled f
+defined_after_all s₀ c (of_base b) h table named filled f = base_after c b h table
+
+-- the type that gets names is small
+defined_small : (c : Context) (d : DefinedTree) → SmallNames (after_defined c d).structs (after_defined c d).type_names
+    → SmallOption (after_defined c d).structs (defined_type c d)
+defined_small c (of_struct s) named = go (option_place c s.name)
+  where
+    go : (o : Option ℕ) → SmallOption (after_struct c s).structs (struct_at o)
+    go None = tt
+    go (Some k) = refl
+defined_small c (of_base b) named = base_small (with_base_tag c b).structs (with_base_tag c b).type_names named b
+
+-- a name is one of those before, or the new one
+appended_named : (x y : List ℕ) (t : Option TypeTree) (ns : List NamedType) (u : TypeTree)
+    → and_then (named_in y (ns ++ record { name = x; type = t } ∷ [])) (λ t. t) ≡ Some u → (and_then (named_in y ns) (λ t. t) ≡ Some u) ⊎ (t ≡ Some u)
+appended_named x y t [] u e = go (same_bytes x y) e
+  where
+    go : (b : Bool) → and_then (if b then Some t else None) (λ t. t) ≡ Some u → (None ≡ Some u) ⊎ (t ≡ Some u)
+    go true e = inr e
+    go false e = inl e
+appended_named x y t (n ∷ ns) u e = go (same_bytes n.name y) (appended_named x y t ns u) e
+  where
+    go : (b : Bool) → (and_then (named_in y (ns ++ record { name = x; type = t } ∷ [])) (λ t. t) ≡ Some u → (and_then (named_in y ns) (λ t. t) ≡ Some u) ⊎ (t ≡ Some u))
+        → and_then (if b then Some n.type else named_in y (ns ++ record { name = x; type = t } ∷ [])) (λ t. t) ≡ Some u
+        → (and_then (if b then Some n.type else named_in y ns) (λ t. t) ≡ Some u) ⊎ (t ≡ Some u)
+    go true later e = inl e
+    go false later e = later e
+
+type_name_after : (c : Context) (base : Option TypeTree) (d : DeclaratorTree) → SmallTable c.structs → SmallOption c.structs base → After c (after_type_name c base d)
+type_name_after c base d table small = go (is_type_name c d.name)
+  where
+    go : (b : Bool) → After c (if b then c else record c { type_names = add_type c.type_names d.name (type_name_declared c base d).type })
+    go true = unchanged_after c table
+    go false = record {
+      table = table;
+      grows = λ t h. h;
+      inner = refl;
+      outer = refl;
+      in_loop = refl;
+      named = λ n. record { each = λ x t e. either n x t (appended_named d.name x (type_name_declared c base d).type c.type_names.types t e) };
+    }
+      where
+        either : SmallNames c.structs c.type_names → (x : List ℕ) (t : TypeTree) → (type_in x c.type_names ≡ Some t) ⊎ ((type_name_declared c base d).type ≡ Some t)
+            → is_small c.structs t ≡ true
+        either n x t (inl e) = n.each x t e
+        either n x t (inr e) = type_name_small c base d t small e
+
+same_structs_named : (c : Context) (base : Option TypeTree) (d : DeclaratorTree) → (after_type_name c base d).structs ≡ c.structs
+same_structs_named c base d = go (is_type_name c d.name)
+  where
+    go : (b : Bool) → (if b then c else record c { type_names = add_type c.type_names d.name (type_name_declared c base d).type }).structs ≡ c.structs
+    go true = refl
+    go false = refl
+
+type_names_after : (c : Context) (base : Option TypeTree) (ds : List DeclaratorTree) → SmallTable c.structs → SmallOption c.structs base → After c (after_type_names c base ds)
+type_names_after c base [] table small = unchanged_after c table
+type_names_after c base (d ∷ ds) table small =
+    let one = type_name_after c base d table small in
+    after_next c (after_type_name c base d) (after_type_names (after_type_name c base d) base ds) one
+    (type_names_after (after_type_name c base d) base ds one.table (subst (λ z. SmallOption z base) (sym (same_structs_named c base d)) small))
+
+pub typedef_after : (s₀ : Scope) (c : Context) (t : TypedefTree) → IsFileScope c → SmallTable c.structs → SmallNames c.structs c.type_names → defined_filled t.defined ≡ true
+    → typedef_faults c t ≡ [] → After c (after_typedef c t)
+typedef_after s₀ c t h table named filled f =
+    let next = after_defined c t.defined in
+    let first = defined_after_all s₀ c t.defined h table named filled (none_left (defined_faults c t.defined) (type_names_faults next (defined_type c t.defined) t.names) f) in
+    after_next c next (after_typedef c t) first
+    (type_names_after next (defined_type c t.defined) t.names first.table (defined_small c t.defined (first.named named)))

@@ -18,6 +18,7 @@ use Rattle.qs_memory.proofs.Options.{followed}
 use Rattle.qs_meaning.specs.Expressions.{member_number, member_offset}
 use Rattle.qs_meaning.proofs.Options.{nothing, went, Known, known}
 use Rattle.qs_meaning.proofs.FitConversions.{Elements}
+use Rattle.qs_types.specs.Contexts.{TypeNames, type_in}
 
 -- ---- alignments
 
@@ -138,6 +139,10 @@ pub record IsRoom (n : ℕ) : Type 0 where
 pub record SmallTable (structs : Structs) : Type 0 where
   pub members : (k : ℕ) (ms : List MemberTree) → struct_of structs k ≡ Some ms → list_all (λ (m : MemberTree). is_small structs m.type) ms ≡ true
   pub sizes : (k : ℕ) (l : StructLayout) → layout_of structs k ≡ Some l → IsRoom l.size
+
+-- the types that type names stand for are small
+pub record SmallNames (structs : Structs) (names : TypeNames) : Type 0 where
+  pub each : (x : List ℕ) (t : TypeTree) → type_in x names ≡ Some t → is_small structs t ≡ true
 
 pub record Within (e f : Extent) : Type 0 where
   pub is : e ≡ f

@@ -11,7 +11,7 @@ use Rattle.qs_base.specs.Bytes.{same_bytes}
 use Rattle.qs_base.proofs.ByteLaws.{bytes_exact}
 use Rattle.qs_syntax.specs.declared.nodes.Node.{Node}
 use Rattle.qs_syntax.specs.declared.types.Base.{Base}
-use Rattle.qs_syntax.specs.Trees.{VariableTree, FunctionTree, Stmts, DeclTree, structure, forward, function, variables, UnitTree}
+use Rattle.qs_syntax.specs.Trees.{VariableTree, FunctionTree, Stmts, DeclTree, structure, forward, function, variables, UnitTree, typedef}
 use Rattle.qs_syntax.specs.Nodes.{all_nodes, option_nodes, parameter_nodes, stmts_nodes, decl_nodes, unit_nodes}
 use Rattle.qs_memory.proofs.Options.{followed}
 use Rattle.qs_calls.specs.declared.callee.Callee.TheVariants as callees
@@ -24,7 +24,7 @@ use Rattle.qs_types.specs.Contexts as contexts
 use Rattle.qs_types.specs.Declarations.{variable_declared}
 use Rattle.qs_types.specs.Expressions.{type_or_void}
 use Rattle.qs_types.specs.StatementRules.{after_variable, after_variables, variable_faults, variables_faults}
-use Rattle.qs_types.specs.UnitRules.{with_tag, after_struct, is_void_pointer, result_type, header_of, all_of, signature_by, declared_function, after_function, body_context, function_faults, after_declaration, declaration_faults, declarations_faults, context_after}
+use Rattle.qs_types.specs.UnitRules.{with_tag, after_struct, is_void_pointer, result_type, header_of, all_of, signature_by, declared_function, after_function, body_context, function_faults, after_declaration, declaration_faults, declarations_faults, context_after, after_typedef}
 use Rattle.qs_types.specs.Placed.{is_one_of, statements_locals, addressed_in}
 use Rattle.qs_types.specs.References.{TextBlock, literal_blocks, unit_calls}
 use Rattle.qs_types.specs.Sites.{Site, parameters_sites, body_sites, declaration_sites, declarations_sites}
@@ -42,7 +42,7 @@ use Rattle.qs_meaning.proofs.Options.{never, nothing, all_left, all_right, went,
 use Rattle.qs_meaning.proofs.FaultlessExpressions.{none_left, none_right}
 use Rattle.qs_meaning.proofs.InitialMemory.{placed_below, declarations_count}
 use Rattle.qs_meaning.proofs.UnitsTyped.{header_signature, start_known}
-use Rattle.qs_meaning.proofs.FitTypes.{is_small, SmallTable}
+use Rattle.qs_meaning.proofs.FitTypes.{is_small, SmallTable, SmallNames}
 use Rattle.qs_meaning.proofs.FitLeaves.{is_short, scalar_signature}
 use Rattle.qs_meaning.proofs.FitSmall.{starred_small}
 use Rattle.qs_meaning.proofs.FitInitialisers.{site_sure}
@@ -50,7 +50,7 @@ use Rattle.qs_meaning.proofs.FitDeclarations.{variable_small}
 use Rattle.qs_meaning.proofs.FitLocals.{sub_front, sub_back, sub_same, sub_different, ids}
 use Rattle.qs_meaning.proofs.FitFunctions.{FileFits, AllFile, made}
 use Rattle.qs_meaning.proofs.FitBodies.{function_there}
-use Rattle.qs_meaning.proofs.FitTables.{After, tag_after, struct_after}
+use Rattle.qs_meaning.proofs.FitTables.{After, tag_after, struct_after, typedef_after}
 use Rattle.qs_meaning.proofs.FitSignatures.{file_after, variable_after, Declared, persists, found}
 use Rattle.qs_meaning.proofs.FitSites.{calls_in, text_in, nodes_of, unit_sure}
 
@@ -100,18 +100,18 @@ module _ (i : Interface) (called : List ℕ → Bool) (statics : Statics) (funct
   names_grow structs more g [] h = tt
   names_grow structs more g (b ∷ bs) h = (entity_grows structs more g b.name b.entity h.0, names_grow structs more g bs h.1)
 
-result_small : (c : Context) (f : FunctionTree) (t : TypeTree) → result_type c f ≡ Some t → is_small c.structs t ≡ true
-result_small c f t e = go (is_void_pointer f) e
+result_small : (c : Context) → SmallNames c.structs c.type_names → (f : FunctionTree) (t : TypeTree) → result_type c f ≡ Some t → is_small c.structs t ≡ true
+result_small c named f t e = go (is_void_pointer f) e
   where
     go : (b : Bool) → (if b then None else starred_type c f.result_type.base f.result_type.stars) ≡ Some t → is_small c.structs t ≡ true
     go true e = nothing t e
-    go false e = subst (λ o. is_small c.structs (type_or_void o) ≡ true) e (starred_small c f.result_type.base f.result_type.stars)
+    go false e = subst (λ o. is_small c.structs (type_or_void o) ≡ true) e (starred_small c named f.result_type.base f.result_type.stars)
 
-signature_small : (c : Context) (f : FunctionTree) (s : Signature) → signature_by (header_of c f) ≡ Some s → is_small c.structs s.result ≡ true
-signature_small c f s e =
+signature_small : (c : Context) → SmallNames c.structs c.type_names → (f : FunctionTree) (s : Signature) → signature_by (header_of c f) ≡ Some s → is_small c.structs s.result ≡ true
+signature_small c named f s e =
     let us = went (all_of (header_of c f).parameters) (λ ts. and_then (result_type c f) (λ t. Some (record { parameters = ts; result = t }))) s e in
     let t = went (result_type c f) (λ t. Some (record { parameters = us.value; result = t })) s us.gave in
-    subst (λ (z : Signature). is_small c.structs z.result ≡ true) (same_Some _ s t.gave) (result_small c f t.value t.had)
+    subst (λ (z : Signature). is_small c.structs z.result ≡ true) (same_Some _ s t.gave) (result_small c named f t.value t.had)
 
 -- ---- a unit
 
@@ -175,6 +175,7 @@ module _ (unit : UnitTree) (program : TypedProgram) (typed : declarations_typed 
     table : SmallTable c.structs
     names : Names c.structs (c.inner ++ c.outer)
     flat : c.in_loop ≡ false
+    named : SmallNames c.structs c.type_names
 
   start_there : AtFile start_context
   start_there = record {
@@ -182,6 +183,7 @@ module _ (unit : UnitTree) (program : TypedProgram) (typed : declarations_typed 
     table = record { members = λ k ms e. nothing ms e; sizes = λ k l e. nothing l e };
     names = ((refl, refl), ((refl, refl), tt));
     flat = refl;
+    named = record { each = λ x t e. nothing t e };
   }
 
   behind_structs : (c d : Context) → After c d → IsFileScope d → AtFile c → AtFile d
@@ -190,6 +192,7 @@ module _ (unit : UnitTree) (program : TypedProgram) (typed : declarations_typed 
     table = a.table;
     names = subst (λ z. Names d.structs z) (λ j. sym a.inner j ++ sym a.outer j) (names_grow i called s₀.statics s₀.functions c.structs d.structs a.grows (c.inner ++ c.outer) h.names);
     flat = a.in_loop ∙ h.flat;
+    named = a.named h.named;
   }
 
   -- ---- variables of file scope
@@ -209,10 +212,11 @@ module _ (unit : UnitTree) (program : TypedProgram) (typed : declarations_typed 
         table = h.table;
         names = (
           subst (λ o. NameFits c.structs v.declarator.name (file_variable v.declarator.node.id o)) (sym t.first)
-              (variable_blocks v.declarator.node.id (first_so _ _ listed), (variable_small c base v t.value (first_so _ _ filled) t.first).small),
+              (variable_blocks v.declarator.node.id (first_so _ _ listed), (variable_small c h.named base v t.value (first_so _ _ filled) t.first).small),
           h.names,
         );
         flat = h.flat;
+        named = h.named;
       }) (none_right (variable_faults true c after base v) (variables_faults true after base vs) f) (second_so (is_filled v.initialiser) _ filled)
       (second_so (is_one_of v.declarator.node.id nodes) _ listed) later.first
 
@@ -267,7 +271,7 @@ module _ (unit : UnitTree) (program : TypedProgram) (typed : declarations_typed 
                 ((bytes_exact f.name f.name).1 refl) ∙ ap Some e;
           } in
           let d = subst (λ z. Declared z f.name sig.value) end (persists s₀ f.name sig.value ds (after_function c f) (file_after s₀ c (function f) h.scope own) faults here) in
-          subst (λ z. NameFits c.structs f.name z) (sym e) (function_known f.name sig.value d runs_if, signature_small c f sig.value sig.is)
+          subst (λ z. NameFits c.structs f.name z) (sym e) (function_known f.name sig.value d runs_if, signature_small c h.named f sig.value sig.is)
 
       as_function : (o : Option Entity) (b : Bool) → lookup f.name c.inner ≡ o
           → declared_function o f.node.id (Some sig.value) (is_some f.body) ≡ contexts.function f.node.id (Some sig.value) b
@@ -299,7 +303,7 @@ module _ (unit : UnitTree) (program : TypedProgram) (typed : declarations_typed 
           (sym (ap (function_typed (within s₀ c) f) e) ∙ q) in
           let m = made (within s₀ c) f body g.value g.first in
           subst (λ z. all_fit z ≡ true) (same_Some _ fs g.then) (and_from _ _
-          (function_there i called there (within s₀ c) short text_blocks h.scope h.table h.flat f body own e after.names
+          (function_there i called there (within s₀ c) short text_blocks h.scope h.table h.named h.flat f body own e after.names
           (subst (λ o. are_different (ids (all_nodes parameter_nodes f.parameters ++ option_nodes stmts_nodes o)) ≡ true) e
           (second_so (not (is_one_of f.node.id (ids (all_nodes parameter_nodes f.parameters ++ option_nodes stmts_nodes f.body)))) _ different))
           (subst (λ o. are_sure (body_sites c f o) ≡ true) e (all_right (site_sure called there) (parameters_sites (inner_scope c) f.parameters) (body_sites c f f.body) sure))
@@ -317,11 +321,15 @@ module _ (unit : UnitTree) (program : TypedProgram) (typed : declarations_typed 
       → context_after (after_declaration c d) ds ≡ context_after start_context unit → declaration_typed (within s₀ c) d ≡ Some now → Declaration c d now
   declaration_there (structure t) c ds now h own faults sure filled different listed undefined end q = record {
     fits = subst (λ (z : TypedProgram). all_fit z.functions ≡ true) (same_Some _ now q) refl;
-    after = behind_structs c (after_struct c t) (struct_after s₀ c t h.scope h.table filled own) (file_after s₀ c (structure t) h.scope own) h;
+    after = behind_structs c (after_struct c t) (struct_after s₀ c t h.scope h.table h.named filled own) (file_after s₀ c (structure t) h.scope own) h;
   }
   declaration_there (forward t) c ds now h own faults sure filled different listed undefined end q = record {
     fits = subst (λ (z : TypedProgram). all_fit z.functions ≡ true) (same_Some _ now q) refl;
     after = behind_structs c (with_tag c t.name) (tag_after c t.name h.scope h.table) (file_after s₀ c (forward t) h.scope own) h;
+  }
+  declaration_there (typedef t) c ds now h own faults sure filled different listed undefined end q = record {
+    fits = subst (λ (z : TypedProgram). all_fit z.functions ≡ true) (same_Some _ now q) refl;
+    after = behind_structs c (after_typedef c t) (typedef_after s₀ c t h.scope h.table h.named filled own) (file_after s₀ c (typedef t) h.scope own) h;
   }
   declaration_there (variables d) c ds now h own faults sure filled different listed undefined end q =
       let bs = followed (file_variables_typed (within s₀ c) d.base d.variables) _ now q in
@@ -337,6 +345,7 @@ module _ (unit : UnitTree) (program : TypedProgram) (typed : declarations_typed 
         table = h.table;
         names = (header_fits c f ds h own faults end (not_undefined f ds undefined).0, h.names);
         flat = h.flat;
+        named = h.named;
       } in
       record {
         fits = subst (λ (z : TypedProgram). all_fit z.functions ≡ true) (same_Some _ now fs.then) (function_fits_there c f fs.value h after own sure filled different fs.first);
@@ -346,6 +355,7 @@ module _ (unit : UnitTree) (program : TypedProgram) (typed : declarations_typed 
   later_undefined : (d : DeclTree) (ds : UnitTree) → undefined_from (runs unit) (unit_calls unit) (d ∷ ds) ≡ None → undefined_from (runs unit) (unit_calls unit) ds ≡ None
   later_undefined (structure t) ds e = e
   later_undefined (forward t) ds e = e
+  later_undefined (typedef t) ds e = e
   later_undefined (variables d) ds e = e
   later_undefined (function f) ds e = (not_undefined f ds e).1
 
@@ -353,6 +363,7 @@ module _ (unit : UnitTree) (program : TypedProgram) (typed : declarations_typed 
       → (list_all (λ n. is_one_of n nodes) (file_variables_in (d ∷ [])) ≡ true) × (list_all (λ n. is_one_of n nodes) (file_variables_in ds) ≡ true)
   listed_parts (structure t) ds l = (refl, l)
   listed_parts (forward t) ds l = (refl, l)
+  listed_parts (typedef t) ds l = (refl, l)
   listed_parts (function f) ds l = (refl, l)
   listed_parts (variables d) ds l =
       let ns = map (λ (v : VariableTree). v.declarator.node.id) d.variables in (

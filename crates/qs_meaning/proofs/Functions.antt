@@ -9,9 +9,9 @@ use Rattle.qs_types.specs.Types.{TypeTree, int, unsigned, char, void, pointer, a
 use Rattle.qs_types.specs.Layout.{and_then, size_of, is_complete}
 use Rattle.qs_types.specs.declared.rules.Rule.TheVariants as rules
 use Rattle.qs_types.specs.Rules.{Test, test, breaks_one, faults_of}
-use Rattle.qs_types.specs.Contexts.{Context}
+use Rattle.qs_types.specs.Contexts.{Context, base_type}
 use Rattle.qs_types.specs.Expressions.{type_of}
-use Rattle.qs_types.specs.Declarations.{undeclared, all_typed, lengths_faults, is_array_parameter, lengths_of, object_type, first_in, behind_first, first_length, element_lengths, is_length_typed, is_length, array_parameter, held_parameter, plain_parameter, parameter_declared}
+use Rattle.qs_types.specs.Declarations.{undeclared, all_typed, lengths_faults, has_brackets, lengths_of, object_type, first_in, behind_first, first_length, element_lengths, is_length_typed, is_length, array_parameter, held_parameter, plain_parameter, parameter_declared}
 use Rattle.qs_types.specs.Placed.{Local, is_one_of, is_no_scalar, is_placed, addressed, parameters_locals}
 use Rattle.qs_types.specs.Sites.{Site}
 use Rattle.qs_types.specs.UnitRules.{with_parameter, after_parameter, parameter_types, with_parameters, signature_tests, parameter_tests, parameters_faults, is_name_declared}
@@ -24,6 +24,7 @@ use Rattle.qs_meaning.proofs.FaultlessExpressions.{none_left, none_right, unbrok
 use Rattle.qs_meaning.proofs.Bindings.{Sound, has_types}
 use Rattle.qs_meaning.proofs.LocalInitialisers.{sites_taken}
 use Rattle.qs_meaning.proofs.Bodies.{is_fine_local, locals_fine, is_sized_local, all_sized, lengths_typed}
+use Rattle.qs_types.specs.Conversions.{decayed}
 
 -- ---- the locals of a function
 
@@ -188,21 +189,21 @@ first_typed c l e = go l.is_open l.given e
 pub parameter_type_known : (c : Context) (p : ParameterTree) → all_typed c p.lengths.given ≡ true → breaks_one (parameter_declared c p).tests ≡ false → Known
     (parameter_declared c p).type
 parameter_type_known c p e h =
-    go (is_array_parameter p.lengths) (all_typed c (element_lengths p.lengths)) (is_length_typed c (first_length p.lengths)) (elements_typed c p.lengths e)
+    go (has_brackets p.lengths) (all_typed c (element_lengths p.lengths)) (is_length_typed c (first_length p.lengths)) (elements_typed c p.lengths e)
     (first_typed c p.lengths e) h
   where
     lengths : Option (List ℕ)
     lengths = if is_length c (first_length p.lengths) then lengths_of c (element_lengths p.lengths) else None
 
     element : TypeTree
-    element = object_type c p.type_name.base p.type_name.stars lengths
+    element = object_type (base_type c p.type_name.base) p.type_name.stars lengths
 
     go : (is_array typed first_is_typed : Bool) → typed ≡ true → first_is_typed ≡ true
         → breaks_one
         (if not is_array then plain_parameter c p else if not typed then undeclared else if first_is_typed then array_parameter c p else held_parameter c p).tests
         ≡ false
         → Known (if not is_array then plain_parameter c p else if not typed then undeclared else if first_is_typed then array_parameter c p else held_parameter c p).type
-    go false typed first e f h = record { value = _; is = type_known (plain_parameter c p).tests _ h }
+    go false typed first e f h = record { value = _; is = ap (option_map decayed) (type_known (plain_parameter c p).tests _ h) }
     go true true true e f h = record { value = pointer element; is = ap (option_map pointer) (type_known (array_parameter c p).tests element h) }
     go true true false e f h = never f
     go true false first e f h = never e

@@ -10,7 +10,7 @@ use Rattle.std.proofs.lemmas.Option.{same_Some}
 use Rattle.qs_base.specs.Bytes.{same_bytes}
 use Rattle.qs_syntax_vocabulary.specs.declared.operators.UnaryOperator.TheVariants as unaries
 use Rattle.qs_syntax.specs.declared.types.Base.{Base}
-use Rattle.qs_syntax.specs.Trees.{ExprTree, expr, InitialiserTree, Initialisers, no_initialisers, initialiser_and, VariableTree, DeclTree, structure, forward, function, variables, UnitTree}
+use Rattle.qs_syntax.specs.Trees.{ExprTree, expr, InitialiserTree, Initialisers, no_initialisers, initialiser_and, VariableTree, DeclTree, structure, forward, function, variables, UnitTree, DeclaratorTree, StructTree, DefinedTree, of_struct, of_base, typedef}
 use Rattle.qs_syntax.specs.Trees as trees
 use Rattle.qs_syntax_vocabulary.specs.WellFormed.{is_byte}
 use Rattle.qs_memory.specs.Partial.{◌>>=◌}
@@ -23,18 +23,18 @@ use Rattle.qs_memory.proofs.BlockLaws.{live_known}
 use Rattle.qs_memory.proofs.SoundLaws.{sound_bytes, sound_parts, sound_blank, each_append}
 use Rattle.qs_types.specs.Types.{TypeTree, int, unsigned, char, void, pointer, array, struct, MemberTree, is_pointer, is_array}
 use Rattle.qs_types.specs.Layout.{with_members, layout_of, member_types, sized_layout}
-use Rattle.qs_types.specs.Contexts.{Entity, local_variable, file_variable, function, given, Binding, Context, start_context, lookup, entity_of, tag_place}
+use Rattle.qs_types.specs.Contexts.{Entity, local_variable, file_variable, function, given, Binding, Context, start_context, lookup, entity_of, tag_place, add_type, is_type_name}
 use Rattle.qs_types.specs.Contexts as contexts
 use Rattle.qs_types.specs.GivenFunctions.{Signature}
 use Rattle.qs_types.specs.Expressions.{is_null_constant}
 use Rattle.qs_types.specs.Constants.{constant_of}
-use Rattle.qs_types.specs.Declarations.{text_of, variable_declared}
+use Rattle.qs_types.specs.Declarations.{text_of, variable_declared, type_name_declared}
 use Rattle.qs_types.specs.InitialiserRules.{part_type}
 use Rattle.qs_types.specs.StatementRules.{after_variable, after_variables}
 use Rattle.qs_types.specs.Sites.{Site, declarator_sites, may_hold, initialiser_sites, elements_sites, option_initialiser_sites, variable_sites, variables_sites, declaration_sites, declarations_sites, unit_sites}
 use Rattle.qs_types.specs.Placed.{is_one_of}
 use Rattle.qs_types.specs.References.{TextBlock, expr_texts, site_texts, literal_blocks}
-use Rattle.qs_types.specs.UnitRules.{with_tag, no_members, after_members, has_no_members, define_at, declared_function, after_declaration}
+use Rattle.qs_types.specs.UnitRules.{with_tag, no_members, after_members, has_no_members, define_at, declared_function, after_declaration, with_new_tag, with_option_tag, option_place, with_base_tag, after_struct, after_defined, defined_type, after_type_name, after_type_names}
 use Rattle.qs_meaning.specs.Typed.{StaticBlock, TypedProgram}
 use Rattle.qs_meaning.specs.Conversions.{scalar_of}
 use Rattle.qs_meaning.specs.Names.{Scope, within, place_among}
@@ -44,6 +44,7 @@ use Rattle.qs_meaning.specs.InitialValues.{pointer_width, entity_pointer, named_
 use Rattle.qs_meaning.specs.Units.{file_variable_typed, file_variables_typed, function_typed, declaration_typed, declarations_typed, file_variables_in, start_scope, block_of, initial_memory}
 use Rattle.qs_meaning.specs.InitialLaws.{consists_of_bytes, has_bytes, InitialMemoryIsSound}
 use Rattle.qs_meaning.proofs.Options.{never, all_left, all_right, nothing}
+use Rattle.qs_syntax.specs.declared.types.Base.TheVariants as bases
 
 -- ---- numbers of nodes
 
@@ -169,7 +170,27 @@ looked_up nodes (b ∷ bs) x entity h e = go (λ f. looked_up nodes bs x entity 
 tag_known : (nodes : List ℕ) (c : Context) (tag : List ℕ) → AreKnown nodes c → AreKnown nodes (with_tag c tag)
 tag_known nodes c tag h = go (is_some (tag_place c tag))
   where
-    go : (b : Bool) → AreKnown nodes (if b then c else record c { structs = c.structs ++ None ∷ []; tags = c.tags ++ tag ∷ [] })
+    go : (b : Bool) → AreKnown nodes (if b then c else with_new_tag c tag)
+    go true = h
+    go false = h
+
+option_known : (nodes : List ℕ) (c : Context) (tag : Option (List ℕ)) → AreKnown nodes c → AreKnown nodes (with_option_tag c tag)
+option_known nodes c None h = h
+option_known nodes c (Some tag) h = tag_known nodes c tag h
+
+base_known : (nodes : List ℕ) (c : Context) (b : Base) → AreKnown nodes c → AreKnown nodes (with_base_tag c b)
+base_known nodes c bases.Void h = h
+base_known nodes c bases.Int h = h
+base_known nodes c bases.Unsigned h = h
+base_known nodes c bases.Char h = h
+base_known nodes c (bases.Struct tag) h = tag_known nodes c tag h
+base_known nodes c (bases.Named x) h = h
+
+type_names_known : (nodes : List ℕ) (c : Context) (base : Option TypeTree) (ds : List DeclaratorTree) → AreKnown nodes c → AreKnown nodes (after_type_names c base ds)
+type_names_known nodes c base [] h = h
+type_names_known nodes c base (d ∷ ds) h = type_names_known nodes (after_type_name c base d) base ds (go (is_type_name c d.name))
+  where
+    go : (b : Bool) → AreKnown nodes (if b then c else record c { type_names = add_type c.type_names d.name (type_name_declared c base d).type })
     go true = h
     go false = h
 
@@ -180,6 +201,14 @@ define_known nodes c ms (Some k) h = go (has_no_members (slice_get c.structs k))
     go : (b : Bool) → AreKnown nodes (if b then record c { structs = with_members (is_some (sized_layout (layout_of c.structs) (member_types ms))) c.structs k ms } else c)
     go true = h
     go false = h
+
+struct_known : (nodes : List ℕ) (c : Context) (s : StructTree) → AreKnown nodes c → AreKnown nodes (after_struct c s)
+struct_known nodes c s h =
+    define_known nodes (with_option_tag c s.name) (after_members (with_option_tag c s.name) no_members s.members).members (option_place c s.name) (option_known nodes c s.name h)
+
+defined_known : (nodes : List ℕ) (c : Context) (d : DefinedTree) → AreKnown nodes c → AreKnown nodes (after_defined c d)
+defined_known nodes c (of_struct s) h = struct_known nodes c s h
+defined_known nodes c (of_base b) h = base_known nodes c b h
 
 function_entity_known : (nodes : List ℕ) (o : Option Entity) (node : ℕ) (s : Option Signature) (b : Bool) → entity_known nodes (declared_function o node s b) ≡ true
 function_entity_known nodes None node s b = refl
@@ -200,9 +229,9 @@ variables_known nodes (v ∷ vs) c base l h =
 
 declaration_known : (nodes : List ℕ) (d : DeclTree) (ds : UnitTree) (c : Context) → list_all (λ n. is_one_of n nodes) (file_variables_in (d ∷ ds)) ≡ true → AreKnown nodes c
     → AreKnown nodes (after_declaration c d)
-declaration_known nodes (structure s) ds c l h =
-    define_known nodes (with_tag c s.name) (after_members (with_tag c s.name) no_members s.members).members (tag_place (with_tag c s.name) s.name) (tag_known nodes c s.name h)
+declaration_known nodes (structure s) ds c l h = struct_known nodes c s h
 declaration_known nodes (forward f) ds c l h = tag_known nodes c f.name h
+declaration_known nodes (typedef t) ds c l h = type_names_known nodes (after_defined c t.defined) (defined_type c t.defined) t.names (defined_known nodes c t.defined h)
 declaration_known nodes (function f) ds c l h = and_from _ _ (function_entity_known nodes _ _ _ _) h
 declaration_known nodes (variables d) ds c l h =
     variables_known nodes d.variables c d.base
@@ -234,6 +263,8 @@ declarations_count s (d ∷ ds) u h =
     counted (structure x) now rest h e =
         subst (λ (z : TypedProgram). length z.blocks + length rest.blocks ≡ length (file_variables_in ds)) (same_Some _ now h) (zero_plus (length rest.blocks) ∙ e)
     counted (forward x) now rest h e =
+        subst (λ (z : TypedProgram). length z.blocks + length rest.blocks ≡ length (file_variables_in ds)) (same_Some _ now h) (zero_plus (length rest.blocks) ∙ e)
+    counted (typedef x) now rest h e =
         subst (λ (z : TypedProgram). length z.blocks + length rest.blocks ≡ length (file_variables_in ds)) (same_Some _ now h) (zero_plus (length rest.blocks) ∙ e)
     counted (function f) now rest h e =
         let a = followed (function_typed s f f.body) _ now h in
@@ -483,6 +514,7 @@ module _ (m : Memory) where
         → (u : TypedProgram) → declaration_typed (within s₀ c) d ≡ Some u → BlocksSound m u.blocks
     declaration_sound (structure x) c l k h u j = subst (λ (z : TypedProgram). BlocksSound m z.blocks) (same_Some _ u j) tt
     declaration_sound (forward x) c l k h u j = subst (λ (z : TypedProgram). BlocksSound m z.blocks) (same_Some _ u j) tt
+    declaration_sound (typedef x) c l k h u j = subst (λ (z : TypedProgram). BlocksSound m z.blocks) (same_Some _ u j) tt
     declaration_sound (function f) c l k h u j =
         let a = followed (function_typed (within s₀ c) f f.body) _ u j in
         subst (λ (z : TypedProgram). BlocksSound m z.blocks) (same_Some _ u a.then) tt
@@ -512,6 +544,7 @@ module _ (m : Memory) where
         split : (d : DeclTree) → listed (file_variables_in (d ∷ ds)) ≡ true → (listed (file_variables_in (d ∷ [])) ≡ true) × (listed (file_variables_in ds) ≡ true)
         split (structure x) l = (refl, l)
         split (forward x) l = (refl, l)
+        split (typedef x) l = (refl, l)
         split (function f) l = (refl, l)
         split (variables d) l =
             let ns = map (λ (v : VariableTree). v.declarator.node.id) d.variables in (

@@ -14,6 +14,7 @@ pub mod FaultlessExpressions
 pub mod Bindings
 mod ValueExamples
 mod UnitExamples
+mod TypeNameUnits
 mod LocalInitialisers
 pub mod Bodies
 pub mod Functions

@@ -147,7 +147,7 @@ s_base = bases.Struct (115 ∷ [])
 abbrev pub struct_s : DeclTree
 struct_s = structure (record {
   node = unnumbered 0;
-  name = 115 ∷ [];
+  name = Some (115 ∷ []);
   members =
       record { base = bases.Char; declarators = declarator 0 109 one ∷ [] }
       ∷ record { base = bases.Int; declarators = declarator 0 110 one ∷ [] }
@@ -193,7 +193,7 @@ two_ints x i y j = record {
 
 -- the members are given by their names and types
 abbrev pub struct_named : ℕ → List trees.MembersTree → DeclTree
-struct_named tag members = structure (record { node = unnumbered 0; name = tag ∷ []; members = members })
+struct_named tag members = structure (record { node = unnumbered 0; name = Some (tag ∷ []); members = members })
 
 abbrev pub member_of : Base → ℕ → LengthsTree → trees.MembersTree
 member_of base x lengths = record { base = base; declarators = declarator 0 x lengths ∷ [] }

@@ -1,18 +1,21 @@
 -- What is known at file scope goes on holding where structs are declared and defined.
-use Rattle.std.proofs.Common.{◌≡◌, ◌≤◌, ◌⊎◌, inl, inr, ℕ, zero, suc, Bool, true, false, ◌&&◌, List, [], ◌∷◌, ◌++◌, Option, Some, None, is_some, slice_set, refl, sym, ap, ◌∙◌, subst, arith, if◌then◌else◌}
+use Rattle.std.proofs.Common.{◌≡◌, ◌≤◌, ◌⊎◌, inl, inr, ℕ, zero, suc, Bool, true, false, ◌&&◌, List, [], ◌∷◌, ◌++◌, Option, Some, None, is_some, slice_set, refl, sym, ap, ◌∙◌, subst, arith, if◌then◌else◌, length}
 use Rattle.std.specs.List.{list_all, slice_get}
 use Rattle.std.specs.Cmp.{first_so, second_so}
 use Rattle.std.proofs.lemmas.Option.{same_Some}
-use Rattle.qs_syntax.specs.Trees.{StructTree}
+use Rattle.qs_syntax.specs.Trees.{StructTree, DeclaratorTree, DefinedTree, of_struct, of_base, TypedefTree}
 use Rattle.qs_types.specs.declared.extent.Extent.{Extent}
 use Rattle.qs_types.specs.Types.{TypeTree, int, unsigned, char, void, pointer, array, struct, MemberTree, Structs}
 use Rattle.qs_types.specs.Types as types
 use Rattle.qs_types.specs.Layout.{and_then, StructLayout, Layouts, array_extent, struct_extent, struct_layout, extent_by, extents_by, member_types, struct_of, members_layout, layouts_within, defined_structs, layout_of, is_complete, sized_by, all_sized_by, layout_within, sized_layout, with_members}
-use Rattle.qs_types.specs.Contexts.{Entity, local_variable, file_variable, function, given, Binding, Context, tag_place}
-use Rattle.qs_types.specs.UnitRules.{with_tag, no_members, after_members, has_no_members, define_at, after_struct}
+use Rattle.qs_types.specs.Contexts.{Entity, local_variable, file_variable, function, given, Binding, Context, tag_place, TypeNames, add_tag, add_type, is_type_name}
+use Rattle.qs_types.specs.UnitRules.{with_tag, no_members, after_members, has_no_members, define_at, after_struct, with_new_tag, with_option_tag, option_place, with_base_tag, after_defined, defined_type, after_type_name, after_type_names, after_typedef}
 use Rattle.qs_meaning.specs.TypedLaws.{EntityTyped, AllTyped, IsFileScope}
 use Rattle.qs_meaning.proofs.Options.{never, nothing, known, went}
 use Rattle.qs_meaning.proofs.Bodies.{sized_extent}
+use Rattle.qs_syntax.specs.declared.types.Base.{Base}
+use Rattle.qs_syntax.specs.declared.types.Base.TheVariants as bases
+use Rattle.qs_types.specs.Declarations.{type_name_declared}
 
 -- ---- a table that goes on: structs that have members keep them
 
@@ -107,8 +110,8 @@ appended_count (Some ms ∷ xs) = ap suc (appended_count xs)
 pub appended_goes_on : (structs : Structs) → GoesOn structs (structs ++ None ∷ [])
 appended_goes_on structs = record { keeps = appended_keeps structs; count = let e = appended_count structs in omega arith }
 
-appended_scope : (c : Context) (tag : List ℕ) → IsFileScope c → IsFileScope (record c { structs = c.structs ++ None ∷ []; tags = c.tags ++ tag ∷ [] })
-appended_scope c tag h = record {
+appended_scope : (c : Context) (names : TypeNames) → IsFileScope c → IsFileScope (record c { structs = c.structs ++ None ∷ []; type_names = names })
+appended_scope c names h = record {
   names = names_grow c.structs (c.structs ++ None ∷ []) g (c.inner ++ c.outer) h.names;
   members = λ k ms e. members_grow c.structs (c.structs ++ None ∷ []) g ms (h.members k ms (appended_back c.structs k ms e));
   laid_out = λ k ms e. some_grows (layout_of c.structs k) (layout_of (c.structs ++ None ∷ []) k) (λ l f. layout_grows c.structs (c.structs ++ None ∷ []) g k l f)
@@ -121,9 +124,13 @@ appended_scope c tag h = record {
 pub with_tag_known : (c : Context) (tag : List ℕ) → IsFileScope c → IsFileScope (with_tag c tag)
 with_tag_known c tag h = go (is_some (tag_place c tag))
   where
-    go : (b : Bool) → IsFileScope (if b then c else record c { structs = c.structs ++ None ∷ []; tags = c.tags ++ tag ∷ [] })
+    go : (b : Bool) → IsFileScope (if b then c else with_new_tag c tag)
     go true = h
-    go false = appended_scope c tag h
+    go false = appended_scope c (add_tag c.type_names tag (length c.structs)) h
+
+pub with_option_tag_known : (c : Context) (tag : Option (List ℕ)) → IsFileScope c → IsFileScope (with_option_tag c tag)
+with_option_tag_known c None h = appended_scope c c.type_names h
+with_option_tag_known c (Some tag) h = with_tag_known c tag h
 
 -- ---- a struct that gets members
 
@@ -275,5 +282,30 @@ define_known c new (Some k) h = given_members (has_no_members (slice_get c.struc
 
 pub after_struct_known : (c : Context) (s : StructTree) → IsFileScope c → IsFileScope (after_struct c s)
 after_struct_known c s h =
-    define_known (with_tag c s.name) (after_members (with_tag c s.name) no_members s.members).members (tag_place (with_tag c s.name) s.name)
-    (with_tag_known c s.name h)
+    define_known (with_option_tag c s.name) (after_members (with_option_tag c s.name) no_members s.members).members (option_place c s.name)
+    (with_option_tag_known c s.name h)
+
+-- ---- names of types
+
+with_base_tag_known : (c : Context) (b : Base) → IsFileScope c → IsFileScope (with_base_tag c b)
+with_base_tag_known c bases.Void h = h
+with_base_tag_known c bases.Int h = h
+with_base_tag_known c bases.Unsigned h = h
+with_base_tag_known c bases.Char h = h
+with_base_tag_known c (bases.Struct tag) h = with_tag_known c tag h
+with_base_tag_known c (bases.Named x) h = h
+
+pub after_defined_known : (c : Context) (d : DefinedTree) → IsFileScope c → IsFileScope (after_defined c d)
+after_defined_known c (of_struct s) h = after_struct_known c s h
+after_defined_known c (of_base b) h = with_base_tag_known c b h
+
+type_names_known : (c : Context) (base : Option TypeTree) (ds : List DeclaratorTree) → IsFileScope c → IsFileScope (after_type_names c base ds)
+type_names_known c base [] h = h
+type_names_known c base (d ∷ ds) h = type_names_known (after_type_name c base d) base ds (go (is_type_name c d.name))
+  where
+    go : (b : Bool) → IsFileScope (if b then c else record c { type_names = add_type c.type_names d.name (type_name_declared c base d).type })
+    go true = h
+    go false = record { names = h.names; members = h.members; laid_out = h.laid_out }
+
+pub after_typedef_known : (c : Context) (t : TypedefTree) → IsFileScope c → IsFileScope (after_typedef c t)
+after_typedef_known c t h = type_names_known (after_defined c t.defined) (defined_type c t.defined) t.names (after_defined_known c t.defined h)

@@ -1,6 +1,6 @@
 -- A well typed unit has a typed tree.
 use Rattle.std.proofs.Common.{◌≡◌, true, false, List, [], ◌∷◌, ◌++◌, Option, is_some, refl}
-use Rattle.qs_syntax.specs.Trees.{FunctionTree, DeclTree, structure, forward, function, variables, UnitTree}
+use Rattle.qs_syntax.specs.Trees.{FunctionTree, DeclTree, structure, forward, function, variables, UnitTree, typedef}
 use Rattle.qs_types.specs.Types.{TypeTree}
 use Rattle.qs_types.specs.declared.rules.Rule.TheVariants as rules
 use Rattle.qs_types.specs.Rules.{keeps, breaks_one, faults_of}
@@ -15,7 +15,7 @@ use Rattle.qs_meaning.proofs.FaultlessExpressions.{none_left, none_right, unbrok
 use Rattle.qs_meaning.proofs.Functions.{all_fine, all_scalar, parameters_scalar, parameters_declared}
 use Rattle.qs_meaning.proofs.FunctionsTyped.{file_sound, result_known, signature_known, after_function_scope, functions_typed}
 use Rattle.qs_meaning.proofs.FileVariables.{file_variables_known}
-use Rattle.qs_meaning.proofs.StructTables.{with_tag_known, after_struct_known}
+use Rattle.qs_meaning.proofs.StructTables.{with_tag_known, after_struct_known, after_typedef_known}
 
 -- ---- behind declarations
 
@@ -61,6 +61,7 @@ module _ (s₀ : Scope) where
   pub declaration_known : (d : DeclTree) (c : Context) → IsFileScope c → declaration_faults c d ≡ [] → Declared c d
   declaration_known (structure s) c h f = record { tree = record { value = _; is = refl }; scope = after_struct_known c s h }
   declaration_known (forward g) c h f = record { tree = record { value = _; is = refl }; scope = with_tag_known c g.name h }
+  declaration_known (typedef t) c h f = record { tree = record { value = _; is = refl }; scope = after_typedef_known c t h }
   declaration_known (function g) c h f =
       let t = functions_typed (within s₀ c) h g f in
       record {

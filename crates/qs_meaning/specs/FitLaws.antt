@@ -2,7 +2,7 @@
 use Rattle.std.specs.Prelude.{◌≡◌, ℕ, ◌^◌, not, ◌&&◌, nat_lt, Bool, true, false, List, [], ◌∷◌, map, Option, Some, None}
 use Rattle.std.specs.List.{list_all}
 use Rattle.qs_syntax.specs.declared.nodes.Node.{Node}
-use Rattle.qs_syntax.specs.Trees.{ExprTree, expr, ShapeTree, Exprs, no_exprs, expr_and, DeclaratorTree, InitialiserTree, value, list, no_initialisers, initialiser_and, VariableTree, MembersTree, StartTree, no_start, start_expression, start_declaration, StmtTree, empty, expression, declaration, block, branch, while_loop, do_loop, for_loop, break, continue, return, Stmts, no_stmts, stmt_and, Else, no_else, else_by, DeclTree, structure, forward, function, variables, UnitTree}
+use Rattle.qs_syntax.specs.Trees.{ExprTree, expr, ShapeTree, Exprs, no_exprs, expr_and, DeclaratorTree, InitialiserTree, value, list, no_initialisers, initialiser_and, VariableTree, MembersTree, StartTree, no_start, start_expression, start_declaration, StmtTree, empty, expression, declaration, block, branch, while_loop, do_loop, for_loop, break, continue, return, Stmts, no_stmts, stmt_and, Else, no_else, else_by, DeclTree, structure, forward, function, variables, UnitTree, DefinedTree, of_struct, of_base, typedef}
 use Rattle.qs_syntax.specs.Trees as trees
 use Rattle.qs_syntax.specs.Nodes.{unit_nodes}
 use Rattle.qs_syntax.specs.Units.{IsRead}
@@ -105,9 +105,14 @@ abbrev pub members_filled : List MembersTree → Bool
 members_filled [] = false
 members_filled (m ∷ ms) = has_declarators m.declarators
 
+abbrev pub defined_filled : DefinedTree → Bool
+defined_filled (of_struct s) = members_filled s.members
+defined_filled (of_base b) = true
+
 abbrev pub declaration_filled : DeclTree → Bool
 declaration_filled (structure s) = members_filled s.members
 declaration_filled (forward f) = true
+declaration_filled (typedef t) = defined_filled t.defined
 declaration_filled (function f) = body_filled f.body
 declaration_filled (variables d) = variables_filled d.variables
 

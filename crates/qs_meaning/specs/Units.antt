@@ -2,7 +2,7 @@
 use Rattle.std.specs.Prelude.{ℕ, not, true, List, [], ◌∷◌, ◌++◌, Option, Some, None, length, map, filter, slice_index_or}
 use Rattle.qs_base.specs.Bytes.{same_bytes}
 use Rattle.qs_syntax.specs.declared.types.Base.{Base}
-use Rattle.qs_syntax.specs.Trees.{VariableTree, ParameterTree, FunctionTree, DeclTree, structure, forward, function, variables, UnitTree}
+use Rattle.qs_syntax.specs.Trees.{VariableTree, ParameterTree, FunctionTree, DeclTree, structure, forward, function, variables, UnitTree, typedef}
 use Rattle.qs_syntax.specs.Trees as trees
 use Rattle.qs_memory.specs.declared.scalar.Scalar.{Scalar}
 use Rattle.qs_memory.specs.Partial.{◌>>=◌}
@@ -141,6 +141,7 @@ no_blocks functions = functions >>= λ fs. Some (record { functions = fs; blocks
 abbrev pub declaration_typed : Scope → DeclTree → Option TypedProgram
 declaration_typed s (structure d) = Some (record { functions = []; blocks = [] })
 declaration_typed s (forward d) = Some (record { functions = []; blocks = [] })
+declaration_typed s (typedef d) = Some (record { functions = []; blocks = [] })
 declaration_typed s (function f) = no_blocks (function_typed s f f.body)
 declaration_typed s (variables d) = no_functions (file_variables_typed s d.base d.variables)
 
@@ -157,6 +158,7 @@ abbrev pub file_variables_in : UnitTree → List ℕ
 file_variables_in [] = []
 file_variables_in (structure d ∷ ds) = file_variables_in ds
 file_variables_in (forward d ∷ ds) = file_variables_in ds
+file_variables_in (typedef d ∷ ds) = file_variables_in ds
 file_variables_in (function f ∷ ds) = file_variables_in ds
 file_variables_in (variables d ∷ ds) = map (λ (v : VariableTree). v.declarator.node.id) d.variables ++ file_variables_in ds
 
@@ -169,6 +171,7 @@ abbrev pub functions_in : UnitTree → List (List ℕ)
 functions_in [] = []
 functions_in (structure d ∷ ds) = functions_in ds
 functions_in (forward d ∷ ds) = functions_in ds
+functions_in (typedef d ∷ ds) = functions_in ds
 functions_in (function f ∷ ds) = name_with_body f.name f.body ++ functions_in ds
 functions_in (variables d ∷ ds) = functions_in ds
 

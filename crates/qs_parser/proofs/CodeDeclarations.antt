@@ -5,6 +5,7 @@ use Rattle.std.proofs.lemmas.Bool.{ne_eqb}
 use Rattle.std.proofs.lemmas.List.{map_push}
 use Rattle.qs_syntax_vocabulary.specs.declared.terminal.Terminal.{Terminal}
 use Rattle.qs_syntax_vocabulary.specs.declared.punctuator.Punctuator.TheVariants as punctuators
+use Rattle.qs_syntax.specs.ReadsTypes.{Any}
 use Rattle.qs_syntax.specs.Trees.{unnumbered, ExprTree, InitialiserTree, value, list, initialisers_of, VariableTree, DeclaratorTree, MembersTree, ParameterTree}
 use Rattle.qs_syntax.specs.Reads.{Conditional, Assignment, place}
 use Rattle.qs_parser_grammar.specs.Heads.{starts}
@@ -88,7 +89,7 @@ within_more zero ts h = absurd (omega arith)
 within_more (suc n) ts h = let e : n ≡ suc n - 1 = omega arith in ap (λ (k : ℕ). declaration k ts) e
 
 pub declarators_more : (m n i : ℕ) (done : List DeclaratorTree) (h : ℕ) (ts : List Terminal) → i < n
-    → declarators m (n - i) done h ts ≡ read_on (declarator m ts) (λ d us. after_member (declarators m (n - (i + 1))) (done ++ d.0 ∷ []) (max h (d.1 + 1)) us)
+    → declarators m (n - i) done h ts ≡ read_on (declarator Any m ts) (λ d us. after_member (declarators m (n - (i + 1))) (done ++ d.0 ∷ []) (max h (d.1 + 1)) us)
 unfolding declarators
 declarators_more m n i done h ts lt = ap (λ k. declarators m k done h ts) (left_turns n i lt)
 

@@ -4,14 +4,14 @@ use Rattle.std.specs.Prelude.{max}
 use Rattle.std.proofs.lemmas.List.{map_push}
 use Rattle.qs_syntax_vocabulary.specs.declared.terminal.Terminal.{Terminal}
 use Rattle.qs_syntax_vocabulary.specs.declared.punctuator.Punctuator.TheVariants as punctuators
-use Rattle.qs_syntax.specs.Trees.{unnumbered, ExprTree, StartTree, StmtTree, for_loop, DeclTree, branch, no_else, else_by}
+use Rattle.qs_syntax.specs.Trees.{unnumbered, ExprTree, StartTree, StmtTree, for_loop, branch, no_else, else_by}
 use Rattle.qs_parser_grammar.specs.Heads.{starts}
 use Rattle.qs_parser_expressions.specs.View.{Fails}
 use Rattle.qs_parser.specs.Turns.{TurnTree, step_and_body, turn_of}
 use Rattle.qs_parser_expressions.specs.declared.halt.Halt.{Halt}
 use Rattle.qs_parser_expressions.specs.declared.halt.Halt.TheVariants as halts
 use Rattle.qs_parser_grammar.specs.Parse.{Parse, Stop, read_on, unexpected, deep, expect}
-use Rattle.qs_parser_grammar.specs.ParseStatements.{S, optional, start_of, begins_statement, after_for, item, items, statement_at, statement, external, is_empty, externals}
+use Rattle.qs_parser_grammar.specs.ParseStatements.{S, optional, start_of, begins_statement, after_for, item, items, statement_at, statement}
 use Rattle.qs_syntax.specs.TreeOf.{expr_tree, stmt_tree, else_tree, stmt_step}
 use Rattle.qs_syntax.specs.declared.expressions.Expr.{Expr}
 use Rattle.qs_syntax.specs.declared.nodes.Node.{Node}
@@ -43,15 +43,6 @@ items_more m inner n i done h ts lt = ap (λ k. items m inner k done h ts) (left
 pub items_end : (m : ℕ) (inner : Parse S) (n i : ℕ) (done : List StmtTree) (h : ℕ) (ts : List Terminal) → n ≤ i → items m inner (n - i) done h ts ≡ unexpected ts
 unfolding items
 items_end m inner n i done h ts le = ap (λ k. items m inner k done h ts) (no_turns n i le)
-
-pub externals_more : (k n i : ℕ) (done : List DeclTree) (h : ℕ) (ts : List Terminal) → i < n
-    → externals k (n - i) done h ts ≡ read_on (external k ts) (λ d us. cond (is_empty us) (Ok ((done ++ d.0 ∷ [], max h d.1), us)) (externals k (n - (i + 1)) (done ++ d.0 ∷ []) (max h d.1) us))
-unfolding externals
-externals_more k n i done h ts lt = ap (λ l. externals k l done h ts) (left_turns n i lt)
-
-pub externals_end : (k n i : ℕ) (done : List DeclTree) (h : ℕ) (ts : List Terminal) → n ≤ i → externals k (n - i) done h ts ≡ unexpected ts
-unfolding externals
-externals_end k n i done h ts le = ap (λ l. externals k l done h ts) (no_turns n i le)
 
 -- how a `for` goes on behind its start
 turn_is : (m : ℕ) (inner : Parse S) (at : ℕ) (a : StartTree × ℕ) (ts : List Terminal)
@@ -97,8 +88,6 @@ for_ends m inner at ts us vs ws a t node h p q r is high = for_goes m inner at t
 pub ruleset statement_cases = (statement_none, statement_more)
 
 pub ruleset item_steps = (items_more, items_end, map_push)
-
-pub ruleset external_steps = (externals_more, externals_end, map_push)
 
 -- ---- the tree of an `if`
 

@@ -19,6 +19,12 @@ use Rattle.qs_parser_grammar.specs.ParseStatements.{unit}
 use Rattle.qs_parser.specs.Answers.{ReadsAs, HasNoReading, IsUnexpected, IsTooDeep, HasFault, Answers, IsDecision}
 use Rattle.qs_parser.specs.declared.syntax_fault.SyntaxFault.{SyntaxFault}
 use Rattle.qs_parser.specs.declared.syntax_fault.SyntaxFault.TheVariants as faults
+use Rattle.qs_syntax_vocabulary.specs.declared.tokens.Token.{Token}
+use Rattle.qs_syntax_vocabulary.specs.declared.tokens.TokenKind.{TokenKind}
+use Rattle.qs_syntax_vocabulary.specs.declared.tokens.TokenKind.TheVariants as kinds
+use Rattle.qs_syntax_vocabulary.specs.Marks.{mark, marked}
+use Rattle.qs_lexer.specs.Laws.{spelling}
+use Rattle.qs_lexer.specs.Terminals.{terminal_of, terminals}
 use Rattle.qs_parser_grammar.proofs.NodeCounts.{counted_unit}
 use Rattle.qs_parser_grammar.proofs.UnitsSound.{reads_whole}
 use Rattle.qs_parser_grammar.proofs.UnitsComplete.{one_reading}
@@ -55,9 +61,9 @@ unexpected_at front rest begin refuses none = record {
     not_with (t ∷ us) refuses lt b = refuses t us refl (subst BeginsUnit (one_more front t us) b)
 
 -- the token at which `left` are left is unexpected
-pub is_unexpected : (ts : List Terminal) (left number : ℕ) → unit 126 ts ≡ Err (Unexpected left) → number + left ≡ length ts → IsUnexpected ts number
-is_unexpected ts left number e counts =
-    let p : Before ts left = unexpected_place left ts e in
+pub is_unexpected : (ts : List Terminal) (left number : ℕ) → list_all is_well_formed ts ≡ true → unit 126 ts ≡ Err (Unexpected left) → number + left ≡ length ts → IsUnexpected ts number
+is_unexpected ts left number formed e counts =
+    let p : Before ts left = unexpected_place left ts formed e in
     let same : number ≡ length p.front = omega (arith, counts, ap length p.split, length-append p.front p.rest, p.are) in
     let there : IsUnexpected (p.front ++ p.rest) (length p.front) = unexpected_at p.front p.rest p.begin p.not_with (λ h ds r. no_unit_at_all 126 left ts e h ds (subst (λ l. ReadsUnit h l ds) (sym p.split) r)) in
     subst (IsUnexpected ts) (sym same) (subst (λ l. IsUnexpected l (length p.front)) (sym p.split) there)
@@ -71,9 +77,9 @@ deep_at front t rest before begin none = record {
 }
 
 -- the token at which `left` are left is too deep
-pub is_too_deep : (ts : List Terminal) (left number : ℕ) → unit 126 ts ≡ Err (Deep left) → number + left ≡ length ts → IsTooDeep ts number
-is_too_deep ts left number e counts =
-    let p : UpTo ts left = deep_place left ts e in
+pub is_too_deep : (ts : List Terminal) (left number : ℕ) → list_all is_well_formed ts ≡ true → unit 126 ts ≡ Err (Deep left) → number + left ≡ length ts → IsTooDeep ts number
+is_too_deep ts left number formed e counts =
+    let p : UpTo ts left = deep_place left ts formed e in
     let same : number ≡ length p.front = omega (arith, counts, ap length p.split, length-append p.front (p.at ∷ p.rest), p.are) in
     subst (IsTooDeep ts) (sym same) (subst (λ l. IsTooDeep l (length p.front)) (sym p.split) (deep_at p.front p.at p.rest p.before p.begin p.none))
 
@@ -152,3 +158,17 @@ decided ts (Err told) has found =
       unit = λ ds. (λ e. absurd e, λ reads. absurd (no_reading ts ds told memory has reads));
       fault = λ fault other. (λ e. let same : told ≡ fault = cc in subst (HasFault ts) same has, λ also. ap Err (faults_are_unique ts told fault has also memory other));
     }
+
+-- ---- the lexer knows no names of types
+
+no_mark : (at : ℕ) (bytes : List ℕ) (kind : TokenKind) → mark [] (terminal_of at bytes kind) ≡ terminal_of at bytes kind
+no_mark at bytes kinds.Name = refl
+no_mark at bytes (kinds.Keyword keyword) = refl
+no_mark at bytes (kinds.Number value unsigned) = refl
+no_mark at bytes (kinds.Character value) = refl
+no_mark at bytes kinds.Text = refl
+no_mark at bytes (kinds.Punctuator punctuator) = refl
+
+pub no_marks : (text : List ℕ) (at : ℕ) (tokens : List Token) → marked [] (terminals text at tokens) ≡ terminals text at tokens
+no_marks text at [] = refl
+no_marks text at (t ∷ ts) = λ i. no_mark at (spelling text t) t.kind i ∷ no_marks text (at + 1) ts i

@@ -1,13 +1,14 @@
 // Declarations (C11 6.7). In all functions at most `context.room` levels are left for the parts of
 // a node, and each answers what is read, how high its highest node is, and what stands behind it.
 ghost use Rattle.std.specs.Prelude.{◌≡◌, ◌+◌, ◌≤◌, IfOk};
+ghost use Rattle.qs_syntax.specs.ReadsTypes.{Plain, Any};
 ghost use Rattle.qs_syntax.specs.Trees as trees;
 ghost use Rattle.qs_syntax.specs.Trees.{list, unnumbered};
 ghost use Rattle.qs_syntax.specs.TreeOf.{expr_tree, lengths_tree, declarator_tree};
 ghost use Rattle.qs_syntax.specs.TreeOf.{initialiser_tree, initialisers_tree, variable_tree};
 ghost use Rattle.qs_syntax.specs.TreeOf.{declaration_tree, members_tree, parameter_tree};
 ghost use Rattle.qs_parser_grammar.specs.ParseDeclarations.{given_lengths, is_empty_brackets, lengths};
-ghost use Rattle.qs_parser_grammar.specs.ParseDeclarations.{named, declarator, begins_initialiser};
+ghost use Rattle.qs_parser_grammar.specs.ParseDeclarations.{behind_name, declarator, begins_initialiser};
 ghost use Rattle.qs_parser_grammar.specs.ParseDeclarations.{initialiser, variable, variables, declared};
 ghost use Rattle.qs_parser_grammar.specs.ParseDeclarations.{declaration, declaration_within, declarators};
 ghost use Rattle.qs_parser_grammar.specs.ParseDeclarations.{members, groups, with_name, is_void_alone};
@@ -19,8 +20,8 @@ ghost use Rattle.qs_parser.specs.UnitReaders.{lengths_of, initialisers, initiali
 
 use qs_base::Name;
 use qs_parser_expressions::{
-    Context, Form, Halt, begins_one, expect, expect_name, followed, is_keyword, is_punctuator,
-    part, place, stars, starts, strip, type_of,
+    Context, Form, Halt, begins_one, expect, expect_any_name, expect_name, followed, is_keyword,
+    is_punctuator, part, place, stars, starts, strip, type_of,
 };
 use qs_syntax::{
     Base, Declaration, Declarator, Expr, Initialiser, InitialiserList, Lengths, Members, Node,
@@ -95,17 +96,18 @@ fn lengths(context: Context, tokens: &[Terminal]) -> Result<(Lengths, u32, &[Ter
     lengths_of(context, true, rest)
 }
 
-/// A declarator, behind its stars.
-fn named(
+/// A declarator, behind its name.
+fn behind_name(
     context: Context,
     stars: u32,
+    token: u32,
+    name: Name,
     tokens: &[Terminal],
 ) -> Result<(Declarator, u32, &[Terminal]), Halt>
-    ensures gives { Reads declarator_tree result (named context.room stars tokens.now) }
+    ensures gives { Reads declarator_tree result (behind_name context.room stars (token, name) tokens.now) }
     ensures low { IfOk result (λ x. x.1 ≤ context.room) }
 {
-    let (token, name, rest) = expect_name(context.alloc, tokens)?;
-    let (lengths, height, rest) = lengths(context, rest)?;
+    let (lengths, height, rest) = lengths(context, tokens)?;
     let declarator = Declarator {
         node: Node { id: 0, token },
         stars,
@@ -115,14 +117,29 @@ fn named(
     Ok((declarator, height, rest))
 }
 
-/// A name with the stars before it and the brackets behind it (C11 6.7.6).
+/// A name that is no type's, with the stars before it and the brackets behind it (C11 6.7.6).
 #[tactic(auto, unfolding(qs_parser_grammar::specs::ParseDeclarations::declarator))]
 fn declarator(context: Context, tokens: &[Terminal]) -> Result<(Declarator, u32, &[Terminal]), Halt>
-    ensures gives { Reads declarator_tree result (declarator context.room tokens.now) }
+    ensures gives { Reads declarator_tree result (declarator Plain context.room tokens.now) }
     ensures low { IfOk result (λ x. x.1 ≤ context.room) }
 {
     let (stars, rest) = stars(tokens)?;
-    named(context, stars, rest)
+    let (token, name, rest) = expect_name(context.alloc, rest)?;
+    behind_name(context, stars, token, name, rest)
+}
+
+/// The same of a name that may be a type's: of a member, or in a typedef (C11 6.7.2.1, 6.7.8).
+#[tactic(auto, unfolding(qs_parser_grammar::specs::ParseDeclarations::declarator))]
+pub fn any_declarator(
+    context: Context,
+    tokens: &[Terminal],
+) -> Result<(Declarator, u32, &[Terminal]), Halt>
+    ensures gives { Reads declarator_tree result (declarator Any context.room tokens.now) }
+    ensures low { IfOk result (λ x. x.1 ≤ context.room) }
+{
+    let (stars, rest) = stars(tokens)?;
+    let (token, name, rest) = expect_any_name(context.alloc, rest)?;
+    behind_name(context, stars, token, name, rest)
 }
 
 /// The initialisers of a list, and the brace behind them (C11 6.7.9).
@@ -322,7 +339,7 @@ fn declarators(
     let mut height: u32 = 0;
     let mut rest = tokens;
     for _ in 0..tokens.len() {
-        let (item, high, after) = declarator(context, rest)?;
+        let (item, high, after) = any_declarator(context, rest)?;
         declarators.push(item)?;
         height = height.max(high + 1);
         if let Some(behind) = strip(Punctuator::Semicolon, after) {

@@ -4,6 +4,7 @@
 
 mod declarations;
 mod laws;
+mod marks;
 mod parse;
 mod statement_nodes;
 mod statements;

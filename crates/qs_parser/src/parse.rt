@@ -1,7 +1,8 @@
 // From tokens to a unit.
-ghost use Rattle.std.specs.Prelude.{◌≡◌, ◌+◌, ◌≤◌, ◌<◌, ◌^◌, true, length};
+ghost use Rattle.std.specs.Prelude.{◌≡◌, ◌+◌, ◌≤◌, ◌<◌, ◌^◌, true, length, []};
 ghost use Rattle.std.specs.List.{list_all};
 ghost use Rattle.qs_syntax_vocabulary.specs.WellFormed.{is_well_formed};
+ghost use Rattle.qs_syntax_vocabulary.specs.Marks.{marked};
 ghost use Rattle.qs_lexer.specs.Tokens.{Tokens};
 ghost use Rattle.qs_lexer.specs.Terminals.{terminals};
 ghost use Rattle.qs_parser.specs.Answers.{Answers, IsDecision};
@@ -14,27 +15,29 @@ use qs_syntax::{Unit, numbered};
 use qs_syntax_vocabulary::{Terminal, Token};
 use std::alloc::Global;
 
-/// The number of the token at which this many are left of these.
-fn number_of(tokens: &[Terminal], left: usize) -> u32
-    requires few { length tokens.now < 2 ^ 32 }
-    requires within { left ≤ length tokens.now }
-    ensures { result + left ≡ length tokens.now }
+/// The number of the token at which this many are left of all.
+fn number_of(all: usize, left: usize) -> u32
+    requires few { all < 2 ^ 32 }
+    requires within { left ≤ all }
+    ensures { result + left ≡ all }
 {
-    (tokens.len() - left) as u32
+    (all - left) as u32
 }
 
 /// The unit that these terminals are read as.
-fn unit_of(alloc: Global, tokens: &[Terminal]) -> Result<Unit, SyntaxFault>
-    requires tokens { list_all is_well_formed tokens.now ≡ true }
-    requires few { length tokens.now < 2 ^ 32 }
-    ensures answers { Answers tokens.now result }
-    ensures decides { IsDecision tokens.now result }
+fn unit_of(alloc: Global, tokens: Vec<Terminal>) -> Result<Unit, SyntaxFault>
+    requires tokens { list_all is_well_formed tokens.items ≡ true }
+    requires unmarked { marked [] tokens.items ≡ tokens.items }
+    requires few { length tokens.items < 2 ^ 32 }
+    ensures answers { Answers tokens.items result }
+    ensures decides { IsDecision tokens.items result }
 {
+    let all = tokens.len();
     match read_unit(alloc, tokens) {
         Ok((unnumbered, _height)) => Ok(numbered(alloc, unnumbered)?),
         Err(Halt::NoMemory) => Err(SyntaxFault::NoMemory),
-        Err(Halt::Unexpected(left)) => Err(SyntaxFault::Unexpected(number_of(tokens, left))),
-        Err(Halt::TooDeep(left)) => Err(SyntaxFault::TooDeep(number_of(tokens, left))),
+        Err(Halt::Unexpected(left)) => Err(SyntaxFault::Unexpected(number_of(all, left))),
+        Err(Halt::TooDeep(left)) => Err(SyntaxFault::TooDeep(number_of(all, left))),
     }
 }
 
@@ -65,5 +68,5 @@ pub fn unit(alloc: Global, text: &[u8], tokens: &[Token]) -> Result<Unit, Syntax
 {
     are_few(text, tokens);
     let seen = terminals(alloc, text, tokens)?;
-    unit_of(alloc, &seen)
+    unit_of(alloc, seen)
 }

@@ -19,7 +19,7 @@ ghost use Rattle.qs_parser_expressions.specs.Readers.{assignment_of, after_unary
 use crate::context::Context;
 use crate::halt::Halt;
 use crate::heads::{
-    access_at, assign_at, begins_cast, begins_one, expect, expect_name, is_punctuator,
+    access_at, assign_at, begins_cast, begins_one, expect, expect_any_name, is_punctuator,
     level_operator_at, place, starts, starts_suffix, starts_with, strip,
 };
 use crate::nodes;
@@ -282,7 +282,7 @@ fn member_of(
     ensures gives { ReadsExpr result (member_of context start object height access tokens.now) }
     ensures low { IfOk result (λ x. x.1 ≤ context.room + 1) }
 {
-    let (_at, name, rest) = expect_name(context.alloc, tokens)?;
+    let (_at, name, rest) = expect_any_name(context.alloc, tokens)?;
     Ok((nodes::member(start, access, object, name), height + 1, rest))
 }
 

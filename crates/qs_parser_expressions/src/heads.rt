@@ -1,9 +1,11 @@
 // What tokens begin with.
 ghost use Rattle.std.specs.Prelude.{◌≡◌, Ok, is_some, IfSome};
+ghost use Rattle.qs_syntax.specs.ReadsTypes.{Plain, Any};
 ghost use Rattle.qs_syntax.specs.Reads.{place};
 ghost use Rattle.qs_syntax_vocabulary.specs.Operators.{access_of, assign_of, binary_of};
 ghost use Rattle.qs_parser_grammar.specs.Heads.{is_punctuator, is_keyword, starts, starts_with};
-ghost use Rattle.qs_parser_grammar.specs.Heads.{starts_step, operator_at, begins_type};
+ghost use Rattle.qs_parser_grammar.specs.Heads.{starts_step, operator_at, starts_type_name};
+ghost use Rattle.qs_parser_grammar.specs.Heads.{begins_type};
 ghost use Rattle.qs_parser_grammar.specs.Parse.{expect, expect_name, begins_one, begins_cast};
 ghost use Rattle.qs_parser_grammar.specs.Parse.{starts_suffix, operator_of_level};
 ghost use Rattle.qs_parser_expressions.specs.View.{Gives, rest_of, name_of};
@@ -23,6 +25,7 @@ pub fn is_punctuator(punctuator: Punctuator, token: &Terminal) -> bool
     match token {
         Terminal::Punctuator(_, other) => *other == punctuator,
         Terminal::Name(..)
+        | Terminal::TypeName(..)
         | Terminal::Keyword(..)
         | Terminal::Constant { .. }
         | Terminal::Text(..) => false,
@@ -36,6 +39,7 @@ pub fn is_keyword(keyword: Keyword, token: &Terminal) -> bool
     match token {
         Terminal::Keyword(_, other) => *other == keyword,
         Terminal::Name(..)
+        | Terminal::TypeName(..)
         | Terminal::Punctuator(..)
         | Terminal::Constant { .. }
         | Terminal::Text(..) => false,
@@ -95,12 +99,23 @@ pub fn strip(punctuator: Punctuator, tokens: &[Terminal]) -> Option<&[Terminal]>
     }
 }
 
-/// A name: the number of its token, its bytes, and what stands behind it.
+/// A name that is no type's: the number of its token, its bytes, and what stands behind it.
 pub fn expect_name(alloc: Global, tokens: &[Terminal]) -> Result<(u32, Name, &[Terminal]), Halt>
-    ensures { Gives name_of result (expect_name tokens.now) }
+    ensures { Gives name_of result (expect_name Plain tokens.now) }
 {
     match tokens {
         [Terminal::Name(at, name), rest @ ..] => Ok((*at, name.copy(alloc)?, rest)),
+        _ => Err(Halt::Unexpected(tokens.len())),
+    }
+}
+
+/// A name, a type's or not: the number of its token, its bytes, and what stands behind it.
+pub fn expect_any_name(alloc: Global, tokens: &[Terminal]) -> Result<(u32, Name, &[Terminal]), Halt>
+    ensures { Gives name_of result (expect_name Any tokens.now) }
+{
+    match tokens {
+        [Terminal::Name(at, name), rest @ ..] => Ok((*at, name.copy(alloc)?, rest)),
+        [Terminal::TypeName(at, name), rest @ ..] => Ok((*at, name.copy(alloc)?, rest)),
         _ => Err(Halt::Unexpected(tokens.len())),
     }
 }
@@ -113,6 +128,7 @@ pub fn place(tokens: &[Terminal]) -> u32
         [] => 0,
         [
             Terminal::Name(at, _)
+            | Terminal::TypeName(at, _)
             | Terminal::Keyword(at, _)
             | Terminal::Constant { at, .. }
             | Terminal::Text(at, _)
@@ -182,6 +198,7 @@ pub fn begins_one(tokens: &[Terminal]) -> bool
 {
     match tokens {
         [] => false,
+        [Terminal::TypeName(..), ..] => false,
         [Terminal::Keyword(..), ..] => starts_with(Keyword::Sizeof, tokens),
         [Terminal::Punctuator(_, punctuator), ..] => {
             UnaryOperator::of(*punctuator).is_some() || opens_or_steps(tokens)
@@ -208,11 +225,22 @@ pub fn begins_cast(tokens: &[Terminal]) -> bool
     }
 }
 
+/// Whether the name of a type stands first.
+fn starts_type_name(tokens: &[Terminal]) -> bool
+    ensures { result ≡ starts_type_name tokens.now }
+{
+    match tokens {
+        [Terminal::TypeName(..), ..] => true,
+        _ => false,
+    }
+}
+
 /// Whether a type begins here, without `static` before it (C11 6.7.2, 6.7.3).
 pub fn begins_type(tokens: &[Terminal]) -> bool
     ensures { result ≡ begins_type tokens.now }
 {
-    starts_with(Keyword::Const, tokens)
+    starts_type_name(tokens)
+        || starts_with(Keyword::Const, tokens)
         || starts_with(Keyword::Void, tokens)
         || starts_with(Keyword::Int, tokens)
         || starts_with(Keyword::Char, tokens)

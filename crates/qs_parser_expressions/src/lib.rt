@@ -12,7 +12,7 @@ pub use context::Context;
 pub use expressions::{Form, followed, part};
 pub use halt::Halt;
 pub use heads::{
-    begins_one, begins_type, expect, expect_name, is_keyword, is_punctuator, place, starts,
-    starts_with, strip,
+    begins_one, begins_type, expect, expect_any_name, expect_name, is_keyword, is_punctuator,
+    place, starts, starts_with, strip,
 };
 pub use types::{outer_type, stars, type_of};

@@ -1,12 +1,13 @@
 // Types (C11 6.7.2, 6.7.3, 6.7.6, 6.7.7).
 ghost use Rattle.std.specs.Prelude.{◌≡◌, Ok};
-ghost use Rattle.qs_parser_grammar.specs.Parse.{skip_consts, after_unsigned, after_signed, tagged, base};
+ghost use Rattle.qs_parser_grammar.specs.Parse.{skip_consts, after_unsigned, after_signed, tagged};
+ghost use Rattle.qs_parser_grammar.specs.Parse.{named_type, base};
 ghost use Rattle.qs_parser_grammar.specs.Parse.{type, stars_from, stars, type_name};
 ghost use Rattle.qs_parser_grammar.specs.ParseDeclarations.{skip_prefixes, outer_type};
 ghost use Rattle.qs_parser_expressions.specs.View.{Gives, base_of, stars_of, type_name_of};
 
 use crate::halt::Halt;
-use crate::heads::{expect_name, is_keyword, is_punctuator, starts};
+use crate::heads::{expect_any_name, is_keyword, is_punctuator, starts};
 use qs_syntax::{Base, TypeName};
 use qs_syntax_vocabulary::{Keyword, Punctuator, Terminal};
 use std::alloc::Global;
@@ -50,8 +51,18 @@ fn after_signed(tokens: &[Terminal]) -> Result<(Base, &[Terminal]), Halt>
 fn tagged(alloc: Global, tokens: &[Terminal]) -> Result<(Base, &[Terminal]), Halt>
     ensures { Gives base_of result (tagged tokens.now) }
 {
-    let (_at, name, rest) = expect_name(alloc, tokens)?;
+    let (_at, name, rest) = expect_any_name(alloc, tokens)?;
     Ok((Base::Struct(name), rest))
+}
+
+/// The name of a type.
+fn named_type(alloc: Global, tokens: &[Terminal]) -> Result<(Base, &[Terminal]), Halt>
+    ensures { Gives base_of result (named_type tokens.now) }
+{
+    match tokens {
+        [Terminal::TypeName(_, name), rest @ ..] => Ok((Base::Named(name.copy(alloc)?), rest)),
+        _ => Err(Halt::Unexpected(tokens.len())),
+    }
 }
 
 /// What a type begins with, without `const` (C11 6.7.2).
@@ -74,7 +85,7 @@ pub fn base(alloc: Global, tokens: &[Terminal]) -> Result<(Base, &[Terminal]), H
             } else if is_keyword(Keyword::Struct, first) {
                 tagged(alloc, rest)
             } else {
-                Err(Halt::Unexpected(tokens.len()))
+                named_type(alloc, tokens)
             }
         }
     }

@@ -1,13 +1,13 @@
 -- Small lists that begin a unit, or none: each is shown, or computed by the parser.
-use Rattle.std.proofs.Common.{◌≡◌, ℕ, zero, suc, false, Ok, Err, Some, List, [], ◌∷◌, ◌++◌, length, refl, arith, ◌==◌}
+use Rattle.std.proofs.Common.{◌≡◌, ℕ, zero, suc, false, Ok, Err, Some, List, [], ◌∷◌, ◌++◌, length, refl, ◌∙◌, arith, ◌==◌, ap}
 use Rattle.std.proofs.lemmas.Bool.{eqb-true, false_from_ne_true}
 use Rattle.qs_syntax_vocabulary.specs.declared.terminal.Terminal.{Terminal}
 use Rattle.qs_syntax_vocabulary.specs.declared.terminal.Terminal.TheVariants.{Name, Keyword, Punctuator}
 use Rattle.qs_base.specs.declared.keyword.Keyword.TheVariants as keywords
 use Rattle.qs_syntax_vocabulary.specs.declared.punctuator.Punctuator.TheVariants as punctuators
-use Rattle.qs_syntax.specs.ReadsTypes.{no_prefix, no_const, an_int, an_outer_type, no_star}
+use Rattle.qs_syntax.specs.ReadsTypes.{no_prefix, no_const, an_int, an_outer_type, no_star, a_plain_name}
 use Rattle.qs_syntax.specs.ReadsDeclarations.{no_length, are_given, a_declarator, an_unset_variable, a_last_variable, an_outer_declaration}
-use Rattle.qs_syntax.specs.ReadsUnits.{some_variables, ReadsUnit, a_last_external}
+use Rattle.qs_syntax.specs.ReadsUnits.{some_variables, ReadsUnit, a_last_external, a_plain_external}
 use Rattle.qs_syntax.specs.declared.types.Base.TheVariants as bases
 use Rattle.qs_syntax.specs.Trees.{unnumbered, expr, name, empty, branch, else_by, no_stmts, stmt_and, DeclTree, function}
 use Rattle.qs_syntax.specs.Begins.{BeginsUnit, BeginsLowUnit}
@@ -15,9 +15,11 @@ use Rattle.qs_syntax.specs.Reads.{Form, Assignment, Expression}
 use Rattle.qs_parser_grammar.specs.Heads.{begins_type}
 use Rattle.qs_parser_grammar.specs.Parse.{Stop, Unexpected, Deep, Parse, E, stars, primary, suffixes, unary_of_all, operations, climb, commas, expression, part}
 use Rattle.qs_parser_grammar.specs.ParseDeclarations.{outer_type, given_lengths, lengths, declarator, initialiser, variable, variables, head}
-use Rattle.qs_parser_grammar.specs.ParseStatements.{items, statement, external, externals, unit}
+use Rattle.qs_parser_grammar.specs.ParseStatements.{items, statement, external, externals, unit, plain}
 use Rattle.qs_parser_grammar.proofs.UnitsSound.{reads_whole}
 use Rattle.qs_parser_grammar.proofs.FaultPlaces.{no_unit}
+use Rattle.qs_syntax_vocabulary.specs.Marks.{marked}
+use Rattle.qs_parser_grammar.proofs.MarkLaws.{as_many}
 
 -- int
 abbrev pub an_int_token : Terminal
@@ -37,8 +39,8 @@ a_parenthesis = Punctuator 2 punctuators.CloseParenthesis
 pub a_declaration : (ds : List DeclTree) × ReadsUnit 1 (an_int_token ∷ a_name ∷ a_semicolon 2 ∷ []) ds
 a_declaration = (
   _,
-  a_last_external (some_variables (an_outer_declaration {xs = an_int_token ∷ []} {ys = a_name ∷ []} 2 (an_outer_type {xs = []} {ys = an_int_token ∷ []} {zs = []} no_prefix (an_int 0) no_const)
-      (a_last_variable (an_unset_variable (a_declarator {xs = []} {ys = []} 1 (120 ∷ []) no_star (are_given no_length)))))),
+  a_last_external (a_plain_external (some_variables (an_outer_declaration {xs = an_int_token ∷ []} {ys = a_name ∷ []} 2 (an_outer_type {xs = []} {ys = an_int_token ∷ []} {zs = []} no_prefix (an_int 0) no_const)
+      (a_last_variable (an_unset_variable (a_declarator {xs = []} {ys = []} no_star (a_plain_name 1 (120 ∷ [])) (are_given no_length))))))),
 )
 
 -- `int` begins it, and so does all of it
@@ -50,11 +52,11 @@ declaration_begins_low = record { rest = []; height = 1; ds = a_declaration.0; r
 
 -- a semicolon begins none, nor does `int x )`
 semicolon_begins_none : BeginsUnit (a_semicolon 0 ∷ []) → ⊥
-unfolding unit externals external outer_type
+unfolding unit externals external plain outer_type
 semicolon_begins_none = no_unit 126 (a_semicolon 0 ∷ []) [] refl
 
 parenthesis_ends_none : BeginsUnit (an_int_token ∷ a_name ∷ a_parenthesis ∷ []) → ⊥
-unfolding unit externals external outer_type stars variables variable declarator lengths given_lengths
+unfolding unit externals external plain outer_type stars variables variable declarator lengths given_lengths
 parenthesis_ends_none = no_unit 126 (an_int_token ∷ a_name ∷ a_parenthesis ∷ []) [] refl
 
 -- so many opening parentheses
@@ -93,21 +95,28 @@ unfolding part
 deep_assignment rest no_type = inside_assignment 125 (part 126) (opening 125 ++ rest) (Deep (suc (length rest))) (deep_in_part 125 rest no_type)
 
 -- what is told of an initialiser is told of the unit
-told_of_initialiser : (us : List Terminal) (stop : Stop) → part 127 Assignment (Punctuator 3 punctuators.OpenParenthesis ∷ us) ≡ Err stop → unit 126 (nested 1 ++ us) ≡ Err stop
-unfolding unit externals external outer_type stars variables variable declarator lengths given_lengths initialiser
+told_of_initialiser : (us : List Terminal) (stop : Stop) → part 127 Assignment (Punctuator 3 punctuators.OpenParenthesis ∷ marked [] us) ≡ Err stop → unit 126 (nested 1 ++ us) ≡ Err stop
+unfolding unit externals external plain outer_type stars variables variable declarator lengths given_lengths initialiser
 told_of_initialiser us stop e = rw e refl
 
+-- parentheses have no marks
+opening_marked : (n : ℕ) (rest : List Terminal) → marked [] (opening n ++ rest) ≡ opening n ++ marked [] rest
+opening_marked zero rest = refl
+opening_marked (suc n) rest = ap (λ l. Punctuator 3 punctuators.OpenParenthesis ∷ l) (opening_marked n rest)
+
 -- the last of 127 is too deep there
-pub nested_is_deep : (rest : List Terminal) → begins_type rest ≡ false → unit 126 (nested 127 ++ rest) ≡ Err (Deep (suc (length rest)))
-nested_is_deep rest no_type = told_of_initialiser (opening 126 ++ rest) (Deep (suc (length rest))) (deep_assignment rest no_type)
+pub nested_is_deep : (rest : List Terminal) → begins_type (marked [] rest) ≡ false → unit 126 (nested 127 ++ rest) ≡ Err (Deep (suc (length rest)))
+nested_is_deep rest no_type =
+    told_of_initialiser (opening 126 ++ rest) (Deep (suc (length rest)))
+    (ap (λ l. part 127 Assignment (Punctuator 3 punctuators.OpenParenthesis ∷ l)) (opening_marked 126 rest) ∙ deep_assignment (marked [] rest) no_type ∙ ap (λ n. Err (Deep (suc n))) (as_many [] rest))
 
 -- what is told of `int x` and of `int x )`
 pub name_is_unexpected : unit 126 (an_int_token ∷ a_name ∷ []) ≡ Err (Unexpected 0)
-unfolding unit externals external outer_type stars variables variable declarator lengths given_lengths
+unfolding unit externals external plain outer_type stars variables variable declarator lengths given_lengths
 name_is_unexpected = refl
 
 pub parenthesis_is_unexpected : unit 126 (an_int_token ∷ a_name ∷ a_parenthesis ∷ []) ≡ Err (Unexpected 1)
-unfolding unit externals external outer_type stars variables variable declarator lengths given_lengths
+unfolding unit externals external plain outer_type stars variables variable declarator lengths given_lengths
 parenthesis_is_unexpected = refl
 
 -- int x(){if(x);else;
@@ -129,7 +138,7 @@ an_if_is_read : unit 126 (an_if ++ Punctuator 12 punctuators.CloseBrace ∷ []) 
   ),
   [],
 )
-unfolding unit externals external outer_type stars head items statement part expression primary suffixes unary_of_all operations climb commas
+unfolding unit externals external plain outer_type stars head items statement part expression primary suffixes unary_of_all operations climb commas
 an_if_is_read = refl
 
 -- with a brace behind it, it is a unit
@@ -138,5 +147,5 @@ an_if_reads = (_, (reads_whole (an_if ++ Punctuator 12 punctuators.CloseBrace �
 
 -- a second `else` is told
 pub else_is_unexpected : unit 126 (an_if ++ Keyword 12 keywords.Else ∷ []) ≡ Err (Unexpected 1)
-unfolding unit externals external outer_type stars head items statement part expression primary suffixes unary_of_all operations climb commas
+unfolding unit externals external plain outer_type stars head items statement part expression primary suffixes unary_of_all operations climb commas
 else_is_unexpected = refl

@@ -2,7 +2,7 @@
 use Rattle.std.proofs.Common.{◌≡◌, ℕ, zero, suc, ◌+◌, ◌<◌, ◌≤◌, max, List, [], ◌∷◌, ◌++◌, length, Result, Ok, refl, sym, ap, ◌∙◌, append_assoc, append-nil, add-one, length-append, true, false, true≢false, arith, ◌==◌, ◌&&◌}
 use Rattle.std.proofs.lemmas.Bool.{and_right, false_from_ne_true, ne_eqb}
 use Rattle.qs_syntax_vocabulary.specs.declared.terminal.Terminal.{Terminal}
-use Rattle.qs_syntax_vocabulary.specs.declared.terminal.Terminal.TheVariants.{Name, Punctuator}
+use Rattle.qs_syntax_vocabulary.specs.declared.terminal.Terminal.TheVariants.{Punctuator}
 use Rattle.qs_syntax_vocabulary.specs.declared.punctuator.Punctuator as punctuator
 use Rattle.qs_syntax_vocabulary.specs.declared.punctuator.Punctuator.TheVariants as punctuators
 use Rattle.qs_syntax.specs.Trees.{unnumbered, ExprTree, LengthsTree, DeclaratorTree, InitialiserTree, list, Initialisers, no_initialisers, initialiser_and, initialisers_of, VariableTree, DeclarationTree}
@@ -12,10 +12,11 @@ use Rattle.qs_parser_grammar.specs.Heads.{starts, begins_type}
 use Rattle.qs_parser_grammar.specs.Parse.{Stop, begins_one}
 use Rattle.qs_parser_grammar.specs.ParseDeclarations.{given_lengths, is_empty_brackets, lengths, declarator, initialisers, initialiser, variable, variables, declaration, declaration_within}
 use Rattle.qs_parser_grammar.specs.Stops.{Stops}
-use Rattle.qs_parser_grammar.proofs.HeadsLaws.{starts_is, not_starts}
-use Rattle.qs_parser_grammar.proofs.TypesComplete.{goes_on_type, stars_go_on, finds_stars, finds_type, type_begins}
+use Rattle.qs_parser_grammar.proofs.HeadsLaws.{starts_is, not_starts, finds_name}
+use Rattle.qs_parser_grammar.proofs.TypesComplete.{goes_on_type, stars_go_on, finds_stars, finds_type, type_begins, goes_on_stars}
 use Rattle.qs_parser_grammar.proofs.ExpressionsBegin.{begins, high}
 use Rattle.qs_parser_grammar.proofs.ExpressionsComplete.{finds}
+use Rattle.qs_syntax.specs.ReadsTypes.{Names, ReadsName, a_plain_name, a_name_of_a_type}
 
 -- ---- lists that are read from the front
 
@@ -78,13 +79,21 @@ finds_lengths (first_open {h = h} {ts = ts} {es = es} o c r) m le rest stop =
 
 -- ---- declarators
 
-pub finds_declarator : {h : ℕ} {ts : List Terminal} {d : DeclaratorTree} → ReadsDeclarator h ts d → (m : ℕ) → h ≤ m → (rest : List Terminal) → starts punctuators.OpenBracket rest ≡ false → declarator m (ts ++ rest) ≡ Ok ((d, h), rest)
-unfolding declarator
-finds_declarator (a_declarator {xs = xs} {ys = ys} at x s r) m le rest stop =
-    rw (append_assoc xs (Name at x ∷ ys) rest, finds_stars s (Name at x ∷ (ys ++ rest)) refl, finds_lengths r m le rest stop) refl
+name_no_stars : {names : Names} {t : Terminal} {at : ℕ} {x : List ℕ} → ReadsName names t at x → (rest : List Terminal) → goes_on_stars (t ∷ rest) ≡ false
+name_no_stars (a_plain_name at x) rest = refl
+name_no_stars (a_name_of_a_type at x) rest = refl
 
-pub declarator_no_type : {h : ℕ} {ts : List Terminal} {d : DeclaratorTree} → ReadsDeclarator h ts d → (rest : List Terminal) → goes_on_type (ts ++ rest) ≡ false
-declarator_no_type (a_declarator {xs = xs} {ys = ys} at x s r) rest = rw (append_assoc xs (Name at x ∷ ys) rest) (stars_go_on s (Name at x ∷ (ys ++ rest)) refl)
+name_no_type : {names : Names} {t : Terminal} {at : ℕ} {x : List ℕ} → ReadsName names t at x → (rest : List Terminal) → goes_on_type (t ∷ rest) ≡ false
+name_no_type (a_plain_name at x) rest = refl
+name_no_type (a_name_of_a_type at x) rest = refl
+
+pub finds_declarator : {names : Names} {h : ℕ} {ts : List Terminal} {d : DeclaratorTree} → ReadsDeclarator names h ts d → (m : ℕ) → h ≤ m → (rest : List Terminal) → starts punctuators.OpenBracket rest ≡ false → declarator names m (ts ++ rest) ≡ Ok ((d, h), rest)
+unfolding declarator
+finds_declarator (a_declarator {xs = xs} {ys = ys} {t = t} s name r) m le rest stop =
+    rw (append_assoc xs (t ∷ ys) rest, finds_stars s (t ∷ (ys ++ rest)) (name_no_stars name (ys ++ rest)), finds_name name (ys ++ rest), finds_lengths r m le rest stop) refl
+
+pub declarator_no_type : {names : Names} {h : ℕ} {ts : List Terminal} {d : DeclaratorTree} → ReadsDeclarator names h ts d → (rest : List Terminal) → goes_on_type (ts ++ rest) ≡ false
+declarator_no_type (a_declarator {xs = xs} {ys = ys} {t = t} s name r) rest = rw (append_assoc xs (t ∷ ys) rest) (stars_go_on s (t ∷ (ys ++ rest)) (name_no_type name (ys ++ rest)))
 
 -- ---- initialisers
 

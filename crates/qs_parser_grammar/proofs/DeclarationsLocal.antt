@@ -2,7 +2,7 @@
 use Rattle.std.proofs.Common.{◌≡◌, ℕ, zero, suc, ◌+◌, ◌<◌, ◌≤◌, Bool, true, false, cond, List, [], ◌∷◌, ◌++◌, length, Ok, Err, Some, None, refl, sym, ap, ◌∙◌, arith, length-append}
 use Rattle.std.specs.Prelude.{max, ◌==◌, ◌&&◌}
 use Rattle.qs_syntax_vocabulary.specs.declared.terminal.Terminal.{Terminal}
-use Rattle.qs_syntax_vocabulary.specs.declared.terminal.Terminal.TheVariants.{Name, Keyword, Constant, Text, Punctuator}
+use Rattle.qs_syntax_vocabulary.specs.declared.terminal.Terminal.TheVariants.{Name, TypeName, Keyword, Constant, Text, Punctuator}
 use Rattle.qs_base.specs.declared.keyword.Keyword.TheVariants as keywords
 use Rattle.qs_syntax_vocabulary.specs.declared.punctuator.Punctuator as punctuator
 use Rattle.qs_syntax_vocabulary.specs.declared.punctuator.Punctuator.TheVariants as punctuators
@@ -18,6 +18,7 @@ use Rattle.qs_parser_grammar.proofs.NodeCounts.{type_some}
 use Rattle.qs_parser_grammar.proofs.DeclarationsMembers.{sound_members}
 use Rattle.qs_parser_grammar.proofs.ExpressionsLocal.{skip_shrinks, Local-skip, Local-base, Local-type, Local-stars, begins_one_same, part_nothing, Local-part}
 use Rattle.qs_parser_grammar.proofs.Local.{left, extend, Local, read_on-left, Local-read_on, Local-look, Local-weak, Local-cons, Local-same, Local-turn, Local-ok, Local-unexpected-all, Local-deep-all, Local-deeper, Local-if, Local-starts, Local-place, Local-punctuator, Local-name, cond-left, Local-two, read_on_same, read_on_nothing, cond_same, expect_takes, leaves_less, Turns, Local-turns, Local-after, after_same, Looks-punctuator, Looks-keyword, sound_takes}
+use Rattle.qs_syntax.specs.ReadsTypes.{Any, Names, Plain}
 
 -- ---- types at file scope
 
@@ -117,20 +118,20 @@ Local-lengths m =
 
 -- ---- declarators
 
-pub Local-named : (m n : ℕ) → Local 0 (named m n)
-Local-named m n = Local-name _ (λ x. Local-read_on _ (λ l. Local-ok _) (lengths m) (Local-lengths m))
+pub Local-named : (names : Names) (m n : ℕ) → Local 0 (named names m n)
+Local-named names m n = Local-name names _ (λ x. Local-read_on _ (λ l. Local-ok _) (lengths m) (Local-lengths m))
 
-pub named_fewer : (m n at : ℕ) (x : List ℕ) (us : List Terminal) → left (named m n (Name at x ∷ us)) ≤ length us
+pub named_fewer : (m n at : ℕ) (x : List ℕ) (us : List Terminal) → left (named Plain m n (Name at x ∷ us)) ≤ length us
 named_fewer m n at x us =
     omega (arith, read_on-left _ (λ (l : LengthsTree × ℕ). Local-ok {A = DeclaratorTree × ℕ} (record { node = unnumbered at; stars = n; name = x; lengths = l.0 }, l.1)) (lengths m us), (Local-lengths m).shrinks us)
 
-pub Local-declarator : (m : ℕ) → Local 0 (declarator m)
+pub Local-declarator : (names : Names) (m : ℕ) → Local 0 (declarator names m)
 unfolding declarator
-Local-declarator m = Local-read_on (λ n us. named m n us) (λ n. Local-named m n) (λ ts. Ok (stars ts)) Local-stars
+Local-declarator names m = Local-read_on (λ n us. named names m n us) (λ n. Local-named names m n) (λ ts. Ok (stars ts)) Local-stars
 
-declarator_nothing : (m : ℕ) → declarator m [] ≡ unexpected []
+pub declarator_nothing : (names : Names) (m : ℕ) → declarator names m [] ≡ unexpected []
 unfolding declarator stars
-declarator_nothing m = refl
+declarator_nothing names m = refl
 
 -- ---- initialisers
 
@@ -175,11 +176,11 @@ Local-initialised m d = Local-starts punctuators.Assign _ _ (Local-deeper m _ (L
 
 pub Local-variable : (m : ℕ) → Local 0 (variable m)
 unfolding variable
-Local-variable m = Local-read_on (initialised m) (λ d. Local-initialised m d) (declarator m) (Local-declarator m)
+Local-variable m = Local-read_on (initialised m) (λ d. Local-initialised m d) (declarator Plain m) (Local-declarator Plain m)
 
 variable_nothing : (m : ℕ) → variable m [] ≡ unexpected []
 unfolding variable
-variable_nothing m = read_on_nothing (initialised m) (declarator_nothing m)
+variable_nothing m = read_on_nothing (initialised m) (declarator_nothing Plain m)
 
 -- lists of what `one` reads, with commas between and a punctuator at the end
 module _ {X : Type 0} (one : Parse X) (good : Local 0 one) (nothing : one [] ≡ unexpected []) (closing : punctuator.Punctuator) (C : Type 0) (joined : C → X → C) where
@@ -207,7 +208,7 @@ pub Local-declared : (m : ℕ) (b : Base) → Local 0 (declared m b)
 Local-declared m b = Local-read_on _ (λ vs. Local-ok _) (λ ts. variables m (length ts) [] 0 ts) (Local-turns _ _ (variables_turns m) ([], 0))
 
 -- a list of variables begins with a declarator
-pub declared_left : (m : ℕ) (b : Base) (ts : List Terminal) → left (declared m b ts) ≤ left (declarator m ts)
+pub declared_left : (m : ℕ) (b : Base) (ts : List Terminal) → left (declared m b ts) ≤ left (declarator Plain m ts)
 unfolding variables variable
 declared_left m b [] = omega arith
 declared_left m b (t ∷ ts) =
@@ -215,7 +216,7 @@ declared_left m b (t ∷ ts) =
       arith,
       read_on-left _ (λ (vs : List VariableTree × ℕ). Local-ok {A = DeclarationTree × ℕ} (record { base = b; variables = vs.0 }, vs.1)) (variables m (suc (length ts)) [] 0 (t ∷ ts)),
       read_on-left _ (λ (v : VariableTree × ℕ). Local-after {B = List VariableTree × ℕ} punctuators.Semicolon punctuators.Comma (v.0 ∷ [], max 0 v.1) _ (Local-turn _ _ (variables_turns m) (length ts) (v.0 ∷ [], max 0 v.1))) (variable m (t ∷ ts)),
-      read_on-left (initialised m) (λ d. Local-initialised m d) (declarator m (t ∷ ts)),
+      read_on-left (initialised m) (λ d. Local-initialised m d) (declarator Plain m (t ∷ ts)),
     )
 
 pub Local-declaration_within : (n : ℕ) → Local 0 (declaration_within n)
@@ -228,9 +229,9 @@ Local-declaration_within (suc m) = Local-read_on (declared m) (λ b. Local-decla
 abbrev member_joined : List DeclaratorTree × ℕ → DeclaratorTree × ℕ → List DeclaratorTree × ℕ
 member_joined x d = (x.0 ++ d.0 ∷ [], max x.1 (d.1 + 1))
 
-declarators_turns : (m : ℕ) → Turns (λ n x. declarators m n x.0 x.1) (listed_turn (declarator m) (Local-declarator m) (declarator_nothing m) punctuators.Semicolon (List DeclaratorTree × ℕ) member_joined)
+declarators_turns : (m : ℕ) → Turns (λ n x. declarators m n x.0 x.1) (listed_turn (declarator Any m) (Local-declarator Any m) (declarator_nothing Any m) punctuators.Semicolon (List DeclaratorTree × ℕ) member_joined)
 unfolding declarators
-declarators_turns m = listed_turns (declarator m) (Local-declarator m) (declarator_nothing m) punctuators.Semicolon (List DeclaratorTree × ℕ) member_joined (λ n x. declarators m n x.0 x.1) (λ n x ts. refl) (λ x ts. refl)
+declarators_turns m = listed_turns (declarator Any m) (Local-declarator Any m) (declarator_nothing Any m) punctuators.Semicolon (List DeclaratorTree × ℕ) member_joined (λ n x. declarators m n x.0 x.1) (λ n x ts. refl) (λ x ts. refl)
 
 Local-members : (m : ℕ) → Local 0 (members m)
 unfolding members
@@ -275,6 +276,7 @@ Local-with_name m start b n = Local-look (with_name m start b n) (no_tokens) eac
 
     each : (t : Terminal) → Local 1 (λ ts. with_name m start b n (t ∷ ts))
     each (Name at x) = Local-weak _ (lengths_too (λ l. (record { node = unnumbered at; type_name = record { base = b; stars = n }; name = Some x; lengths = l.0 }, l.1 + 1)))
+    each (TypeName at x) = Local-cons _ (TypeName at x) (lengths_too unnamed)
     each (Keyword at k) = Local-cons _ (Keyword at k) (lengths_too unnamed)
     each (Constant at k unsigned) = Local-cons _ (Constant at k unsigned) (lengths_too unnamed)
     each (Text at bytes) = Local-cons _ (Text at bytes) (lengths_too unnamed)

@@ -5,7 +5,7 @@ use Rattle.qs_syntax_vocabulary.specs.declared.terminal.Terminal.TheVariants.{Pu
 use Rattle.qs_syntax_vocabulary.specs.declared.punctuator.Punctuator.TheVariants as punctuators
 use Rattle.qs_syntax.specs.declared.types.Base.{Base}
 use Rattle.qs_syntax.specs.Trees.{DeclaratorTree, MembersTree}
-use Rattle.qs_syntax.specs.ReadsTypes.{ReadsType}
+use Rattle.qs_syntax.specs.ReadsTypes.{ReadsType, Any}
 use Rattle.qs_syntax.specs.ReadsDeclarations.{ReadsDeclarator, ReadsDeclarators, a_last_member, a_member, ReadsMembers, a_group, ReadsAllMembers, a_last_group, a_further_group}
 use Rattle.qs_parser_grammar.specs.Heads.{starts}
 use Rattle.qs_parser_grammar.specs.ParseDeclarations.{declarators, members, groups}
@@ -18,7 +18,7 @@ use Rattle.qs_parser_grammar.proofs.DeclarationsSound.{sound_declarator}
 
 -- a declarator as a node
 abbrev IsMember : ℕ → List Terminal → DeclaratorTree → Type 0
-IsMember h l d = (k : ℕ) × (h ≡ suc k) × ReadsDeclarator k l d
+IsMember h l d = (k : ℕ) × (h ≡ suc k) × ReadsDeclarator Any k l d
 
 last_member : (h : ℕ) (ts : List Terminal) (d : DeclaratorTree) → IsMember h ts d → ReadsDeclarators h ts (d ∷ [])
 last_member h ts d (k, e, r) = rw e (a_last_member r)
@@ -30,7 +30,7 @@ sound_declarators : (m n : ℕ) (done : List DeclaratorTree) (h : ℕ) (ts : Lis
 unfolding declarators
 sound_declarators m zero done h ts = Sound-err at_end
 sound_declarators m (suc n) done h ts =
-    Sound-part _ (sound_declarator m ts)
+    Sound-part _ (sound_declarator Any m ts)
     (λ d front us r. sound_after punctuators.Semicolon IsMember ReadsDeclarators last_member further_member (suc m) (declarators m n) (λ done h ts. sound_declarators m n done h ts) done h d.0 (d.1 + 1) front (d.1, add-one d.1, r.0) (omega arith) us)
 
 abbrev pub AreMembers : ℕ → MembersTree × ℕ → List Terminal → Type 0

@@ -3,7 +3,7 @@ use Rattle.std.proofs.Common.{◌≡◌, ℕ, zero, suc, ◌+◌, ◌≤◌, Boo
 use Rattle.std.specs.Prelude.{max, ◌==◌, ◌&&◌}
 use Rattle.std.proofs.lemmas.Bool.{eqb-true, eq-eqb}
 use Rattle.qs_syntax_vocabulary.specs.declared.terminal.Terminal.{Terminal}
-use Rattle.qs_syntax_vocabulary.specs.declared.terminal.Terminal.TheVariants.{Name, Keyword, Constant, Text, Punctuator}
+use Rattle.qs_syntax_vocabulary.specs.declared.terminal.Terminal.TheVariants.{Name, TypeName, Keyword, Constant, Text, Punctuator}
 use Rattle.qs_syntax_vocabulary.specs.declared.punctuator.Punctuator.TheVariants as punctuators
 use Rattle.qs_syntax.specs.declared.types.Base.{Base}
 use Rattle.qs_syntax.specs.Trees.{ExprTree, DeclaratorTree, InitialiserTree, VariableTree, ParameterTree, MembersTree}
@@ -13,6 +13,7 @@ use Rattle.qs_parser_grammar.specs.Parse.{Parse, unexpected, deep, expect, expec
 use Rattle.qs_parser_grammar.specs.ParseDeclarations.{given_lengths, is_empty_brackets, behind_open, lengths, declarator, initialisers, begins_initialiser, initialiser, variable, variables, declared, declaration, declaration_within, declarators, members, groups, with_name, is_void_alone, parameter, parameters, is_void_head, head}
 use Rattle.qs_parser_grammar.proofs.MoreRoom.{DeepOrSame, DeepOrSame-refl, DeepOrSame-deep, DeepOrSame-read_on, DeepOrSame-then, DeepOrSame-last, DeepOrSame-some, DeepOrSame-cond}
 use Rattle.qs_parser_grammar.proofs.ExpressionsMoreRoom.{not_begun, more_room_part}
+use Rattle.qs_syntax.specs.ReadsTypes.{Any, Names, Plain}
 
 module _ (m n : ℕ) (le : m ≤ n) where
   more_room_given : (k : ℕ) (done : List ExprTree) (h : ℕ) (ts : List Terminal) → DeepOrSame (given_lengths m k done h ts) (given_lengths n k done h ts)
@@ -38,9 +39,9 @@ module _ (m n : ℕ) (le : m ≤ n) where
       DeepOrSame-cond (is_empty_brackets ts) (DeepOrSame-then (expect punctuators.OpenBracket ts) _ _ (λ _ us. DeepOrSame-then (expect punctuators.CloseBracket us) _ _ (λ _ vs. DeepOrSame-last _ (more_room_behind_open vs))))
       (DeepOrSame-last _ (more_room_given (length ts) [] 0 ts))
 
-  more_room_declarator : (ts : List Terminal) → DeepOrSame (declarator m ts) (declarator n ts)
+  pub more_room_declarator : (names : Names) (ts : List Terminal) → DeepOrSame (declarator names m ts) (declarator names n ts)
   unfolding declarator
-  more_room_declarator ts = DeepOrSame-then (expect_name (stars ts).1) _ _ (λ x us. DeepOrSame-last _ (more_room_lengths us))
+  more_room_declarator names ts = DeepOrSame-then (expect_name names (stars ts).1) _ _ (λ x us. DeepOrSame-last _ (more_room_lengths us))
 
 more_room_initialisers : (p q : Parse (InitialiserTree × ℕ)) → ((ts : List Terminal) → DeepOrSame (p ts) (q ts)) → (k : ℕ) (done : List InitialiserTree) (h : ℕ) (ts : List Terminal) → DeepOrSame (initialisers p k done h ts) (initialisers q k done h ts)
 unfolding initialisers
@@ -75,7 +76,7 @@ module _ (m n : ℕ) (le : m ≤ n) where
   more_room_variable : (ts : List Terminal) → DeepOrSame (variable m ts) (variable n ts)
   unfolding variable
   more_room_variable ts =
-      DeepOrSame-read_on _ _ (more_room_declarator m n le ts) (λ d us. DeepOrSame-cond (starts punctuators.Assign us) (DeepOrSame-some (length us) m n le (DeepOrSame-then (expect punctuators.Assign us) _ _ (λ _ vs. DeepOrSame-last _ (more_room_initialiser m n le vs)))) DeepOrSame-refl)
+      DeepOrSame-read_on _ _ (more_room_declarator m n le Plain ts) (λ d us. DeepOrSame-cond (starts punctuators.Assign us) (DeepOrSame-some (length us) m n le (DeepOrSame-then (expect punctuators.Assign us) _ _ (λ _ vs. DeepOrSame-last _ (more_room_initialiser m n le vs)))) DeepOrSame-refl)
 
   more_room_variables : (k : ℕ) (done : List VariableTree) (h : ℕ) (ts : List Terminal) → DeepOrSame (variables m k done h ts) (variables n k done h ts)
   unfolding variables
@@ -90,7 +91,7 @@ module _ (m n : ℕ) (le : m ≤ n) where
   unfolding declarators
   more_room_declarators zero done h ts = DeepOrSame-refl
   more_room_declarators (suc k) done h ts =
-      DeepOrSame-read_on _ _ (more_room_declarator m n le ts) (λ d us. DeepOrSame-cond (starts punctuators.Semicolon us) DeepOrSame-refl (DeepOrSame-then (expect punctuators.Comma us) _ _ (λ _ vs. more_room_declarators k (done ++ d.0 ∷ []) (max h (d.1 + 1)) vs)))
+      DeepOrSame-read_on _ _ (more_room_declarator m n le Any ts) (λ d us. DeepOrSame-cond (starts punctuators.Semicolon us) DeepOrSame-refl (DeepOrSame-then (expect punctuators.Comma us) _ _ (λ _ vs. more_room_declarators k (done ++ d.0 ∷ []) (max h (d.1 + 1)) vs)))
 
   more_room_members : (ts : List Terminal) → DeepOrSame (members m ts) (members n ts)
   unfolding members
@@ -104,6 +105,7 @@ module _ (m n : ℕ) (le : m ≤ n) where
   more_room_with_name : (start : ℕ) (b : Base) (s : ℕ) (ts : List Terminal) → DeepOrSame (with_name m start b s ts) (with_name n start b s ts)
   more_room_with_name start b s [] = DeepOrSame-last _ (more_room_lengths m n le [])
   more_room_with_name start b s (Name at x ∷ ts) = DeepOrSame-last _ (more_room_lengths m n le ts)
+  more_room_with_name start b s (TypeName at x ∷ ts) = DeepOrSame-last _ (more_room_lengths m n le (TypeName at x ∷ ts))
   more_room_with_name start b s (Keyword at k ∷ ts) = DeepOrSame-last _ (more_room_lengths m n le (Keyword at k ∷ ts))
   more_room_with_name start b s (Constant at k unsigned ∷ ts) = DeepOrSame-last _ (more_room_lengths m n le (Constant at k unsigned ∷ ts))
   more_room_with_name start b s (Text at bytes ∷ ts) = DeepOrSame-last _ (more_room_lengths m n le (Text at bytes ∷ ts))

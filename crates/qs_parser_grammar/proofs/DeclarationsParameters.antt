@@ -1,13 +1,13 @@
 -- What is read as parameters of a function has that reading.
 use Rattle.std.proofs.Common.{◌≡◌, ◌⊎◌, inl, inr, ℕ, zero, suc, ◌+◌, ◌≤◌, max, List, [], ◌∷◌, ◌++◌, length, Ok, Some, None, refl, sym, ap, ◌∙◌, append_assoc, add-one, Bool, true, false, true≢false, cond, arith, ◌&&◌}
 use Rattle.qs_syntax_vocabulary.specs.declared.terminal.Terminal.{Terminal}
-use Rattle.qs_syntax_vocabulary.specs.declared.terminal.Terminal.TheVariants.{Name, Keyword, Constant, Text, Punctuator}
+use Rattle.qs_syntax_vocabulary.specs.declared.terminal.Terminal.TheVariants.{Name, TypeName, Keyword, Constant, Text, Punctuator}
 use Rattle.qs_base.specs.declared.keyword.Keyword.TheVariants as keywords
 use Rattle.qs_syntax_vocabulary.specs.declared.punctuator.Punctuator.TheVariants as punctuators
 use Rattle.qs_syntax.specs.declared.types.Base.{Base}
 use Rattle.qs_syntax_vocabulary.specs.Operators.{number_of}
 use Rattle.qs_syntax.specs.Trees.{unnumbered, LengthsTree, ParameterTree}
-use Rattle.qs_syntax.specs.ReadsTypes.{no_const, a_const, ReadsBase, a_void, an_int, a_char, an_unsigned, an_unsigned_int, an_unsigned_char, a_signed, a_signed_int, a_struct, ReadsType, a_type, ReadsStars}
+use Rattle.qs_syntax.specs.ReadsTypes.{no_const, a_const, ReadsBase, a_void, an_int, a_char, an_unsigned, an_unsigned_int, an_unsigned_char, a_signed, a_signed_int, a_struct, ReadsType, a_type, ReadsStars, a_named_type}
 use Rattle.qs_syntax.specs.Reads.{place}
 use Rattle.qs_syntax.specs.ReadsDeclarations.{ReadsParameter, a_named_parameter, an_unnamed_parameter, ReadsParameters, a_last_parameter, a_parameter, ReadsHead, no_parameter, a_void_head, some_parameters}
 use Rattle.qs_parser_grammar.specs.Heads.{is_keyword, starts}
@@ -31,7 +31,8 @@ base_place (an_unsigned_int at bt) us = refl
 base_place (an_unsigned_char at bt) us = refl
 base_place (a_signed at) us = refl
 base_place (a_signed_int at bt) us = refl
-base_place (a_struct at bt x) us = refl
+base_place (a_struct at r) us = refl
+base_place (a_named_type at x) us = refl
 
 pub first_place : {l : List Terminal} {b : Base} → ReadsBase l b → (ms us : List Terminal) → place ((l ++ ms) ++ us) ≡ place (l ++ ms)
 first_place {l} r ms us = ap place (append_assoc l ms us) ∙ base_place r (ms ++ us) ∙ sym (base_place r ms)
@@ -76,6 +77,7 @@ module _ (m : ℕ) (start : ℕ) (b : Base) (n : ℕ) (front ys : List Terminal)
   sound_with_name : (ts : List Terminal) → Sound (λ x l. IsParameter m x (front ++ (ys ++ l))) [] ts (with_name m start b n ts)
   sound_with_name [] = Sound-last _ (sound_lengths m []) unnamed_read
   sound_with_name (Name at x ∷ ts) = Sound-first (Sound-last _ (sound_lengths m ts) (named_read at x))
+  sound_with_name (TypeName at x ∷ ts) = Sound-last _ (sound_lengths m (TypeName at x ∷ ts)) unnamed_read
   sound_with_name (Keyword at k ∷ ts) = Sound-last _ (sound_lengths m (Keyword at k ∷ ts)) unnamed_read
   sound_with_name (Constant at k unsigned ∷ ts) = Sound-last _ (sound_lengths m (Constant at k unsigned ∷ ts)) unnamed_read
   sound_with_name (Text at bytes ∷ ts) = Sound-last _ (sound_lengths m (Text at bytes ∷ ts)) unnamed_read

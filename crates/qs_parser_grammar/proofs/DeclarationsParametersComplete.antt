@@ -8,7 +8,7 @@ use Rattle.qs_syntax_vocabulary.specs.declared.punctuator.Punctuator as punctuat
 use Rattle.qs_syntax_vocabulary.specs.declared.punctuator.Punctuator.TheVariants as punctuators
 use Rattle.qs_syntax.specs.declared.types.Base.{Base}
 use Rattle.qs_syntax.specs.Trees.{unnumbered, LengthsTree, ParameterTree}
-use Rattle.qs_syntax.specs.ReadsTypes.{no_const, a_const, a_void, an_int, a_char, an_unsigned, an_unsigned_int, an_unsigned_char, a_signed, a_signed_int, a_struct, ReadsType, a_type, ReadsStars, no_star, a_star}
+use Rattle.qs_syntax.specs.ReadsTypes.{no_const, a_const, a_void, an_int, a_char, an_unsigned, an_unsigned_int, an_unsigned_char, a_signed, a_signed_int, a_struct, ReadsType, a_type, ReadsStars, no_star, a_star, a_named_type}
 use Rattle.qs_syntax.specs.Reads.{place}
 use Rattle.qs_syntax.specs.ReadsDeclarations.{no_length, a_length, ReadsLengths, are_given, first_open, ReadsParameter, a_named_parameter, an_unnamed_parameter, ReadsParameters, a_last_parameter, a_parameter, ReadsHead, no_parameter, a_void_head, some_parameters}
 use Rattle.qs_syntax_vocabulary.specs.Punctuators.{same_punctuator}
@@ -47,7 +47,8 @@ unnamed_not_alone (a_type no_const (an_unsigned_int at bt) d) s l more rest = re
 unnamed_not_alone (a_type no_const (an_unsigned_char at bt) d) s l more rest = refl
 unnamed_not_alone (a_type no_const (a_signed at) d) s l more rest = refl
 unnamed_not_alone (a_type no_const (a_signed_int at bt) d) s l more rest = refl
-unnamed_not_alone (a_type no_const (a_struct at bt x) d) s l more rest = refl
+unnamed_not_alone (a_type no_const (a_struct at r) d) s l more rest = refl
+unnamed_not_alone (a_type no_const (a_named_type at y) d) s l more rest = refl
 
 named_not_alone : {n : ℕ} {xs ys : List Terminal} {b : Base} (bt : ℕ) (x : List ℕ) (zs : List Terminal) → ReadsType xs b → ReadsStars ys n → (rest : List Terminal) → is_void_alone ((xs ++ (ys ++ Name bt x ∷ zs)) ++ rest) ≡ false
 named_not_alone bt x zs (a_type (a_const at c) r d) s rest = refl
@@ -60,7 +61,8 @@ named_not_alone bt x zs (a_type no_const (an_unsigned_int at ct) d) s rest = ref
 named_not_alone bt x zs (a_type no_const (an_unsigned_char at ct) d) s rest = refl
 named_not_alone bt x zs (a_type no_const (a_signed at) d) s rest = refl
 named_not_alone bt x zs (a_type no_const (a_signed_int at ct) d) s rest = refl
-named_not_alone bt x zs (a_type no_const (a_struct at ct y) d) s rest = refl
+named_not_alone bt x zs (a_type no_const (a_struct at r) d) s rest = refl
+named_not_alone bt x zs (a_type no_const (a_named_type at y) d) s rest = refl
 
 parameter_not_alone : {h : ℕ} {ts : List Terminal} {p : ParameterTree} → ReadsParameter h ts p → (rest : List Terminal) → is_void_alone (ts ++ rest) ≡ false
 parameter_not_alone (a_named_parameter {zs = zs} at x t s l) rest = named_not_alone at x zs t s rest

@@ -5,7 +5,7 @@ use Rattle.qs_syntax_vocabulary.specs.declared.terminal.Terminal.TheVariants.{Pu
 use Rattle.qs_syntax_vocabulary.specs.declared.punctuator.Punctuator.TheVariants as punctuators
 use Rattle.qs_syntax.specs.declared.types.Base.{Base}
 use Rattle.qs_syntax.specs.Trees.{unnumbered, ExprTree, LengthsTree, DeclaratorTree, InitialiserTree, list, initialisers_of, VariableTree, DeclarationTree}
-use Rattle.qs_syntax.specs.ReadsTypes.{ReadsType, ReadsStars}
+use Rattle.qs_syntax.specs.ReadsTypes.{ReadsType, ReadsStars, Names, Plain}
 use Rattle.qs_syntax.specs.Reads.{Conditional, Assignment, place}
 use Rattle.qs_syntax.specs.ReadsDeclarations.{ReadsGiven, no_length, a_length, ReadsLengths, are_given, first_open, ReadsDeclarator, a_declarator, ReadsInitialiser, a_value, a_list, ReadsInitialisers, a_last_initialiser, a_last_with_comma, an_initialiser, ReadsVariable, an_unset_variable, a_set_variable, ReadsVariables, a_last_variable, a_variable, ReadsDeclaration, a_declaration}
 use Rattle.qs_parser_grammar.specs.Heads.{starts}
@@ -56,17 +56,17 @@ sound_lengths m ts =
 
 -- ---- declarators
 
-abbrev pub IsDeclarator : ℕ → DeclaratorTree × ℕ → List Terminal → Type 0
-IsDeclarator m x l = ReadsDeclarator x.1 l x.0 × (x.1 ≤ m)
+abbrev pub IsDeclarator : Names → ℕ → DeclaratorTree × ℕ → List Terminal → Type 0
+IsDeclarator names m x l = ReadsDeclarator names x.1 l x.0 × (x.1 ≤ m)
 
-sound_named : (m n : ℕ) (front : List Terminal) → ReadsStars front n → (ts : List Terminal) → Sound (λ x l. IsDeclarator m x (front ++ l)) [] ts (named m n ts)
-sound_named m n front s ts = Sound-name-next ts _ (λ at x us. Sound-last _ (sound_lengths m us) (λ y l r. (a_declarator at x s r.0, r.1)))
+sound_named : (names : Names) (m n : ℕ) (front : List Terminal) → ReadsStars front n → (ts : List Terminal) → Sound (λ x l. IsDeclarator names m x (front ++ l)) [] ts (named names m n ts)
+sound_named names m n front s ts = Sound-name-next names ts _ (λ t at x name us. Sound-last _ (sound_lengths m us) (λ y l r. (a_declarator s name r.0, r.1)))
 
-pub sound_declarator : (m : ℕ) (ts : List Terminal) → Sound (IsDeclarator m) [] ts (declarator m ts)
+pub sound_declarator : (names : Names) (m : ℕ) (ts : List Terminal) → Sound (IsDeclarator names m) [] ts (declarator names m ts)
 unfolding declarator
-sound_declarator m ts =
+sound_declarator names m ts =
     let first : StarsRead ts (stars ts) = stars_read ts in
-    Sound-after [] ts first.front (stars ts).1 first.split _ (Sound-behind (sound_named m (stars ts).0 first.front first.is (stars ts).1))
+    Sound-after [] ts first.front (stars ts).1 first.split _ (Sound-behind (sound_named names m (stars ts).0 first.front first.is (stars ts).1))
 
 -- ---- initialisers
 
@@ -128,14 +128,14 @@ sound_initialiser (suc m) ts =
 abbrev pub IsVariable : ℕ → VariableTree × ℕ → List Terminal → Type 0
 IsVariable m x l = ReadsVariable x.1 l x.0 × (x.1 ≤ suc m)
 
-unset_read : (m : ℕ) (d : DeclaratorTree × ℕ) (front : List Terminal) → IsDeclarator m d front → IsVariable m (record { declarator = d.0; initialiser = None }, d.1 + 1) (front ++ [])
+unset_read : (m : ℕ) (d : DeclaratorTree × ℕ) (front : List Terminal) → IsDeclarator Plain m d front → IsVariable m (record { declarator = d.0; initialiser = None }, d.1 + 1) (front ++ [])
 unset_read m d front (r, le) = (rw (append-nil front, add-one d.1) (an_unset_variable r), omega arith)
 
-set_read : (m : ℕ) (d : DeclaratorTree × ℕ) (front : List Terminal) → IsDeclarator m d front → (at : ℕ) (i : InitialiserTree × ℕ) (l : List Terminal) → IsInitialiser m i l
+set_read : (m : ℕ) (d : DeclaratorTree × ℕ) (front : List Terminal) → IsDeclarator Plain m d front → (at : ℕ) (i : InitialiserTree × ℕ) (l : List Terminal) → IsInitialiser m i l
     → IsVariable m (record { declarator = d.0; initialiser = Some i.0 }, max d.1 i.1 + 1) (front ++ Punctuator at punctuators.Assign ∷ l)
 set_read m d front (r, le) at i l (s, low) = (rw (add-one (max d.1 i.1)) (a_set_variable at r s), omega arith)
 
-sound_initialised : (m : ℕ) (d : DeclaratorTree × ℕ) (front : List Terminal) → IsDeclarator m d front → (ts : List Terminal) → Sound (λ x l. IsVariable m x (front ++ l)) [] ts (initialised m d ts)
+sound_initialised : (m : ℕ) (d : DeclaratorTree × ℕ) (front : List Terminal) → IsDeclarator Plain m d front → (ts : List Terminal) → Sound (λ x l. IsVariable m x (front ++ l)) [] ts (initialised m d ts)
 sound_initialised m d front r ts =
     Sound-if (starts punctuators.Assign ts)
     (λ _. Sound-if (m == 0) (λ _. Sound-err at_end) (λ _. Sound-punctuator-next punctuators.Assign ts _ (λ at us. Sound-last _ (sound_initialiser m us) (set_read m d front r at))))
@@ -143,7 +143,7 @@ sound_initialised m d front r ts =
 
 pub sound_variable : (m : ℕ) (ts : List Terminal) → Sound (IsVariable m) [] ts (variable m ts)
 unfolding variable
-sound_variable m ts = Sound-part (initialised m) (sound_declarator m ts) (λ d front us r. sound_initialised m d front r us)
+sound_variable m ts = Sound-part (initialised m) (sound_declarator Plain m ts) (λ d front us r. sound_initialised m d front r us)
 
 abbrev AreVariables : ℕ → List VariableTree → ℕ → List VariableTree × ℕ → List Terminal → Type 0
 AreVariables m done h x l = Closed punctuators.Semicolon ReadsVariables (suc m) done h x l

@@ -1,12 +1,13 @@
 -- How laws of the parser's answers are put together, where all that was read before is named in what is claimed.
 use Rattle.std.proofs.Common.{◌≡◌, ℕ, List, [], ◌∷◌, ◌++◌, Result, Ok, Err, refl, sym, ap, subst, Bool, true, false, cond, true≢false}
 use Rattle.qs_syntax_vocabulary.specs.declared.terminal.Terminal.{Terminal}
-use Rattle.qs_syntax_vocabulary.specs.declared.terminal.Terminal.TheVariants.{Name, Keyword, Constant, Text, Punctuator}
+use Rattle.qs_syntax_vocabulary.specs.declared.terminal.Terminal.TheVariants.{Name, TypeName, Keyword, Constant, Text, Punctuator}
 use Rattle.qs_syntax_vocabulary.specs.declared.punctuator.Punctuator as punctuator
 use Rattle.qs_syntax_vocabulary.specs.Operators.{number_of}
 use Rattle.qs_parser_grammar.specs.Heads.{is_punctuator, starts}
 use Rattle.qs_parser_grammar.specs.Parse.{Stop, Parse, read_on, unexpected, expect, expect_name}
 use Rattle.qs_parser_grammar.proofs.Sound.{Outcome, Sound, Sound-err, at_end, Sound-after, Sound-read_on}
+use Rattle.qs_syntax.specs.ReadsTypes.{Names, Plain, Any, ReadsName, a_plain_name, a_name_of_a_type}
 use Rattle.qs_parser_grammar.proofs.HeadsLaws.{punctuator_is}
 
 module _ {A : Type 0} {S : A → List Terminal → Type 0} where
@@ -52,13 +53,23 @@ module _ {A : Type 0} {S : A → List Terminal → Type 0} where
       by_case false h = Sound-err at_end
 
   -- a name, and what follows
-  pub Sound-name-next : (ts : List Terminal) (f : ℕ × List ℕ → Parse A) → ((at : ℕ) (x : List ℕ) (us : List Terminal) → Sound (λ y l. S y (Name at x ∷ l)) [] us (f (at, x) us)) → Sound S [] ts (read_on (expect_name ts) f)
-  Sound-name-next [] f go = Sound-err at_end
-  Sound-name-next (Name at x ∷ ts) f go = Sound-first (go at x ts)
-  Sound-name-next (Keyword at k ∷ ts) f go = Sound-err at_end
-  Sound-name-next (Constant at n unsigned ∷ ts) f go = Sound-err at_end
-  Sound-name-next (Text at bytes ∷ ts) f go = Sound-err at_end
-  Sound-name-next (Punctuator at m ∷ ts) f go = Sound-err at_end
+  pub Sound-name-next : (names : Names) (ts : List Terminal) (f : ℕ × List ℕ → Parse A) → ((t : Terminal) (at : ℕ) (x : List ℕ) → ReadsName names t at x → (us : List Terminal) → Sound (λ y l. S y (t ∷ l)) [] us (f (at, x) us))
+      → Sound S [] ts (read_on (expect_name names ts) f)
+  Sound-name-next names [] f go = Sound-err at_end
+  Sound-name-next names (Name at x ∷ ts) f go = Sound-first (go (Name at x) at x (a_plain_name at x) ts)
+  Sound-name-next Plain (TypeName at x ∷ ts) f go = Sound-err at_end
+  Sound-name-next Any (TypeName at x ∷ ts) f go = Sound-first (go (TypeName at x) at x (a_name_of_a_type at x) ts)
+  Sound-name-next names (Keyword at k ∷ ts) f go = Sound-err at_end
+  Sound-name-next names (Constant at n unsigned ∷ ts) f go = Sound-err at_end
+  Sound-name-next names (Text at bytes ∷ ts) f go = Sound-err at_end
+  Sound-name-next names (Punctuator at m ∷ ts) f go = Sound-err at_end
+
+  -- the same of a name that is no type's
+  pub Sound-plain-name : (ts : List Terminal) (f : ℕ × List ℕ → Parse A) → ((at : ℕ) (x : List ℕ) (us : List Terminal) → Sound (λ y l. S y (Name at x ∷ l)) [] us (f (at, x) us)) → Sound S [] ts (read_on (expect_name Plain ts) f)
+  Sound-plain-name ts f go = Sound-name-next Plain ts f (λ t at x name us. by name us)
+    where
+      by : {t : Terminal} {at : ℕ} {x : List ℕ} → ReadsName Plain t at x → (us : List Terminal) → Sound (λ y l. S y (t ∷ l)) [] us (f (at, x) us)
+      by (a_plain_name at x) us = go at x us
 
 module _ {A C : Type 0} {R : A → List Terminal → Type 0} {S : C → List Terminal → Type 0} where
   -- what is read first, and what follows

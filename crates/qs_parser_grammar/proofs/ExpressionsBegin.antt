@@ -1,7 +1,7 @@
 -- How an expression begins, and that its reading has a height.
 use Rattle.std.proofs.Common.{◌≡◌, ◌∙◌, sym, true≢false, ℕ, ◌<◌, Bool, true, false, List, [], ◌∷◌, ◌++◌, refl, append_assoc, arith}
 use Rattle.qs_syntax_vocabulary.specs.declared.terminal.Terminal.{Terminal}
-use Rattle.qs_syntax_vocabulary.specs.declared.terminal.Terminal.TheVariants.{Name, Keyword, Constant, Text, Punctuator}
+use Rattle.qs_syntax_vocabulary.specs.declared.terminal.Terminal.TheVariants.{Name, TypeName, Keyword, Constant, Text, Punctuator}
 use Rattle.qs_syntax_vocabulary.specs.declared.punctuator.Punctuator.TheVariants as punctuators
 use Rattle.qs_syntax_vocabulary.specs.declared.operators.UnaryOperator.{UnaryOperator}
 use Rattle.qs_syntax_vocabulary.specs.declared.operators.UnaryOperator.TheVariants as unaries
@@ -22,7 +22,7 @@ begins (a_constant at n unsigned) us = refl
 begins (a_text at first r) us = refl
 begins (in_parentheses o c r) us = refl
 begins (an_index {ys = ys} o c r s) us = rw append_assoc (begins r (Punctuator o punctuators.OpenBracket ∷ ((ys ++ Punctuator c punctuators.CloseBracket ∷ []) ++ us)))
-begins (a_member access d n x r) us = rw append_assoc (begins r (Punctuator d (punctuator_of_access access) ∷ Name n x ∷ us))
+begins (a_member {t = t} access d r name) us = rw append_assoc (begins r (Punctuator d (punctuator_of_access access) ∷ t ∷ us))
 begins (an_increment_after s r) us = rw append_assoc (begins r (Punctuator s punctuators.Increment ∷ us))
 begins (a_decrement_after s r) us = rw append_assoc (begins r (Punctuator s punctuators.Decrement ∷ us))
 begins (a_postfix r) us = begins r us
@@ -50,7 +50,7 @@ begins_no_type (a_constant at n unsigned) us = refl
 begins_no_type (a_text at first r) us = refl
 begins_no_type (in_parentheses o c r) us = refl
 begins_no_type (an_index {ys = ys} o c r s) us = rw append_assoc (begins_no_type r (Punctuator o punctuators.OpenBracket ∷ ((ys ++ Punctuator c punctuators.CloseBracket ∷ []) ++ us)))
-begins_no_type (a_member access d n x r) us = rw append_assoc (begins_no_type r (Punctuator d (punctuator_of_access access) ∷ Name n x ∷ us))
+begins_no_type (a_member {t = t} access d r name) us = rw append_assoc (begins_no_type r (Punctuator d (punctuator_of_access access) ∷ t ∷ us))
 begins_no_type (an_increment_after s r) us = rw append_assoc (begins_no_type r (Punctuator s punctuators.Increment ∷ us))
 begins_no_type (a_decrement_after s r) us = rw append_assoc (begins_no_type r (Punctuator s punctuators.Decrement ∷ us))
 begins_no_type (a_postfix r) us = begins_no_type r us
@@ -77,6 +77,7 @@ arguments_begin (an_argument {ys = ys} at r s) us = rw append_assoc (begins r (P
 one_no_parenthesis : (ts : List Terminal) → begins_one ts ≡ true → starts punctuators.CloseParenthesis ts ≡ false
 one_no_parenthesis [] e = refl
 one_no_parenthesis (Name at x ∷ ts) e = refl
+one_no_parenthesis (TypeName at x ∷ ts) e = refl
 one_no_parenthesis (Keyword at k ∷ ts) e = refl
 one_no_parenthesis (Constant at n unsigned ∷ ts) e = refl
 one_no_parenthesis (Text at bytes ∷ ts) e = refl
@@ -122,7 +123,7 @@ no_cast_at (a_constant at n unsigned) u us = refl
 no_cast_at (a_text at first r) u us = refl
 no_cast_at (in_parentheses o c r) u us = rw append_assoc (begins_no_type r (Punctuator c punctuators.CloseParenthesis ∷ us))
 no_cast_at (an_index {ys = ys} o c r s) u us = rw append_assoc (no_cast_at r refl (Punctuator o punctuators.OpenBracket ∷ ((ys ++ Punctuator c punctuators.CloseBracket ∷ []) ++ us)))
-no_cast_at (a_member access d n x r) u us = rw append_assoc (no_cast_at r refl (Punctuator d (punctuator_of_access access) ∷ Name n x ∷ us))
+no_cast_at (a_member {t = t} access d r name) u us = rw append_assoc (no_cast_at r refl (Punctuator d (punctuator_of_access access) ∷ t ∷ us))
 no_cast_at (an_increment_after s r) u us = rw append_assoc (no_cast_at r refl (Punctuator s punctuators.Increment ∷ us))
 no_cast_at (a_decrement_after s r) u us = rw append_assoc (no_cast_at r refl (Punctuator s punctuators.Decrement ∷ us))
 no_cast_at (a_postfix r) u us = no_cast_at r refl us
@@ -155,7 +156,7 @@ high (a_constant at n unsigned) = omega arith
 high (a_text at first r) = omega arith
 high (in_parentheses o c r) = omega arith
 high (an_index o c r s) = omega arith
-high (a_member access d n x r) = omega arith
+high (a_member access d r name) = omega arith
 high (an_increment_after s r) = omega arith
 high (a_decrement_after s r) = omega arith
 high (a_postfix r) = high r
@@ -193,7 +194,7 @@ opens_high_at (a_constant at n unsigned) u us e = absurd cc
 opens_high_at (a_text at first r) u us e = absurd cc
 opens_high_at (in_parentheses o c r) u us e = let some = high r in omega arith
 opens_high_at (an_index {ys = ys} o c r s) u us e = let two = opens_high_at r refl (Punctuator o punctuators.OpenBracket ∷ ((ys ++ Punctuator c punctuators.CloseBracket ∷ []) ++ us)) (rw append_assoc at e) in omega arith
-opens_high_at (a_member access d n x r) u us e = let two = opens_high_at r refl (Punctuator d (punctuator_of_access access) ∷ Name n x ∷ us) (rw append_assoc at e) in omega arith
+opens_high_at (a_member {t = t} access d r name) u us e = let two = opens_high_at r refl (Punctuator d (punctuator_of_access access) ∷ t ∷ us) (rw append_assoc at e) in omega arith
 opens_high_at (an_increment_after s r) u us e = let two = opens_high_at r refl (Punctuator s punctuators.Increment ∷ us) (rw append_assoc at e) in omega arith
 opens_high_at (a_decrement_after s r) u us e = let two = opens_high_at r refl (Punctuator s punctuators.Decrement ∷ us) (rw append_assoc at e) in omega arith
 opens_high_at (a_postfix r) u us e = opens_high_at r refl us e

@@ -4,6 +4,7 @@ use Rattle.std.specs.Prelude.{max, ◌==◌, ◌&&◌, ◌||◌, is_some, nat_le
 use Rattle.std.proofs.lemmas.Bool.{eq-eqb, ne_eqb, le-leb, leb-true, or_from, and_left, and_right, or_parts, false_from_ne_true}
 use Rattle.qs_syntax_vocabulary.specs.declared.terminal.Terminal.{Terminal}
 use Rattle.qs_syntax_vocabulary.specs.declared.terminal.Terminal.TheVariants.{Name, Keyword, Constant, Text, Punctuator}
+use Rattle.qs_syntax_vocabulary.specs.declared.terminal.Terminal.TheVariants as terminals
 use Rattle.qs_base.specs.declared.keyword.Keyword.TheVariants as keywords
 use Rattle.qs_syntax_vocabulary.specs.declared.punctuator.Punctuator.TheVariants as punctuators
 use Rattle.qs_syntax_vocabulary.specs.declared.operators.UnaryOperator.{UnaryOperator}
@@ -16,13 +17,13 @@ use Rattle.qs_syntax_vocabulary.specs.declared.operators.StepOperator.TheVariant
 use Rattle.qs_syntax.specs.declared.types.TypeName.{TypeName}
 use Rattle.qs_syntax.specs.Trees.{unnumbered, ExprTree, expr, ShapeTree, constant, text, name, unary, step, cast, sizeof_type, sizeof_expr, binary, assign, conditional, comma, subscript, member, call, Exprs, no_exprs, expr_and, exprs_of}
 use Rattle.qs_syntax_vocabulary.specs.Operators.{punctuator_of_unary, punctuator_of_binary, precedence, weakest, conditional_precedence, assignment_precedence, comma_precedence, punctuator_of_assign, punctuator_of_access, binary_of, assign_of, access_of}
-use Rattle.qs_syntax.specs.ReadsTypes.{ReadsTypeName}
+use Rattle.qs_syntax.specs.ReadsTypes.{ReadsTypeName, Any, ReadsName}
 use Rattle.qs_syntax.specs.Reads.{Form, Postfix, Unary, Level, Conditional, Assignment, Expression, place, at_first, ReadsTexts, no_text, a_further_text, Reads, ReadsArguments, a_name, an_empty_call, a_call, a_constant, a_text, in_parentheses, an_index, a_member, an_increment_after, a_decrement_after, a_postfix, an_increment, a_decrement, an_operator, a_size_of_type, a_size_of_value, a_cast, an_operand, stronger, an_operation, a_plain_level, a_choice, a_plain_conditional, an_assignment, a_plain_assignment, a_comma, a_last_argument, an_argument}
 use Rattle.qs_parser_grammar.specs.Heads.{is_punctuator, starts, begins_type, operator_at}
 use Rattle.qs_parser_grammar.specs.Stops.{precedence_at, Stops}
 use Rattle.qs_parser_grammar.specs.Parse as parse
 use Rattle.qs_parser_grammar.specs.Parse.{Stop, Parse, read_on, E, begins_cast, texts_from, part, expression}
-use Rattle.qs_parser_grammar.proofs.HeadsLaws.{punctuator_is, binary_punctuator, binary_precedence, assign_punctuator, assign_precedence, not_starts, binary_at_precedence, assign_at_precedence, access_at_precedence}
+use Rattle.qs_parser_grammar.proofs.HeadsLaws.{punctuator_is, binary_punctuator, binary_precedence, assign_punctuator, assign_precedence, not_starts, binary_at_precedence, assign_at_precedence, access_at_precedence, finds_name}
 use Rattle.qs_parser_grammar.proofs.TypesComplete.{finds_type_name, type_name_begins}
 use Rattle.qs_parser_grammar.proofs.ExpressionsBegin.{arguments_no_parenthesis, place_more, no_cast, high, opens_high}
 
@@ -45,6 +46,7 @@ Goes-map f g = record { turns = g.turns; enough = g.enough; is = f g.turns g.is 
 abbrev starts_text : List Terminal → Bool
 starts_text [] = false
 starts_text (Name at x ∷ ts) = false
+starts_text (terminals.TypeName at x ∷ ts) = false
 starts_text (Keyword at k ∷ ts) = false
 starts_text (Constant at n unsigned ∷ ts) = false
 starts_text (Text at bytes ∷ ts) = true
@@ -56,6 +58,7 @@ goes_on_primary ts = starts punctuators.OpenParenthesis ts || starts_text ts
 no_text_stops : (rest : List Terminal) → 0 < precedence_at rest → starts_text rest ≡ false
 no_text_stops [] lt = refl
 no_text_stops (Name at x ∷ ts) lt = refl
+no_text_stops (terminals.TypeName at x ∷ ts) lt = refl
 no_text_stops (Keyword at k ∷ ts) lt = refl
 no_text_stops (Constant at n unsigned ∷ ts) lt = refl
 no_text_stops (Text at bytes ∷ ts) lt = absurd (omega arith)
@@ -165,6 +168,7 @@ texts_stop : (done : List ℕ) (rest : List Terminal) → starts_text rest ≡ f
 unfolding texts_from
 texts_stop done [] e = refl
 texts_stop done (Name at x ∷ ts) e = refl
+texts_stop done (terminals.TypeName at x ∷ ts) e = refl
 texts_stop done (Keyword at k ∷ ts) e = refl
 texts_stop done (Constant at n unsigned ∷ ts) e = refl
 texts_stop done (Text at bytes ∷ ts) e = absurd cc
@@ -266,16 +270,16 @@ access_begins : (m : ℕ) (access : Access) (d : ℕ) (ts : List Terminal) → p
 access_begins m accesses.Dot d ts = refl
 access_begins m accesses.Arrow d ts = refl
 
-access_suffix : (m : ℕ) (access : Access) (d n : ℕ) (x : List ℕ) (start : ℕ) (a : ExprTree) (h : ℕ) (rest : List Terminal)
-    → parse.suffix m (part m) start (a, h) (Punctuator d (punctuator_of_access access) ∷ Name n x ∷ rest) ≡ found (expr (unnumbered start) (member access a x)) (h + 1) rest
-access_suffix m accesses.Dot d n x start a h rest = refl
-access_suffix m accesses.Arrow d n x start a h rest = refl
+access_suffix : {t : Terminal} {n : ℕ} {x : List ℕ} (m : ℕ) (access : Access) (d : ℕ) → ReadsName Any t n x → (start : ℕ) (a : ExprTree) (h : ℕ) (rest : List Terminal)
+    → parse.suffix m (part m) start (a, h) (Punctuator d (punctuator_of_access access) ∷ t ∷ rest) ≡ found (expr (unnumbered start) (member access a x)) (h + 1) rest
+access_suffix m accesses.Dot d called start a h rest = rw (finds_name called rest) refl
+access_suffix m accesses.Arrow d called start a h rest = rw (finds_name called rest) refl
 
-for_member : {h : ℕ} {xs : List Terminal} {a : ExprTree} (access : Access) (d n : ℕ) (x : List ℕ) → Reads Postfix h xs a → Claim Postfix h xs a
-    → Claim Postfix (suc h) (xs ++ Punctuator d (punctuator_of_access access) ∷ Name n x ∷ []) (at_first xs (member access a x))
-for_member {h} {xs} {a} access d n x r claim m le rest stop =
-    for_suffix h (suc h) xs (Punctuator d (punctuator_of_access access) ∷ Name n x ∷ []) a (member access a x) m (Punctuator d (punctuator_of_access access)) (Name n x ∷ rest) rest r claim (omega arith) (access_no_primary access d (Name n x ∷ rest))
-    (simp append_assoc) (access_begins m access d (Name n x ∷ rest)) (access_suffix m access d n x (place xs) a h rest ∙ later (at_first xs (member access a x)) (h + 1) (suc h) rest (omega arith)) (omega arith)
+for_member : {h n : ℕ} {xs : List Terminal} {t : Terminal} {a : ExprTree} {x : List ℕ} (access : Access) (d : ℕ) → Reads Postfix h xs a → ReadsName Any t n x → Claim Postfix h xs a
+    → Claim Postfix (suc h) (xs ++ Punctuator d (punctuator_of_access access) ∷ t ∷ []) (at_first xs (member access a x))
+for_member {h} {n} {xs} {t} {a} {x} access d r called claim m le rest stop =
+    for_suffix h (suc h) xs (Punctuator d (punctuator_of_access access) ∷ t ∷ []) a (member access a x) m (Punctuator d (punctuator_of_access access)) (t ∷ rest) rest r claim (omega arith) (access_no_primary access d (t ∷ rest))
+    (simp append_assoc) (access_begins m access d (t ∷ rest)) (access_suffix m access d called (place xs) a h rest ∙ later (at_first xs (member access a x)) (h + 1) (suc h) rest (omega arith)) (omega arith)
 
 for_increment_after : {h : ℕ} {xs : List Terminal} {a : ExprTree} (s : ℕ) → Reads Postfix h xs a → Claim Postfix h xs a → Claim Postfix (suc h) (xs ++ Punctuator s punctuators.Increment ∷ []) (at_first xs (step steps.IncrementAfter a))
 for_increment_after {h} {xs} {a} s r claim m le rest stop =
@@ -293,6 +297,7 @@ for_decrement_after {h} {xs} {a} s r claim m le rest stop =
 abbrev begins_postfix : List Terminal → Bool
 begins_postfix [] = false
 begins_postfix (Name at x ∷ ts) = true
+begins_postfix (terminals.TypeName at x ∷ ts) = false
 begins_postfix (Keyword at k ∷ ts) = false
 begins_postfix (Constant at n unsigned ∷ ts) = true
 begins_postfix (Text at bytes ∷ ts) = true
@@ -314,7 +319,7 @@ postfix_begins_at (a_constant at n unsigned) p us = refl
 postfix_begins_at (a_text at first r) p us = refl
 postfix_begins_at (in_parentheses o c r) p us = refl
 postfix_begins_at (an_index {ys = ys} o c r s) p us = rw append_assoc (postfix_begins_at r refl (Punctuator o punctuators.OpenBracket ∷ ((ys ++ Punctuator c punctuators.CloseBracket ∷ []) ++ us)))
-postfix_begins_at (a_member access d n x r) p us = rw append_assoc (postfix_begins_at r refl (Punctuator d (punctuator_of_access access) ∷ Name n x ∷ us))
+postfix_begins_at (a_member {t = t} access d r called) p us = rw append_assoc (postfix_begins_at r refl (Punctuator d (punctuator_of_access access) ∷ t ∷ us))
 postfix_begins_at (an_increment_after s r) p us = rw append_assoc (postfix_begins_at r refl (Punctuator s punctuators.Increment ∷ us))
 postfix_begins_at (a_decrement_after s r) p us = rw append_assoc (postfix_begins_at r refl (Punctuator s punctuators.Decrement ∷ us))
 postfix_begins_at (a_postfix r) p us = absurd cc
@@ -338,6 +343,7 @@ unary_is_postfix : (m : ℕ) (ts : List Terminal) → begins_postfix ts ≡ true
 unfolding parse.unary_of_all
 unary_is_postfix m [] e = absurd cc
 unary_is_postfix m (Name at x ∷ ts) e = refl
+unary_is_postfix m (terminals.TypeName at x ∷ ts) e = absurd cc
 unary_is_postfix m (Keyword at k ∷ ts) e = absurd cc
 unary_is_postfix m (Constant at n unsigned ∷ ts) e = refl
 unary_is_postfix m (Text at bytes ∷ ts) e = refl
@@ -571,7 +577,7 @@ mutual
   claim (a_text at first r) = for_text at first r
   claim (in_parentheses o c r) = for_parentheses o c r (claim r)
   claim (an_index o c r s) = for_index o c r s (claim r) (claim s)
-  claim (a_member access d n x r) = for_member access d n x r (claim r)
+  claim (a_member access d r called) = for_member access d r called (claim r)
   claim (an_increment_after s r) = for_increment_after s r (claim r)
   claim (a_decrement_after s r) = for_decrement_after s r (claim r)
   claim (a_postfix r) = for_postfix r (claim r)

@@ -3,7 +3,7 @@ use Rattle.std.proofs.Common.{◌≡◌, ℕ, zero, suc, ◌+◌, ◌<◌, ◌�
 use Rattle.std.specs.Prelude.{max, nat_le, ◌==◌, ◌&&◌}
 use Rattle.std.proofs.lemmas.Bool.{leb-false, ne_eqb}
 use Rattle.qs_syntax_vocabulary.specs.declared.terminal.Terminal.{Terminal}
-use Rattle.qs_syntax_vocabulary.specs.declared.terminal.Terminal.TheVariants.{Name, Keyword, Constant, Text, Punctuator}
+use Rattle.qs_syntax_vocabulary.specs.declared.terminal.Terminal.TheVariants.{Name, TypeName, Keyword, Constant, Text, Punctuator}
 use Rattle.qs_base.specs.declared.keyword.Keyword.TheVariants as keywords
 use Rattle.qs_syntax_vocabulary.specs.declared.punctuator.Punctuator as punctuator
 use Rattle.qs_syntax_vocabulary.specs.declared.punctuator.Punctuator.TheVariants as punctuators
@@ -19,9 +19,10 @@ use Rattle.qs_syntax_vocabulary.specs.Operators.{weakest, unary_of, binary_of, a
 use Rattle.qs_syntax.specs.Reads.{Form, Postfix, Unary, Level, Conditional, Assignment, Expression, place}
 use Rattle.qs_parser_grammar.specs.Heads.{is_punctuator, is_keyword, starts, operator_at, begins_type}
 use Rattle.qs_parser_grammar.specs.Parse as parse
-use Rattle.qs_parser_grammar.specs.Parse.{Stop, Parse, read_on, E, unexpected, deep, skip_consts, after_unsigned, after_signed, tagged, base, type, stars_from, stars, type_name, begins_one, begins_cast, beyond, starts_suffix, texts_from, expect}
+use Rattle.qs_parser_grammar.specs.Parse.{Stop, Parse, read_on, E, unexpected, deep, skip_consts, after_unsigned, after_signed, tagged, base, type, stars_from, stars, type_name, begins_one, begins_cast, beyond, starts_suffix, texts_from, expect, named_type}
 use Rattle.qs_parser_grammar.proofs.HeadsLaws.{punctuator_is}
 use Rattle.qs_parser_grammar.proofs.Local.{left, Local, read_on-left, Local-read_on, Local-look, Local-weak, Local-cons, Local-cond, Local-ok, Local-here, Local-unexpected, Local-deep, Local-unexpected-all, Local-deep-all, Local-above, Local-if, Local-starts, Local-operator, Local-place, Local-punctuator, Local-name, Looks, cond-left, Local-two, read_on_same, read_on_nothing, cond_same, expect_takes, leaves_less, Turns, Local-turns, Local-same, Local-after, after_same}
+use Rattle.qs_syntax.specs.ReadsTypes.{Any}
 
 -- ---- types
 
@@ -64,7 +65,15 @@ Local-after_signed : Local 0 after_signed
 Local-after_signed = Local-look after_signed refl (λ t. Local-cond (is_keyword keywords.Int t) _ _ (Local-weak _ (Local-ok bases.Int)) (Local-here bases.Int t))
 
 pub Local-tagged : Local 0 tagged
-Local-tagged = Local-name (λ x us. Ok (bases.Struct x.1, us)) (λ x. Local-ok (bases.Struct x.1))
+Local-tagged = Local-name Any (λ x us. Ok (bases.Struct x.1, us)) (λ x. Local-ok (bases.Struct x.1))
+
+Local-named_type : (t : Terminal) → Local 1 (λ ts. named_type (t ∷ ts))
+Local-named_type (Name at x) = Local-unexpected
+Local-named_type (TypeName at x) = Local-weak _ (Local-ok (bases.Named x))
+Local-named_type (Keyword at k) = Local-unexpected
+Local-named_type (Constant at n unsigned) = Local-unexpected
+Local-named_type (Text at bytes) = Local-unexpected
+Local-named_type (Punctuator at m) = Local-unexpected
 
 pub Local-base : Local 0 base
 Local-base = Local-look base refl
@@ -73,7 +82,7 @@ Local-base = Local-look base refl
     (Local-cond (is_keyword keywords.Char t) _ _ (Local-weak _ (Local-ok bases.Char))
     (Local-cond (is_keyword keywords.Unsigned t) _ _ (Local-weak _ Local-after_unsigned)
     (Local-cond (is_keyword keywords.Signed t) _ _ (Local-weak _ Local-after_signed)
-    (Local-cond (is_keyword keywords.Struct t) _ _ (Local-weak _ Local-tagged) Local-unexpected))))))
+    (Local-cond (is_keyword keywords.Struct t) _ _ (Local-weak _ Local-tagged) (Local-named_type t)))))))
 
 pub Local-type : Local 0 type
 unfolding type
@@ -141,6 +150,7 @@ unfolding texts_from
 texts_shrink done [] = omega arith
 texts_shrink done (Text at bytes ∷ ts) = omega (arith, texts_shrink (done ++ bytes) ts)
 texts_shrink done (Name at x ∷ ts) = omega arith
+texts_shrink done (TypeName at x ∷ ts) = omega arith
 texts_shrink done (Keyword at k ∷ ts) = omega arith
 texts_shrink done (Constant at n unsigned ∷ ts) = omega arith
 texts_shrink done (Punctuator at m ∷ ts) = omega arith
@@ -150,6 +160,7 @@ unfolding texts_from
 texts_more done [] us h = absurd (omega arith)
 texts_more done (Text at bytes ∷ ts) us h = texts_more (done ++ bytes) ts us h
 texts_more done (Name at x ∷ ts) us h = refl
+texts_more done (TypeName at x ∷ ts) us h = refl
 texts_more done (Keyword at k ∷ ts) us h = refl
 texts_more done (Constant at n unsigned ∷ ts) us h = refl
 texts_more done (Punctuator at m ∷ ts) us h = refl
@@ -159,6 +170,7 @@ unfolding texts_from
 texts_pass done [] us h = texts_shrink done us
 texts_pass done (Text at bytes ∷ ts) us h = texts_pass (done ++ bytes) ts us h
 texts_pass done (Name at x ∷ ts) us h = absurd (omega arith)
+texts_pass done (TypeName at x ∷ ts) us h = absurd (omega arith)
 texts_pass done (Keyword at k ∷ ts) us h = absurd (omega arith)
 texts_pass done (Constant at n unsigned ∷ ts) us h = absurd (omega arith)
 texts_pass done (Punctuator at m ∷ ts) us h = absurd (omega arith)
@@ -170,6 +182,7 @@ Local-texts done = record { shrinks = λ ts. omega (arith, texts_shrink done ts)
 
 pub begins_one_same : (t : Terminal) (ts us : List Terminal) → begins_one (t ∷ ts) ≡ begins_one (t ∷ us)
 begins_one_same (Name at x) ts us = refl
+begins_one_same (TypeName at x) ts us = refl
 begins_one_same (Keyword at k) ts us = refl
 begins_one_same (Constant at n unsigned) ts us = refl
 begins_one_same (Text at bytes) ts us = refl
@@ -238,13 +251,14 @@ module _ (m : ℕ) (p : Form → Parse E) (good : (form : Form) → Local 0 (p f
     where
       each : (t : Terminal) → Local 1 (λ ts. parse.primary m p (t ∷ ts))
       each (Name at x) = Local-weak _ (Local-after_name at x)
+      each (TypeName at x) = Local-unexpected
       each (Keyword at k) = Local-unexpected
       each (Constant at n unsigned) = Local-weak _ (Local-ok _)
       each (Text at bytes) = Local-weak _ (Local-read_on (λ (x : List ℕ) us. Ok ((expr (unnumbered at) (text x), 1), us)) (λ x. Local-ok _) (λ ts. Ok (texts_from bytes ts)) (Local-texts bytes))
       each (Punctuator at k) = Local-cond (is_punctuator punctuators.OpenParenthesis (Punctuator at k)) _ _ (Local-cond (m == 0) _ _ Local-deep (Local-weak _ Local-parentheses)) Local-unexpected
 
   Local-member : (start : ℕ) (a : E) (access : Access) → Local 0 (parse.member_of m p start a access)
-  Local-member start a access = Local-name _ (λ x. Local-ok _)
+  Local-member start a access = Local-name Any _ (λ x. Local-ok _)
 
   Local-index : (start : ℕ) (a : E) → Local 0 (parse.index_of m p start a)
   Local-index start a = Local-read_on _ (λ b. Local-punctuator punctuators.CloseBracket _ (λ _. Local-ok _)) (p Expression) (good Expression)
@@ -262,6 +276,7 @@ module _ (m : ℕ) (p : Form → Parse E) (good : (form : Form) → Local 0 (p f
 
       access : (t : Terminal) → Local 1 (λ ts. parse.access_at m p start a (operator_at access_of (t ∷ ts)) ts)
       access (Name at x) = Local-weak _ (of_access None)
+      access (TypeName at x) = Local-weak _ (of_access None)
       access (Keyword at k) = Local-weak _ (of_access None)
       access (Constant at n unsigned) = Local-weak _ (of_access None)
       access (Text at bytes) = Local-weak _ (of_access None)
@@ -286,6 +301,7 @@ module _ (m : ℕ) (p : Form → Parse E) (good : (form : Form) → Local 0 (p f
 
   suffix_same : (t : Terminal) (ts us : List Terminal) → starts_suffix (t ∷ ts) ≡ starts_suffix (t ∷ us)
   suffix_same (Name at x) ts us = refl
+  suffix_same (TypeName at x) ts us = refl
   suffix_same (Keyword at k) ts us = refl
   suffix_same (Constant at n unsigned) ts us = refl
   suffix_same (Text at bytes) ts us = refl
@@ -363,6 +379,7 @@ module _ (m : ℕ) (p : Form → Parse E) (good : (form : Form) → Local 0 (p f
       where
         each : (t : Terminal) → Local 1 (λ ts. parse.unary_of_all m p (t ∷ ts))
         each (Name at x) = Local-cons (parse.postfix m p) (Name at x) Local-postfix
+        each (TypeName at x) = Local-cons (parse.postfix m p) (TypeName at x) Local-postfix
         each (Keyword at k) = Local-cond (is_keyword keywords.Sizeof (Keyword at k)) _ _ (Local-weak _ (Local-size at)) Local-unexpected
         each (Constant at n unsigned) = Local-cons (parse.postfix m p) (Constant at n unsigned) Local-postfix
         each (Text at bytes) = Local-cons (parse.postfix m p) (Text at bytes) Local-postfix

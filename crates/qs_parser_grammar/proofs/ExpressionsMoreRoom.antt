@@ -3,7 +3,7 @@ use Rattle.std.proofs.Common.{◌≡◌, ℕ, zero, suc, ◌<◌, ◌≤◌, Boo
 use Rattle.std.specs.Prelude.{max, nat_le, ◌==◌, ◌&&◌, is_some}
 use Rattle.std.proofs.lemmas.Bool.{le-leb, leb-true, leb-false, or_parts, and_right, ne_eqb}
 use Rattle.qs_syntax_vocabulary.specs.declared.terminal.Terminal.{Terminal}
-use Rattle.qs_syntax_vocabulary.specs.declared.terminal.Terminal.TheVariants.{Name, Keyword, Constant, Text, Punctuator}
+use Rattle.qs_syntax_vocabulary.specs.declared.terminal.Terminal.TheVariants.{Name, TypeName, Keyword, Constant, Text, Punctuator}
 use Rattle.qs_base.specs.declared.keyword.Keyword.TheVariants as keywords
 use Rattle.qs_syntax_vocabulary.specs.declared.punctuator.Punctuator as punctuator
 use Rattle.qs_syntax_vocabulary.specs.declared.punctuator.Punctuator.TheVariants as punctuators
@@ -38,6 +38,7 @@ module _ (m n : ℕ) (le : m ≤ n) (p q : Form → Parse E) (g : (form : Form) 
   unfolding parse.primary
   more_room_primary [] = DeepOrSame-refl
   more_room_primary (Name at x ∷ ts) = more_room_name at x ts
+  more_room_primary (TypeName at x ∷ ts) = DeepOrSame-refl
   more_room_primary (Keyword at k ∷ ts) = DeepOrSame-refl
   more_room_primary (Constant at k unsigned ∷ ts) = DeepOrSame-refl
   more_room_primary (Text at bytes ∷ ts) = DeepOrSame-refl
@@ -99,6 +100,7 @@ module _ (m n : ℕ) (le : m ≤ n) (p q : Form → Parse E) (g : (form : Form) 
     unfolding parse.unary_of_all
     more_room_unary [] = DeepOrSame-refl
     more_room_unary (Name at x ∷ ts) = more_room_postfix (Name at x ∷ ts)
+    more_room_unary (TypeName at x ∷ ts) = more_room_postfix (TypeName at x ∷ ts)
     more_room_unary (Keyword at k ∷ ts) = DeepOrSame-cond (is_keyword keywords.Sizeof (Keyword at k)) (more_room_size at ts) DeepOrSame-refl
     more_room_unary (Constant at k unsigned ∷ ts) = more_room_postfix (Constant at k unsigned ∷ ts)
     more_room_unary (Text at bytes ∷ ts) = more_room_postfix (Text at bytes ∷ ts)
@@ -195,6 +197,12 @@ not_begun (suc n) Expression [] e = refl
 not_begun (suc n) form (Name at x ∷ ts) e = absurd cc
 not_begun (suc n) form (Constant at x unsigned ∷ ts) e = absurd cc
 not_begun (suc n) form (Text at bytes ∷ ts) e = absurd cc
+not_begun (suc n) Postfix (TypeName at x ∷ ts) e = refl
+not_begun (suc n) Unary (TypeName at x ∷ ts) e = refl
+not_begun (suc n) (Level j) (TypeName at x ∷ ts) e = refl
+not_begun (suc n) Conditional (TypeName at x ∷ ts) e = refl
+not_begun (suc n) Assignment (TypeName at x ∷ ts) e = refl
+not_begun (suc n) Expression (TypeName at x ∷ ts) e = refl
 not_begun (suc n) Postfix (Keyword at k ∷ ts) e = refl
 not_begun (suc n) Unary (Keyword at k ∷ ts) e = rw e refl
 not_begun (suc n) (Level j) (Keyword at k ∷ ts) e = rw e refl

@@ -3,7 +3,7 @@ use Rattle.std.proofs.Common.{◌≡◌, ℕ, zero, suc, ◌+◌, ◌≤◌, Boo
 use Rattle.std.specs.Prelude.{max, ◌==◌, ◌&&◌, nat_le}
 use Rattle.std.proofs.lemmas.Bool.{eqb-true}
 use Rattle.qs_syntax_vocabulary.specs.declared.terminal.Terminal.{Terminal}
-use Rattle.qs_syntax_vocabulary.specs.declared.terminal.Terminal.TheVariants.{Name, Keyword, Constant, Text, Punctuator}
+use Rattle.qs_syntax_vocabulary.specs.declared.terminal.Terminal.TheVariants.{Name, TypeName, Keyword, Constant, Text, Punctuator}
 use Rattle.qs_base.specs.declared.keyword.Keyword.TheVariants as keywords
 use Rattle.qs_syntax_vocabulary.specs.declared.punctuator.Punctuator as punctuator
 use Rattle.qs_syntax_vocabulary.specs.declared.punctuator.Punctuator.TheVariants as punctuators
@@ -23,6 +23,7 @@ use Rattle.qs_parser_grammar.proofs.Sound.{Sound, Sound-ok, Sound-err, at_end, S
 use Rattle.qs_parser_grammar.proofs.SoundSteps.{Sound-if, Sound-above, Sound-ends, Sound-from, Sound-punctuator, sound_expect, sound_expect_name}
 use Rattle.qs_parser_grammar.proofs.TypesSound.{sound_type_name}
 use Rattle.qs_parser_grammar.proofs.ExpressionsBegin.{place_more}
+use Rattle.qs_syntax.specs.ReadsTypes.{Any}
 
 abbrev pub IsRead : ℕ → Form → E → List Terminal → Type 0
 IsRead n form x ts = Reads form x.1 ts x.0 × (x.1 ≤ n)
@@ -53,6 +54,7 @@ texts_taken : (done : List ℕ) (ts : List Terminal) → TextsTaken done ts (tex
 unfolding texts_from
 texts_taken done [] = no_texts done []
 texts_taken done (Name at x ∷ ts) = no_texts done (Name at x ∷ ts)
+texts_taken done (TypeName at x ∷ ts) = no_texts done (TypeName at x ∷ ts)
 texts_taken done (Keyword at k ∷ ts) = no_texts done (Keyword at k ∷ ts)
 texts_taken done (Constant at n unsigned ∷ ts) = no_texts done (Constant at n unsigned ∷ ts)
 texts_taken done (Text at first ∷ ts) =
@@ -145,6 +147,7 @@ module _ (m : ℕ) (p : Form → Parse E) (sound : (form : Form) (ts : List Term
   unfolding parse.primary
   sound_primary [] = Sound-err at_end
   sound_primary (Name at x ∷ ts) = Sound-token (sound_name at x ts)
+  sound_primary (TypeName at x ∷ ts) = Sound-err at_end
   sound_primary (Keyword at k ∷ ts) = Sound-err at_end
   sound_primary (Constant at n unsigned ∷ ts) = Sound-token (Sound-ok (a_constant at n unsigned, omega arith))
   sound_primary (Text at bytes ∷ ts) = Sound-token (sound_after_text m at bytes ts m p)
@@ -170,8 +173,8 @@ module _ (m : ℕ) (p : Form → Parse E) (sound : (form : Form) (ts : List Term
   sound_member : (start d : ℕ) (a : E) (access : Access) (done : List Terminal) → Begun (m + 1) Postfix start a done → a.1 ≤ m → (ts : List Terminal)
       → Sound (Begun (m + 1) Postfix start) (done ++ Punctuator d (punctuator_of_access access) ∷ []) ts (parse.member_of m p start a access ts)
   sound_member start d a access done r le ts =
-      Sound-read_on _ (sound_expect_name ts)
-      (λ x front us is. Sound-ok (built Postfix start a.1 a.1 done (Punctuator d (punctuator_of_access access) ∷ Name x.0 x.1 ∷ []) _ a.0 (member access a.0 x.1) r.0 r.2 (a_member access d x.0 x.1 r.0) (rw is (simp append_assoc)) le))
+      Sound-read_on _ (sound_expect_name Any ts)
+      (λ x front us is. Sound-ok (built Postfix start a.1 a.1 done (Punctuator d (punctuator_of_access access) ∷ is.0 ∷ []) _ a.0 (member access a.0 x.1) r.0 r.2 (a_member access d r.0 is.2) (rw is.1 (simp append_assoc)) le))
 
   sound_access : (start : ℕ) (a : E) (done : List Terminal) → Begun (m + 1) Postfix start a done → a.1 ≤ m → (t : Terminal) (ts : List Terminal) (o : Option Access) → operator_at access_of (t ∷ ts) ≡ o
       → Sound (Begun (m + 1) Postfix start) done (t ∷ ts) (parse.access_at m p start a o ts)
@@ -245,6 +248,7 @@ module _ (m : ℕ) (p : Form → Parse E) (sound : (form : Form) (ts : List Term
   unfolding parse.unary_of_all
   sound_unary [] = Sound-err at_end
   sound_unary (Name at x ∷ ts) = Sound-mono as_unary (sound_postfix (Name at x ∷ ts))
+  sound_unary (TypeName at x ∷ ts) = Sound-mono as_unary (sound_postfix (TypeName at x ∷ ts))
   sound_unary (Keyword at k ∷ ts) =
       Sound-if (is_keyword keywords.Sizeof (Keyword at k))
       (λ e. Sound-token (subst (λ u. Sound (IsRead (m + 1) Unary) (u ∷ []) ts (parse.size_of m p at ts)) (sym (keyword_is keywords.Sizeof (Keyword at k) e)) (sound_size at ts))) (λ _. Sound-err at_end)

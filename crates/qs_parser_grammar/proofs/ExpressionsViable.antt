@@ -3,6 +3,7 @@ use Rattle.std.proofs.Common.{◌≡◌, ℕ, zero, suc, ◌+◌, ◌<◌, ◌�
 use Rattle.std.specs.Prelude.{max, nat_le, ◌==◌, ◌&&◌, ◌||◌, is_some}
 use Rattle.qs_syntax_vocabulary.specs.declared.terminal.Terminal.{Terminal}
 use Rattle.qs_syntax_vocabulary.specs.declared.terminal.Terminal.TheVariants.{Name, Keyword, Constant, Text, Punctuator}
+use Rattle.qs_syntax_vocabulary.specs.declared.terminal.Terminal.TheVariants as terminals
 use Rattle.qs_base.specs.declared.keyword.Keyword.TheVariants as keywords
 use Rattle.qs_syntax_vocabulary.specs.declared.punctuator.Punctuator as punctuator
 use Rattle.qs_syntax_vocabulary.specs.declared.punctuator.Punctuator.TheVariants as punctuators
@@ -14,23 +15,23 @@ use Rattle.qs_syntax_vocabulary.specs.declared.operators.AssignmentOperator.{Ass
 use Rattle.qs_syntax_vocabulary.specs.declared.operators.Access.{Access}
 use Rattle.qs_syntax.specs.Trees.{ExprTree, Exprs}
 use Rattle.qs_syntax_vocabulary.specs.Operators.{punctuator_of_unary, punctuator_of_binary, precedence, weakest, punctuator_of_assign, punctuator_of_access, number_of, unary_of, binary_of, assign_of, access_of}
-use Rattle.qs_syntax.specs.ReadsTypes.{ReadsConsts, no_const, ReadsBase, an_int, a_struct, ReadsType, a_type, no_star, ReadsTypeName, a_type_name}
+use Rattle.qs_syntax.specs.ReadsTypes.{ReadsConsts, no_const, ReadsBase, an_int, a_struct, ReadsType, a_type, no_star, ReadsTypeName, a_type_name, Any, a_plain_name}
 use Rattle.qs_syntax.specs.Reads.{Form, Postfix, Unary, Level, Conditional, Assignment, Expression, place, Reads, ReadsArguments, a_name, an_empty_call, a_call, a_constant, a_text, no_text, in_parentheses, an_index, a_member, an_increment_after, a_decrement_after, a_postfix, an_increment, a_decrement, an_operator, a_size_of_type, a_size_of_value, a_cast, an_operand, stronger, an_operation, a_plain_level, a_choice, a_plain_conditional, an_assignment, a_plain_assignment, a_comma, a_last_argument, an_argument}
 use Rattle.qs_parser_grammar.specs.Heads.{is_punctuator, is_keyword, starts, operator_at, begins_type}
 use Rattle.qs_parser_grammar.specs.Parse as parse
-use Rattle.qs_parser_grammar.specs.Parse.{Deep, Parse, read_on, E, skip_consts, after_unsigned, after_signed, tagged, base, type, type_name, begins_one, begins_cast, beyond, starts_suffix}
+use Rattle.qs_parser_grammar.specs.Parse.{Deep, Parse, read_on, E, skip_consts, after_unsigned, after_signed, tagged, base, type, type_name, begins_one, begins_cast, beyond, starts_suffix, named_type}
 use Rattle.qs_parser_grammar.proofs.HeadsLaws.{punctuator_is, keyword_is, unary_is, binary_is, assign_is, access_is, operator_is}
 use Rattle.qs_parser_grammar.proofs.Sound.{Sound}
 use Rattle.qs_parser_grammar.proofs.TypesSound.{Taken, taken_consts, sound_type_name}
 use Rattle.qs_parser_grammar.proofs.ExpressionsSound.{IsRead, Begun, starting, sound_primary, sound_suffix, sound_unary, sound_cast_or_unary, sound_climb, sound_assignment, of_level_is, sound_part}
 use Rattle.qs_parser_grammar.proofs.ExpressionsBegin.{high}
-use Rattle.qs_parser_grammar.proofs.Viable.{Claims, OfFronts, behind_token, behind, Both, under, Viable, Viable-ok, Viable-unexpected, Viable-deep, Viable-after, Viable-token, Viable-if, Viable-joined, Viable-read_on, Viable-read_on-is, Viable-then, Viable-done, here, Viable-is_punctuator, Viable-keyword, Viable-punctuator, Viable-name, Viable-above, Viable-some}
+use Rattle.qs_parser_grammar.proofs.Viable.{Claims, OfFronts, behind_token, behind, Both, under, Viable, Viable-ok, Viable-unexpected, Viable-deep, Viable-after, Viable-token, Viable-if, Viable-joined, Viable-read_on, Viable-read_on-is, Viable-then, Viable-done, here, Viable-is_punctuator, Viable-keyword, Viable-punctuator, Viable-name, Viable-above, Viable-some, is_plain}
 
 -- ---- types
 
 module _ (Q : Claims) (c : OfFronts Q) (w : (xs : List Terminal) (b : Base) → ReadsBase xs b → Q true xs) where
   viable_tagged : (at : ℕ) (ts : List Terminal) → Viable (λ b l. Q b (Keyword at keywords.Struct ∷ l)) ts (tagged ts)
-  viable_tagged at ts = Viable-name ts _ (c.front true (Keyword at keywords.Struct ∷ []) (Name 0 [] ∷ []) (w _ _ (a_struct at 0 []))) (λ n x us. Viable-ok)
+  viable_tagged at ts = Viable-name Any ts _ (c.front true (Keyword at keywords.Struct ∷ []) (Name 0 [] ∷ []) (w _ _ (a_struct at (a_plain_name 0 []))) refl) (λ t n x name us. Viable-ok)
 
   viable_unsigned : (t : Terminal) (ts : List Terminal) → Viable Q (t ∷ ts) (after_unsigned ts)
   viable_unsigned t [] = Viable-ok
@@ -41,7 +42,15 @@ module _ (Q : Claims) (c : OfFronts Q) (w : (xs : List Terminal) (b : Base) → 
   viable_signed t (u ∷ ts) = Viable-if (is_keyword keywords.Int u) (λ _. Viable-ok) (λ _. Viable-ok)
 
   base_begins : Q true []
-  base_begins = c.front true [] _ (w _ _ (an_int 0))
+  base_begins = c.front true [] _ (w _ _ (an_int 0)) refl
+
+  viable_named_type : (t : Terminal) (ts : List Terminal) → Viable Q (t ∷ ts) (named_type (t ∷ ts))
+  viable_named_type (Name at x) ts = Viable-unexpected base_begins
+  viable_named_type (terminals.TypeName at x) ts = Viable-ok
+  viable_named_type (Keyword at k) ts = Viable-unexpected base_begins
+  viable_named_type (Constant at n unsigned) ts = Viable-unexpected base_begins
+  viable_named_type (Text at bytes) ts = Viable-unexpected base_begins
+  viable_named_type (Punctuator at m) ts = Viable-unexpected base_begins
 
   pub viable_base : (ts : List Terminal) → Viable Q ts (base ts)
   viable_base [] = Viable-unexpected base_begins
@@ -51,7 +60,7 @@ module _ (Q : Claims) (c : OfFronts Q) (w : (xs : List Terminal) (b : Base) → 
       (λ _. Viable-if (is_keyword keywords.Char t) (λ _. Viable-ok)
       (λ _. Viable-if (is_keyword keywords.Unsigned t) (λ _. viable_unsigned t ts)
       (λ _. Viable-if (is_keyword keywords.Signed t) (λ _. viable_signed t ts)
-      (λ _. Viable-if (is_keyword keywords.Struct t) (λ e. Viable-keyword keywords.Struct t e (Viable-token (viable_tagged (number_of t) ts))) (λ _. Viable-unexpected base_begins))))))
+      (λ _. Viable-if (is_keyword keywords.Struct t) (λ e. Viable-keyword keywords.Struct t e (Viable-token (viable_tagged (number_of t) ts))) (λ _. viable_named_type t ts))))))
 
 pub viable_type : (Q : Claims) → OfFronts Q → ((xs : List Terminal) (b : Base) → ReadsType xs b → Q true xs) → (ts : List Terminal) → Viable Q ts (type ts)
 unfolding type
@@ -151,7 +160,7 @@ from_unary Expression e s = expression_of (assignment_of (conditional_of (level_
 
 -- what goes on with this token
 abbrev BegunBy : Form → Terminal → Type 0
-BegunBy form t = (xs : List Terminal) × IsSome form (t ∷ xs)
+BegunBy form t = (xs : List Terminal) × IsSome form (t ∷ xs) × (is_plain xs ≡ true)
 
 begun_same : {form : Form} (t u : Terminal) → t ≡ u → BegunBy form u → BegunBy form t
 begun_same {form} t u e b = subst (BegunBy form) (sym e) b
@@ -164,28 +173,29 @@ unary_by_punctuator at k ts e =
     by_case : (o : Option UnaryOperator) (b i d : Bool) → unary_of k ≡ o → (b ≡ true → Punctuator at k ≡ Punctuator at punctuators.OpenParenthesis) → (i ≡ true → Punctuator at k ≡ Punctuator at punctuators.Increment)
         → (d ≡ true → Punctuator at k ≡ Punctuator at punctuators.Decrement) → (is_some o || (b || (i || d))) ≡ true → BegunBy Unary (Punctuator at k)
     by_case (Some operator) b i d p q r s e =
-        let one = a_number (Level 0) in begun_same (Punctuator at k) _ (ap (λ n. Punctuator at n) (unary_is k operator p)) (number, (suc one.0, _, an_operator operator at one.2))
-    by_case None true i d p q r s e = let one = a_number Expression in begun_same (Punctuator at k) _ (q refl) (number ++ Punctuator 0 punctuators.CloseParenthesis ∷ [], unary_some (suc one.0, _, in_parentheses at 0 one.2))
-    by_case None false true d p q r s e = let one = a_number Unary in begun_same (Punctuator at k) _ (r refl) (number, (suc one.0, _, an_increment at one.2))
-    by_case None false false true p q r s e = let one = a_number Unary in begun_same (Punctuator at k) _ (s refl) (number, (suc one.0, _, a_decrement at one.2))
+        let one = a_number (Level 0) in begun_same (Punctuator at k) _ (ap (λ n. Punctuator at n) (unary_is k operator p)) (number, (suc one.0, _, an_operator operator at one.2), refl)
+    by_case None true i d p q r s e = let one = a_number Expression in begun_same (Punctuator at k) _ (q refl) (number ++ Punctuator 0 punctuators.CloseParenthesis ∷ [], unary_some (suc one.0, _, in_parentheses at 0 one.2), refl)
+    by_case None false true d p q r s e = let one = a_number Unary in begun_same (Punctuator at k) _ (r refl) (number, (suc one.0, _, an_increment at one.2), refl)
+    by_case None false false true p q r s e = let one = a_number Unary in begun_same (Punctuator at k) _ (s refl) (number, (suc one.0, _, a_decrement at one.2), refl)
     by_case None false false false p q r s e = absurd cc
 
 unary_by : (t : Terminal) (ts : List Terminal) → begins_one (t ∷ ts) ≡ true → BegunBy Unary t
-unary_by (Name at x) ts e = ([], unary_some (1, _, a_name at x))
-unary_by (Keyword at k) ts e = let one = a_number Unary in begun_same (Keyword at k) _ (keyword_is keywords.Sizeof (Keyword at k) e) (number, (suc one.0, _, a_size_of_value at one.2))
-unary_by (Constant at n unsigned) ts e = ([], unary_some (1, _, a_constant at n unsigned))
-unary_by (Text at bytes) ts e = ([], unary_some (1, _, a_text at bytes no_text))
+unary_by (Name at x) ts e = ([], unary_some (1, _, a_name at x), refl)
+unary_by (terminals.TypeName at x) ts e = absurd cc
+unary_by (Keyword at k) ts e = let one = a_number Unary in begun_same (Keyword at k) _ (keyword_is keywords.Sizeof (Keyword at k) e) (number, (suc one.0, _, a_size_of_value at one.2), refl)
+unary_by (Constant at n unsigned) ts e = ([], unary_some (1, _, a_constant at n unsigned), refl)
+unary_by (Text at bytes) ts e = ([], unary_some (1, _, a_text at bytes no_text), refl)
 unary_by (Punctuator at k) ts e = unary_by_punctuator at k ts e
 
 -- what begins an expression begins each part
 pub one_begun : (form : Form) → is_part form ≡ true → (t : Terminal) (ts : List Terminal) → begins_one (t ∷ ts) ≡ true → BegunBy form t
-one_begun form part t ts e = let by = unary_by t ts e in (by.0, from_unary form part by.1)
+one_begun form part t ts e = let by = unary_by t ts e in (by.0, from_unary form part by.1, by.2)
 
 -- where no level is left
 pub viable_beyond : {A : Type 0} (form : Form) → is_part form ≡ true → (Q : Claims) → OfFronts Q → ((h : ℕ) (xs : List Terminal) → Has form h xs → Q false xs) → Q true [] → (ts : List Terminal) → Viable {A = A} Q ts (beyond ts)
 viable_beyond form part Q c w low [] = Viable-unexpected low
 viable_beyond form part Q c w low (t ∷ ts) =
-    Viable-if (begins_one (t ∷ ts)) (λ e. let by = one_begun form part t ts e in Viable-deep low (c.front false (t ∷ []) by.0 (w by.1.0 (t ∷ by.0) (by.1.1, by.1.2)))) (λ _. Viable-unexpected low)
+    Viable-if (begins_one (t ∷ ts)) (λ e. let by = one_begun form part t ts e in Viable-deep low (c.front false (t ∷ []) by.0 (w by.1.0 (t ∷ by.0) (by.1.1, by.1.2)) by.2)) (λ _. Viable-unexpected low)
 
 -- what is said of one that is h high, where at most n is low enough
 abbrev pub Wants : Form → ℕ → Claims → Type 0
@@ -209,15 +219,15 @@ module _ (m : ℕ) (p : Form → Parse E) (sound : (form : Form) (ts : List Term
       viable_arguments n (es ++ e.0 ∷ []) (max h e.1) (λ b l. Q b (front ++ Punctuator at punctuators.Comma ∷ l)) (behind_token (Punctuator at punctuators.Comma) (behind front c))
       (λ k xs s. let both = further k xs s in let same = append_assoc front (Punctuator at punctuators.Comma ∷ xs) (Punctuator 0 punctuators.CloseParenthesis ∷ []) in
       (subst (Q false) same both.0, λ le. subst (Q true) same (both.1 (omega arith))))
-      ((behind front c).front true (Punctuator at punctuators.Comma ∷ []) _ (subst (Q true) (append_assoc front (Punctuator at punctuators.Comma ∷ number) (Punctuator 0 punctuators.CloseParenthesis ∷ [])) ((further 1 number (_, a_last_argument (one Assignment refl).1)).1 (omega arith)))) vs)))
+      ((behind front c).front true (Punctuator at punctuators.Comma ∷ []) _ (subst (Q true) (append_assoc front (Punctuator at punctuators.Comma ∷ number) (Punctuator 0 punctuators.CloseParenthesis ∷ [])) ((further 1 number (_, a_last_argument (one Assignment refl).1)).1 (omega arith))) refl) vs)))
     where
       begun : (h : ℕ) (xs : List Terminal) → Has Assignment h xs → Both Q m h xs
-      begun h xs s = under c xs (Punctuator 0 punctuators.CloseParenthesis ∷ []) m h (w h xs (_, a_last_argument s.1)) m h (λ le. le)
+      begun h xs s = under c xs (Punctuator 0 punctuators.CloseParenthesis ∷ []) refl m h (w h xs (_, a_last_argument s.1)) m h (λ le. le)
 
   module _ (Q : Claims) (c : OfFronts Q) (w : Wants Postfix (m + 1) Q) where
     viable_call : (at o : ℕ) (f : List ℕ) (ts : List Terminal) → Viable (λ b l. Q b (Name at f ∷ Punctuator o punctuators.OpenParenthesis ∷ l)) ts (parse.call_of m p at f ts)
     viable_call at o f ts =
-        let opened : Q true (Name at f ∷ Punctuator o punctuators.OpenParenthesis ∷ []) = c.front true (Name at f ∷ Punctuator o punctuators.OpenParenthesis ∷ []) (Punctuator 0 punctuators.CloseParenthesis ∷ []) ((w 1 _ (_, an_empty_call at o 0 f)).1 (omega arith)) in
+        let opened : Q true (Name at f ∷ Punctuator o punctuators.OpenParenthesis ∷ []) = c.front true (Name at f ∷ Punctuator o punctuators.OpenParenthesis ∷ []) (Punctuator 0 punctuators.CloseParenthesis ∷ []) ((w 1 _ (_, an_empty_call at o 0 f)).1 (omega arith)) refl in
         Viable-if (starts punctuators.CloseParenthesis ts)
         (λ _. Viable-punctuator punctuators.CloseParenthesis ts _ opened (λ _ us. Viable-ok))
         (λ _. Viable-done _ (viable_arguments (length ts) [] 0 _ (behind_token (Punctuator o punctuators.OpenParenthesis) (behind_token (Name at f) c))
@@ -228,52 +238,53 @@ module _ (m : ℕ) (p : Form → Parse E) (sound : (form : Form) (ts : List Term
         Viable-if (starts punctuators.OpenParenthesis ts) (λ _. Viable-punctuator punctuators.OpenParenthesis ts _ ((w 1 _ (_, a_name at x)).1 (omega arith)) (λ o us. viable_call at o x us)) (λ _. Viable-ok)
 
     nothing_yet : Q true []
-    nothing_yet = c.front true [] number ((w 1 number (_, a_constant 0 0 false)).1 (omega arith))
+    nothing_yet = c.front true [] number ((w 1 number (_, a_constant 0 0 false)).1 (omega arith)) refl
 
     inner_begun : (o : ℕ) (h : ℕ) (xs : List Terminal) → Has Expression h xs → Both Q m h (Punctuator o punctuators.OpenParenthesis ∷ xs)
-    inner_begun o h xs s = under c (Punctuator o punctuators.OpenParenthesis ∷ xs) (Punctuator 0 punctuators.CloseParenthesis ∷ []) (m + 1) (suc h) (w (suc h) _ (_, in_parentheses o 0 s.1)) m h (λ le. omega arith)
+    inner_begun o h xs s = under c (Punctuator o punctuators.OpenParenthesis ∷ xs) (Punctuator 0 punctuators.CloseParenthesis ∷ []) refl (m + 1) (suc h) (w (suc h) _ (_, in_parentheses o 0 s.1)) m h (λ le. omega arith)
 
     viable_parentheses : (o : ℕ) (ts : List Terminal) → 0 < m → Viable (λ b l. Q b (Punctuator o punctuators.OpenParenthesis ∷ l)) ts (parse.in_parentheses m p ts)
     viable_parentheses o ts some =
-        Viable-read_on _ (sound Expression ts) (viable Expression refl _ (behind_token (Punctuator o punctuators.OpenParenthesis) c) (inner_begun o) (c.front true (Punctuator o punctuators.OpenParenthesis ∷ []) number ((inner_begun o 1 number (one Expression refl)).1 some)) ts)
+        Viable-read_on _ (sound Expression ts) (viable Expression refl _ (behind_token (Punctuator o punctuators.OpenParenthesis) c) (inner_begun o) (c.front true (Punctuator o punctuators.OpenParenthesis ∷ []) number ((inner_begun o 1 number (one Expression refl)).1 some) refl) ts)
         (λ e front us r. Viable-punctuator punctuators.CloseParenthesis us _ (here (λ b l. Q b (Punctuator o punctuators.OpenParenthesis ∷ l)) front ((inner_begun o e.1 front (e.0, r.0)).1 r.1)) (λ _ vs. Viable-ok))
 
     viable_primary : (ts : List Terminal) → Viable Q ts (parse.primary m p ts)
     unfolding parse.primary
     viable_primary [] = Viable-unexpected nothing_yet
     viable_primary (Name at x ∷ ts) = Viable-token (viable_name at x ts)
+    viable_primary (terminals.TypeName at x ∷ ts) = Viable-unexpected nothing_yet
     viable_primary (Keyword at k ∷ ts) = Viable-unexpected nothing_yet
     viable_primary (Constant at n unsigned ∷ ts) = Viable-ok
     viable_primary (Text at bytes ∷ ts) = Viable-ok
     viable_primary (Punctuator at k ∷ ts) =
         Viable-if (is_punctuator punctuators.OpenParenthesis (Punctuator at k))
         (λ e. Viable-is_punctuator punctuators.OpenParenthesis (Punctuator at k) e
-        (Viable-some m nothing_yet (c.front false (Punctuator at punctuators.OpenParenthesis ∷ []) number (inner_begun at 1 number (one Expression refl)).0) (λ some. Viable-token (viable_parentheses at ts some)))) (λ _. Viable-unexpected nothing_yet)
+        (Viable-some m nothing_yet (c.front false (Punctuator at punctuators.OpenParenthesis ∷ []) number (inner_begun at 1 number (one Expression refl)).0 refl) (λ some. Viable-token (viable_parentheses at ts some)))) (λ _. Viable-unexpected nothing_yet)
 
     -- ---- suffixes
 
     module _ (done : List Terminal) (g : ℕ) (d : Has Postfix g done) (some : 0 < g) where
       index_begun : (o : ℕ) → g ≤ m → (h : ℕ) (xs : List Terminal) → Has Expression h xs → Both Q m h (done ++ Punctuator o punctuators.OpenBracket ∷ xs)
-      index_begun o fits h xs s = under (behind done c) (Punctuator o punctuators.OpenBracket ∷ xs) (Punctuator 0 punctuators.CloseBracket ∷ []) (m + 1) (suc (max g h)) (w (suc (max g h)) _ (_, an_index o 0 d.1 s.1)) m h (λ le. omega arith)
+      index_begun o fits h xs s = under (behind done c) (Punctuator o punctuators.OpenBracket ∷ xs) (Punctuator 0 punctuators.CloseBracket ∷ []) refl (m + 1) (suc (max g h)) (w (suc (max g h)) _ (_, an_index o 0 d.1 s.1)) m h (λ le. omega arith)
 
       any_index : (o : ℕ) → Q false (done ++ Punctuator o punctuators.OpenBracket ∷ [])
-      any_index o = (behind done c).front false (Punctuator o punctuators.OpenBracket ∷ []) (number ++ Punctuator 0 punctuators.CloseBracket ∷ []) (w (suc (max g 1)) _ (_, an_index o 0 d.1 (one Expression refl).1)).0
+      any_index o = (behind done c).front false (Punctuator o punctuators.OpenBracket ∷ []) (number ++ Punctuator 0 punctuators.CloseBracket ∷ []) (w (suc (max g 1)) _ (_, an_index o 0 d.1 (one Expression refl).1)).0 refl
 
       viable_index : (start o : ℕ) (a : E) → g ≤ m → (ts : List Terminal) → Viable (λ b l. Q b (done ++ Punctuator o punctuators.OpenBracket ∷ l)) ts (parse.index_of m p start a ts)
       viable_index start o a fits ts =
           Viable-read_on _ (sound Expression ts)
-          (viable Expression refl _ (behind_token (Punctuator o punctuators.OpenBracket) (behind done c)) (index_begun o fits) ((behind done c).front true (Punctuator o punctuators.OpenBracket ∷ []) number ((index_begun o fits 1 number (one Expression refl)).1 (omega arith))) ts)
+          (viable Expression refl _ (behind_token (Punctuator o punctuators.OpenBracket) (behind done c)) (index_begun o fits) ((behind done c).front true (Punctuator o punctuators.OpenBracket ∷ []) number ((index_begun o fits 1 number (one Expression refl)).1 (omega arith)) refl) ts)
           (λ b front us r. Viable-punctuator punctuators.CloseBracket us _ (here (λ b l. Q b (done ++ Punctuator o punctuators.OpenBracket ∷ l)) front ((index_begun o fits b.1 front (b.0, r.0)).1 r.1)) (λ _ vs. Viable-ok))
 
       member_begun : (at : ℕ) (access : Access) → Both Q m g (done ++ Punctuator at (punctuator_of_access access) ∷ [])
-      member_begun at access = under (behind done c) (Punctuator at (punctuator_of_access access) ∷ []) (Name 0 [] ∷ []) (m + 1) (suc g) (w (suc g) _ (_, a_member access at 0 [] d.1)) m g (λ le. omega arith)
+      member_begun at access = under (behind done c) (Punctuator at (punctuator_of_access access) ∷ []) (Name 0 [] ∷ []) refl (m + 1) (suc g) (w (suc g) _ (_, a_member access at d.1 (a_plain_name 0 []))) m g (λ le. omega arith)
 
       viable_access : (start : ℕ) (a : E) (t : Terminal) (ts : List Terminal) (o : Option Access) → operator_at access_of (t ∷ ts) ≡ o → is_some o ≡ true → g ≤ m → Viable (λ b l. Q b (done ++ t ∷ l)) ts (parse.access_at m p start a o ts)
       viable_access start a t ts None e there fits = absurd cc
       viable_access start a t ts (Some access) e there fits =
           let is = operator_is access_of punctuator_of_access access_is (t ∷ ts) access e in
           subst (λ u. Viable (λ b l. Q b (done ++ u ∷ l)) ts (parse.member_of m p start a access ts)) (first_same t (Punctuator is.0 (punctuator_of_access access)) ts is.1 is.2)
-          (Viable-name ts _ ((member_begun is.0 access).1 fits) (λ n x us. Viable-ok))
+          (Viable-name Any ts _ ((member_begun is.0 access).1 fits) (λ t n x name us. Viable-ok))
         where
           first_same : (t u : Terminal) (ts us : List Terminal) → t ∷ ts ≡ u ∷ us → u ≡ t
           first_same t u ts us e = cc
@@ -325,7 +336,7 @@ module _ (m : ℕ) (p : Form → Parse E) (sound : (form : Form) (ts : List Term
 
   module _ (Q : Claims) (c : OfFronts Q) (w : Wants Unary (m + 1) Q) where
     unary_yet : Q true []
-    unary_yet = c.front true [] number ((w 1 number (one Unary refl)).1 (omega arith))
+    unary_yet = c.front true [] number ((w 1 number (one Unary refl)).1 (omega arith)) refl
 
     as_postfix : Wants Postfix (m + 1) Q
     as_postfix h xs s = w h xs (s.0, a_postfix s.1)
@@ -334,8 +345,8 @@ module _ (m : ℕ) (p : Form → Parse E) (sound : (form : Form) (ts : List Term
     viable_token_and_part : (t : Terminal) (form : Form) → is_part form ≡ true → ((h : ℕ) (xs : List Terminal) → Has form h xs → Has Unary (suc h) (t ∷ xs)) → (f : E → E) (ts : List Terminal) → Viable Q (t ∷ ts) (cond (m == 0) (Err (Deep (suc (length ts)))) (read_on (p form ts) (λ e us. Ok (f e, us))))
     viable_token_and_part t form part built f ts =
         let begun : (h : ℕ) (xs : List Terminal) → Has form h xs → Both Q m h (t ∷ xs) = λ h xs s. (let both = w (suc h) (t ∷ xs) (built h xs s) in (both.0, λ le. both.1 (omega arith))) in
-        Viable-some m unary_yet (c.front false (t ∷ []) number (begun 1 number (one form part)).0)
-        (λ some. Viable-token (Viable-done _ (viable form part _ (behind_token t c) begun (c.front true (t ∷ []) number ((begun 1 number (one form part)).1 some)) ts)))
+        Viable-some m unary_yet (c.front false (t ∷ []) number (begun 1 number (one form part)).0 refl)
+        (λ some. Viable-token (Viable-done _ (viable form part _ (behind_token t c) begun (c.front true (t ∷ []) number ((begun 1 number (one form part)).1 some) refl) ts)))
 
     viable_operator_at : (at : ℕ) (k : punctuator.Punctuator) (ts : List Terminal) (o : Option UnaryOperator) → unary_of k ≡ o → Viable Q (Punctuator at k ∷ ts) (parse.unary_operator_at m p at o k ts)
     viable_operator_at at k ts None e = viable_postfix Q c as_postfix (Punctuator at k ∷ ts)
@@ -351,20 +362,20 @@ module _ (m : ℕ) (p : Form → Parse E) (sound : (form : Form) (ts : List Term
       sized = behind_token (Keyword at keywords.Sizeof) c
 
       type_begun : (o : ℕ) (xs : List Terminal) (t : TypeName) → ReadsTypeName xs t → Sized true (Punctuator o punctuators.OpenParenthesis ∷ xs)
-      type_begun o xs t r = sized.front true (Punctuator o punctuators.OpenParenthesis ∷ xs) (Punctuator 0 punctuators.CloseParenthesis ∷ []) ((w 1 _ (_, a_size_of_type at o 0 r)).1 (omega arith))
+      type_begun o xs t r = sized.front true (Punctuator o punctuators.OpenParenthesis ∷ xs) (Punctuator 0 punctuators.CloseParenthesis ∷ []) ((w 1 _ (_, a_size_of_type at o 0 r)).1 (omega arith)) refl
 
       value_begun : (h : ℕ) (xs : List Terminal) → Has Unary h xs → Both Sized m h xs
       value_begun h xs s = let both = w (suc h) _ (_, a_size_of_value at s.1) in (both.0, λ le. both.1 (omega arith))
 
       operand_begun : (o : ℕ) (h : ℕ) (xs : List Terminal) → Has Expression h xs → Sized false (Punctuator o punctuators.OpenParenthesis ∷ xs)
-      operand_begun o h xs s = sized.front false (Punctuator o punctuators.OpenParenthesis ∷ xs) (Punctuator 0 punctuators.CloseParenthesis ∷ []) (value_begun (suc h) _ (_, a_postfix (in_parentheses o 0 s.1))).0
+      operand_begun o h xs s = sized.front false (Punctuator o punctuators.OpenParenthesis ∷ xs) (Punctuator 0 punctuators.CloseParenthesis ∷ []) (value_begun (suc h) _ (_, a_postfix (in_parentheses o 0 s.1))).0 refl
 
       -- `int`
       size_yet : Sized true []
-      size_yet = sized.front true [] _ (type_begun 0 (Keyword 0 keywords.Int ∷ []) _ (a_type_name {xs = Keyword 0 keywords.Int ∷ []} {ys = []} (a_type {xs = []} {ys = Keyword 0 keywords.Int ∷ []} {zs = []} no_const (an_int 0) no_const) no_star))
+      size_yet = sized.front true [] _ (type_begun 0 (Keyword 0 keywords.Int ∷ []) _ (a_type_name {xs = Keyword 0 keywords.Int ∷ []} {ys = []} (a_type {xs = []} {ys = Keyword 0 keywords.Int ∷ []} {zs = []} no_const (an_int 0) no_const) no_star)) refl
 
       size_opened : (o : ℕ) → Sized true (Punctuator o punctuators.OpenParenthesis ∷ [])
-      size_opened o = sized.front true (Punctuator o punctuators.OpenParenthesis ∷ []) _ (type_begun o (Keyword 0 keywords.Int ∷ []) _ (a_type_name {xs = Keyword 0 keywords.Int ∷ []} {ys = []} (a_type {xs = []} {ys = Keyword 0 keywords.Int ∷ []} {zs = []} no_const (an_int 0) no_const) no_star))
+      size_opened o = sized.front true (Punctuator o punctuators.OpenParenthesis ∷ []) _ (type_begun o (Keyword 0 keywords.Int ∷ []) _ (a_type_name {xs = Keyword 0 keywords.Int ∷ []} {ys = []} (a_type {xs = []} {ys = Keyword 0 keywords.Int ∷ []} {zs = []} no_const (an_int 0) no_const) no_star)) refl
 
       viable_size : (ts : List Terminal) → Viable Sized ts (parse.size_of m p at ts)
       viable_size ts =
@@ -380,6 +391,7 @@ module _ (m : ℕ) (p : Form → Parse E) (sound : (form : Form) (ts : List Term
     unfolding parse.unary_of_all
     viable_unary [] = Viable-unexpected unary_yet
     viable_unary (Name at x ∷ ts) = viable_postfix Q c as_postfix (Name at x ∷ ts)
+    viable_unary (terminals.TypeName at x ∷ ts) = viable_postfix Q c as_postfix (terminals.TypeName at x ∷ ts)
     viable_unary (Keyword at k ∷ ts) =
         Viable-if (is_keyword keywords.Sizeof (Keyword at k)) (λ e. Viable-keyword keywords.Sizeof (Keyword at k) e (Viable-token (viable_size at ts))) (λ _. Viable-unexpected unary_yet)
     viable_unary (Constant at n unsigned ∷ ts) = viable_postfix Q c as_postfix (Constant at n unsigned ∷ ts)
@@ -393,7 +405,7 @@ module _ (m : ℕ) (p : Form → Parse E) (sound : (form : Form) (ts : List Term
 
   module _ (Q : Claims) (c : OfFronts Q) (w : Wants (Level 0) (m + 1) Q) where
     cast_begun : 0 < m → (o : ℕ) (xs : List Terminal) (t : TypeName) → ReadsTypeName xs t → Q true (Punctuator o punctuators.OpenParenthesis ∷ xs)
-    cast_begun some o xs t r = c.front true (Punctuator o punctuators.OpenParenthesis ∷ xs) (Punctuator 0 punctuators.CloseParenthesis ∷ number) ((w 2 _ (_, a_cast o 0 r (one (Level 0) refl).1)).1 (omega arith))
+    cast_begun some o xs t r = c.front true (Punctuator o punctuators.OpenParenthesis ∷ xs) (Punctuator 0 punctuators.CloseParenthesis ∷ number) ((w 2 _ (_, a_cast o 0 r (one (Level 0) refl).1)).1 (omega arith)) refl
 
     viable_cast : 0 < m → (o at : ℕ) (ts : List Terminal) → Viable (λ b l. Q b (Punctuator o punctuators.OpenParenthesis ∷ l)) ts (parse.cast_of m p at ts)
     viable_cast some o at ts =
@@ -402,12 +414,12 @@ module _ (m : ℕ) (p : Form → Parse E) (sound : (form : Form) (ts : List Term
         (λ t front us r. Viable-punctuator punctuators.CloseParenthesis us _ (here (λ b l. Q b (Punctuator o punctuators.OpenParenthesis ∷ l)) front (cast_begun some o front t r))
         (λ k vs. let begun : (h : ℕ) (xs : List Terminal) → Has (Level 0) h xs → Both Q m h (Punctuator o punctuators.OpenParenthesis ∷ (front ++ Punctuator k punctuators.CloseParenthesis ∷ xs)) = λ h xs s. (let both = w (suc h) _ (_, a_cast o k r s.1) in (both.0, λ le. both.1 (omega arith))) in
         Viable-done _ (viable (Level 0) refl _ (behind_token (Punctuator k punctuators.CloseParenthesis) (behind front opened)) begun
-        ((behind front opened).front true (Punctuator k punctuators.CloseParenthesis ∷ []) number ((begun 1 number (one (Level 0) refl)).1 some)) vs)))
+        ((behind front opened).front true (Punctuator k punctuators.CloseParenthesis ∷ []) number ((begun 1 number (one (Level 0) refl)).1 some) refl) vs)))
 
     viable_cast_or_unary : (ts : List Terminal) → Viable Q ts (parse.cast_or_unary m p ts)
     viable_cast_or_unary [] = viable_unary Q c (λ h xs s. w h xs (s.0, an_operand s.1)) []
     viable_cast_or_unary (t ∷ ts) =
-        let nothing : Q true [] = c.front true [] number ((w 1 number (one (Level 0) refl)).1 (omega arith)) in
+        let nothing : Q true [] = c.front true [] number ((w 1 number (one (Level 0) refl)).1 (omega arith)) refl in
         Viable-if (begins_cast (t ∷ ts))
         (λ e. Viable-some m nothing (parenthesis_first (is_punctuator punctuators.OpenParenthesis t) (begins_type ts) (λ d. punctuator_is punctuators.OpenParenthesis t d) e)
         (λ some. Viable-punctuator punctuators.OpenParenthesis (t ∷ ts) _ nothing (λ o us. viable_cast some o (number_of t) us)))
@@ -415,7 +427,7 @@ module _ (m : ℕ) (p : Form → Parse E) (sound : (form : Form) (ts : List Term
       where
         parenthesis_first : (b d : Bool) → (b ≡ true → t ≡ Punctuator (number_of t) punctuators.OpenParenthesis) → (b && d) ≡ true → Q false (t ∷ [])
         parenthesis_first true d is e =
-            subst (λ u. Q false (u ∷ [])) (sym (is refl)) (c.front false (Punctuator (number_of t) punctuators.OpenParenthesis ∷ []) _ (w 2 _ (_, an_operand (a_postfix (in_parentheses (number_of t) 0 (one Expression refl).1)))).0)
+            subst (λ u. Q false (u ∷ [])) (sym (is refl)) (c.front false (Punctuator (number_of t) punctuators.OpenParenthesis ∷ []) _ (w 2 _ (_, an_operand (a_postfix (in_parentheses (number_of t) 0 (one Expression refl).1)))).0 refl)
         parenthesis_first false d is e = absurd cc
 
   -- ---- operators between operands
@@ -430,13 +442,13 @@ module _ (m : ℕ) (p : Form → Parse E) (sound : (form : Form) (ts : List Term
       operation_begun h xs s = w (suc (max g h)) _ (_, an_operation operator at level d.1 s.1)
 
       any_operation : Q false (done ++ Punctuator at (punctuator_of_binary operator) ∷ [])
-      any_operation = (behind done c).front false (Punctuator at (punctuator_of_binary operator) ∷ []) number (operation_begun 1 number (one (Level j) refl)).0
+      any_operation = (behind done c).front false (Punctuator at (punctuator_of_binary operator) ∷ []) number (operation_begun 1 number (one (Level j) refl)).0 refl
 
       right_begun : g ≤ m → (h : ℕ) (xs : List Terminal) → Has (Level j) h xs → Both Q m h (done ++ Punctuator at (punctuator_of_binary operator) ∷ xs)
       right_begun fits h xs s = let both = operation_begun h xs s in (both.0, λ le. both.1 (omega arith))
 
       low_operation : g ≤ m → Q true (done ++ Punctuator at (punctuator_of_binary operator) ∷ [])
-      low_operation fits = (behind done c).front true (Punctuator at (punctuator_of_binary operator) ∷ []) number ((right_begun fits 1 number (one (Level j) refl)).1 (omega arith))
+      low_operation fits = (behind done c).front true (Punctuator at (punctuator_of_binary operator) ∷ []) number ((right_begun fits 1 number (one (Level j) refl)).1 (omega arith)) refl
 
     viable_operation_at : (a : E) (done : List Terminal) → Has (Level (suc j)) a.1 done → a.1 ≤ m + 1 → (ts : List Terminal) (others : E → Parse E)
         → ((b : E) (all us : List Terminal) → Has (Level (suc j)) b.1 all → b.1 ≤ m + 1 → Viable (λ b l. Q b (all ++ l)) us (others b us))
@@ -474,10 +486,10 @@ module _ (m : ℕ) (p : Form → Parse E) (sound : (form : Form) (ts : List Term
 
   module _ (start : ℕ) (Q : Claims) (c : OfFronts Q) (w : Wants Conditional (m + 1) Q) where
     choice_begun : (done : List Terminal) (g : ℕ) → Has (Level weakest) g done → 0 < g → g ≤ m → (o : ℕ) (h : ℕ) (xs : List Terminal) → Has Expression h xs → Both Q m h (done ++ Punctuator o punctuators.Question ∷ xs)
-    choice_begun done g d some fits o h xs s = under (behind done c) (Punctuator o punctuators.Question ∷ xs) (Punctuator 0 punctuators.Colon ∷ number) (m + 1) (suc (max g (max h 1))) (w (suc (max g (max h 1))) _ (_, a_choice o 0 d.1 s.1 (one Conditional refl).1)) m h (λ le. omega arith)
+    choice_begun done g d some fits o h xs s = under (behind done c) (Punctuator o punctuators.Question ∷ xs) (Punctuator 0 punctuators.Colon ∷ number) refl (m + 1) (suc (max g (max h 1))) (w (suc (max g (max h 1))) _ (_, a_choice o 0 d.1 s.1 (one Conditional refl).1)) m h (λ le. omega arith)
 
     any_choice : (done : List Terminal) (g : ℕ) → Has (Level weakest) g done → (o : ℕ) → Q false (done ++ Punctuator o punctuators.Question ∷ [])
-    any_choice done g d o = (behind done c).front false (Punctuator o punctuators.Question ∷ []) (number ++ Punctuator 0 punctuators.Colon ∷ number) (w (suc (max g (max 1 1))) _ (_, a_choice o 0 d.1 (one Expression refl).1 (one Conditional refl).1)).0
+    any_choice done g d o = (behind done c).front false (Punctuator o punctuators.Question ∷ []) (number ++ Punctuator 0 punctuators.Colon ∷ number) (w (suc (max g (max 1 1))) _ (_, a_choice o 0 d.1 (one Expression refl).1 (one Conditional refl).1)).0 refl
 
     viable_after_or : (a : E) (done : List Terminal) → Has (Level weakest) a.1 done → a.1 ≤ m + 1 → (ts : List Terminal) → Viable (λ b l. Q b (done ++ l)) ts (parse.after_or m p start a ts)
     viable_after_or a done d low [] = Viable-ok
@@ -489,12 +501,12 @@ module _ (m : ℕ) (p : Form → Parse E) (sound : (form : Form) (ts : List Term
         (λ fits. Viable-punctuator punctuators.Question (t ∷ ts) _ there
         (λ o us. Viable-read_on _ (sound Expression us)
         (viable Expression refl _ (behind_token (Punctuator o punctuators.Question) (behind done c)) (choice_begun done a.1 d some fits o)
-        ((behind done c).front true (Punctuator o punctuators.Question ∷ []) number ((choice_begun done a.1 d some fits o 1 number (one Expression refl)).1 (omega arith))) us)
+        ((behind done c).front true (Punctuator o punctuators.Question ∷ []) number ((choice_begun done a.1 d some fits o 1 number (one Expression refl)).1 (omega arith)) refl) us)
         (λ b front vs r. let middle : b.1 ≤ m = r.1 in
         Viable-punctuator punctuators.Colon vs _ (here (λ b l. Q b (done ++ Punctuator o punctuators.Question ∷ l)) front ((choice_begun done a.1 d some fits o b.1 front (b.0, r.0)).1 r.1))
         (λ k ws. let begun : (h : ℕ) (xs : List Terminal) → Has Conditional h xs → Both Q m h (done ++ Punctuator o punctuators.Question ∷ (front ++ Punctuator k punctuators.Colon ∷ xs)) = λ h xs s. (let both = w (suc (max a.1 (max b.1 h))) _ (_, a_choice o k d.1 r.0 s.1) in (both.0, λ le. both.1 (omega arith))) in
         Viable-done _ (viable Conditional refl _ (behind_token (Punctuator k punctuators.Colon) (behind front (behind_token (Punctuator o punctuators.Question) (behind done c)))) begun
-        ((behind front (behind_token (Punctuator o punctuators.Question) (behind done c))).front true (Punctuator k punctuators.Colon ∷ []) number ((begun 1 number (one Conditional refl)).1 (omega arith))) ws))))))
+        ((behind front (behind_token (Punctuator o punctuators.Question) (behind done c))).front true (Punctuator k punctuators.Colon ∷ []) number ((begun 1 number (one Conditional refl)).1 (omega arith)) refl) ws))))))
         (λ _. Viable-ok)
       where
         first : starts punctuators.Question (t ∷ ts) ≡ true → Q false (done ++ t ∷ [])
@@ -514,10 +526,10 @@ module _ (m : ℕ) (p : Form → Parse E) (sound : (form : Form) (ts : List Term
         let some : 0 < a.1 = high r.0 in
         let node : (h : ℕ) (xs : List Terminal) → Has Assignment h xs → Both Q (m + 1) (suc (max a.1 h)) (done ++ Punctuator is.0 (punctuator_of_assign operator) ∷ xs) = λ h xs s. w (suc (max a.1 h)) _ (_, an_assignment operator is.0 r.0 s.1) in
         subst (λ u. Viable (λ b l. Q b (done ++ l)) (u ∷ ts) (parse.assignment_of m p start a (Some operator) (t ∷ ts))) (first_same t (Punctuator is.0 (punctuator_of_assign operator)) ts is.1 is.2)
-        (Viable-above m a.1 (here Q done ((w a.1 done (from_cast Assignment refl a.1 done (a.0, r.0))).1 r.1)) ((behind done c).front false (Punctuator is.0 (punctuator_of_assign operator) ∷ []) number (node 1 number (one Assignment refl)).0)
+        (Viable-above m a.1 (here Q done ((w a.1 done (from_cast Assignment refl a.1 done (a.0, r.0))).1 r.1)) ((behind done c).front false (Punctuator is.0 (punctuator_of_assign operator) ∷ []) number (node 1 number (one Assignment refl)).0 refl)
         (λ fits. let begun : (h : ℕ) (xs : List Terminal) → Has Assignment h xs → Both Q m h (done ++ Punctuator is.0 (punctuator_of_assign operator) ∷ xs) = λ h xs s. (let both = node h xs s in (both.0, λ le. both.1 (omega arith))) in
         Viable-token (Viable-done _ (viable Assignment refl _ (behind_token (Punctuator is.0 (punctuator_of_assign operator)) (behind done c)) begun
-        ((behind done c).front true (Punctuator is.0 (punctuator_of_assign operator) ∷ []) number ((begun 1 number (one Assignment refl)).1 (omega arith))) ts))))
+        ((behind done c).front true (Punctuator is.0 (punctuator_of_assign operator) ∷ []) number ((begun 1 number (one Assignment refl)).1 (omega arith)) refl) ts))))
       where
         first_same : (t u : Terminal) (ts us : List Terminal) → t ∷ ts ≡ u ∷ us → u ≡ t
         first_same t u ts us e = cc
@@ -548,13 +560,13 @@ module _ (m : ℕ) (p : Form → Parse E) (sound : (form : Form) (ts : List Term
         (λ e. Viable-above m a.1 there (first e)
         (λ fits. Viable-punctuator punctuators.Comma (t ∷ ts) _ there
         (λ at us. Viable-read_on _ (sound Assignment us)
-        (viable Assignment refl _ (behind_token (Punctuator at punctuators.Comma) (behind done c)) (comma_begun done a.1 d fits at) ((behind done c).front true (Punctuator at punctuators.Comma ∷ []) number ((comma_begun done a.1 d fits at 1 number (one Assignment refl)).1 (omega arith))) us)
+        (viable Assignment refl _ (behind_token (Punctuator at punctuators.Comma) (behind done c)) (comma_begun done a.1 d fits at) ((behind done c).front true (Punctuator at punctuators.Comma ∷ []) number ((comma_begun done a.1 d fits at 1 number (one Assignment refl)).1 (omega arith)) refl) us)
         (λ b front vs r. let right : b.1 ≤ m = r.1 in Viable-joined Q done (Punctuator at punctuators.Comma ∷ front)
         (viable_commas n _ (done ++ Punctuator at punctuators.Comma ∷ front) (plus_one Expression (max a.1 b.1) _ (_, a_comma at d.1 r.0)) (omega arith) vs)))))
         (λ _. Viable-ok)
       where
         first : starts punctuators.Comma (t ∷ ts) ≡ true → Q false (done ++ t ∷ [])
-        first e = subst (λ u. Q false (done ++ u ∷ [])) (sym (punctuator_is punctuators.Comma t e)) ((behind done c).front false (Punctuator (number_of t) punctuators.Comma ∷ []) number (comma_node done a.1 d (number_of t) 1 number (one Assignment refl)).0)
+        first e = subst (λ u. Q false (done ++ u ∷ [])) (sym (punctuator_is punctuators.Comma t e)) ((behind done c).front false (Punctuator (number_of t) punctuators.Comma ∷ []) number (comma_node done a.1 d (number_of t) 1 number (one Assignment refl)).0 refl)
 
   viable_expression : (form : Form) (Q : Claims) → OfFronts Q → Wants form (m + 1) Q → (ts : List Terminal) → Viable Q ts (parse.expression m p form ts)
   unfolding parse.expression

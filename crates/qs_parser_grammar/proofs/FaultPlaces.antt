@@ -13,6 +13,8 @@ use Rattle.qs_parser_grammar.proofs.StatementsLocal.{Local-unit}
 use Rattle.qs_parser_grammar.proofs.StatementsMoreRoom.{unexpected_in_all}
 use Rattle.qs_parser_grammar.proofs.Viable.{Claims, OfFronts, Both}
 use Rattle.qs_parser_grammar.proofs.UnitsViable.{IsSomeUnit, viable_unit}
+use Rattle.qs_syntax_vocabulary.specs.WellFormed.{is_well_formed}
+use Rattle.std.specs.List.{list_all}
 
 -- ---- what begins a unit
 
@@ -31,7 +33,7 @@ pub low_begins : (xs : List Terminal) → BeginsLowUnit xs → BeginsUnit xs
 low_begins xs b = record { rest = b.rest; height = b.height; ds = b.ds; reads = b.reads }
 
 pub fronts_begin : OfFronts Begins
-fronts_begin = record { front = go }
+fronts_begin = record { front = λ b xs ys q plain. go b xs ys q }
   where
     go : (b : Bool) (xs ys : List Terminal) → Begins b (xs ++ ys) → Begins b xs
     go false xs ys b = front_begins xs ys b
@@ -125,8 +127,8 @@ unexpected_by n ts e front rest split are begin = record {
       (ap (unit 126) (append_assoc front (t ∷ []) us ∙ ap (λ l. front ++ l) (sym is) ∙ sym split) ∙ e ∙ ap (λ n. Err (Unexpected n)) (sym are ∙ ap length is));
 }
 
-pub unexpected_place : (n : ℕ) (ts : List Terminal) → unit 126 ts ≡ Err (Unexpected n) → Before ts n
-unexpected_place n ts e = let (front, rest, split, are, begin) = (rw e at (viable_unit 126 Begins fronts_begin unit_begins ts)).is in unexpected_by n ts e front rest split are begin
+pub unexpected_place : (n : ℕ) (ts : List Terminal) → list_all is_well_formed ts ≡ true → unit 126 ts ≡ Err (Unexpected n) → Before ts n
+unexpected_place n ts formed e = let (front, rest, split, are, begin) = (rw e at (viable_unit 126 Begins fronts_begin unit_begins ts formed)).is in unexpected_by n ts e front rest split are begin
 
 deep_by : (n : ℕ) (ts : List Terminal) → unit 126 ts ≡ Err (Deep n) → (front : List Terminal) (t : Terminal) (rest : List Terminal) → ts ≡ front ++ t ∷ rest → suc (length rest) ≡ n → BeginsLowUnit front → BeginsUnit (front ++ t ∷ []) → UpTo ts n
 deep_by n ts e front t rest split are before begin = record {
@@ -140,5 +142,5 @@ deep_by n ts e front t rest split are before begin = record {
   none = λ us h ds le r. no_low_unit 126 (front ++ t ∷ []) rest us h ds (ap (unit 126) (append_assoc front (t ∷ []) rest ∙ sym split) ∙ e ∙ ap (λ n. Err (Deep n)) (sym are)) le r;
 }
 
-pub deep_place : (n : ℕ) (ts : List Terminal) → unit 126 ts ≡ Err (Deep n) → UpTo ts n
-deep_place n ts e = let (front, t, rest, split, are, before, begin) = (rw e at (viable_unit 126 Begins fronts_begin unit_begins ts)).is in deep_by n ts e front t rest split are before begin
+pub deep_place : (n : ℕ) (ts : List Terminal) → list_all is_well_formed ts ≡ true → unit 126 ts ≡ Err (Deep n) → UpTo ts n
+deep_place n ts formed e = let (front, t, rest, split, are, before, begin) = (rw e at (viable_unit 126 Begins fronts_begin unit_begins ts formed)).is in deep_by n ts e front t rest split are before begin

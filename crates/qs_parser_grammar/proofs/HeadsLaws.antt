@@ -1,8 +1,8 @@
 -- Punctuators, keywords and operators: the tables fit each other, and what a test of the first token says.
-use Rattle.std.proofs.Common.{◌≡◌, ℕ, ◌<◌, true, false, List, [], ◌∷◌, Option, Some, refl, sym, ap, ◌∙◌, arith}
+use Rattle.std.proofs.Common.{◌≡◌, ℕ, ◌<◌, true, false, List, [], ◌∷◌, Ok, Option, Some, refl, sym, ap, ◌∙◌, arith}
 use Rattle.std.proofs.lemmas.Bool.{false_from_ne_true}
 use Rattle.qs_syntax_vocabulary.specs.declared.terminal.Terminal.{Terminal}
-use Rattle.qs_syntax_vocabulary.specs.declared.terminal.Terminal.TheVariants.{Name, Keyword, Constant, Text, Punctuator}
+use Rattle.qs_syntax_vocabulary.specs.declared.terminal.Terminal.TheVariants.{Name, TypeName, Keyword, Constant, Text, Punctuator}
 use Rattle.qs_base.specs.declared.keyword.Keyword as key
 use Rattle.qs_syntax_vocabulary.specs.declared.punctuator.Punctuator as punctuator
 use Rattle.qs_syntax_vocabulary.specs.declared.operators.UnaryOperator.{UnaryOperator}
@@ -16,12 +16,15 @@ use Rattle.qs_base.proofs.KeywordLaws.{same_keyword_exact}
 use Rattle.qs_syntax_vocabulary.proofs.OperatorLaws.{assign_of-punctuator, binary_of-punctuator, punctuator-access_of, punctuator-assign_of, punctuator-binary_of, punctuator-unary_of, unary_of-punctuator}
 use Rattle.qs_syntax_vocabulary.proofs.PunctuatorLaws.{same_punctuator_exact}
 use Rattle.qs_parser_grammar.specs.Heads.{is_punctuator, is_keyword, starts, starts_with, operator_at}
+use Rattle.qs_syntax.specs.ReadsTypes.{Names, ReadsName, a_plain_name, a_name_of_a_type}
+use Rattle.qs_parser_grammar.specs.Parse.{expect_name}
 use Rattle.qs_parser_grammar.specs.Stops.{precedence_at, precedence_by, punctuator_precedence, terminal_precedence}
 
 -- ---- tests of a token
 
 pub punctuator_is : (m : punctuator.Punctuator) (t : Terminal) → is_punctuator m t ≡ true → t ≡ Punctuator (number_of t) m
 punctuator_is m (Name at x) e = absurd cc
+punctuator_is m (TypeName at x) e = absurd cc
 punctuator_is m (Keyword at k) e = absurd cc
 punctuator_is m (Constant at n unsigned) e = absurd cc
 punctuator_is m (Text at bytes) e = absurd cc
@@ -30,6 +33,7 @@ punctuator_is m (Punctuator at n) e = ap (λ k. Punctuator at k) ((same_punctuat
 pub keyword_is : (k : key.Keyword) (t : Terminal) → is_keyword k t ≡ true → t ≡ Keyword (number_of t) k
 keyword_is k (Name at x) e = absurd cc
 keyword_is k (Keyword at l) e = ap (λ j. Keyword at j) ((same_keyword_exact l k).0 e)
+keyword_is k (TypeName at x) e = absurd cc
 keyword_is k (Constant at n unsigned) e = absurd cc
 keyword_is k (Text at bytes) e = absurd cc
 keyword_is k (Punctuator at m) e = absurd cc
@@ -107,6 +111,7 @@ pub operator_is : {A : Type 0} (of : punctuator.Punctuator → Option A) (punctu
     → (ts : List Terminal) (s : A) → operator_at of ts ≡ Some s → (at : ℕ) × (us : List Terminal) × (ts ≡ Punctuator at (punctuator_of s) ∷ us)
 operator_is of punctuator_of back [] s e = absurd cc
 operator_is of punctuator_of back (Name at x ∷ ts) s e = absurd cc
+operator_is of punctuator_of back (TypeName at x ∷ ts) s e = absurd cc
 operator_is of punctuator_of back (Keyword at k ∷ ts) s e = absurd cc
 operator_is of punctuator_of back (Constant at n unsigned ∷ ts) s e = absurd cc
 operator_is of punctuator_of back (Text at bytes ∷ ts) s e = absurd cc
@@ -120,3 +125,14 @@ assign_at_precedence ts s e = let is = operator_is assign_of punctuator_of_assig
 
 pub access_at_precedence : (ts : List Terminal) (s : Access) → operator_at access_of ts ≡ Some s → precedence_at ts ≡ 0
 access_at_precedence ts s e = let is = operator_is access_of punctuator_of_access access_is ts s e in ap precedence_at is.2 ∙ access_precedence s
+
+-- ---- names
+
+pub name_number : {names : Names} {t : Terminal} {at : ℕ} {x : List ℕ} → ReadsName names t at x → number_of t ≡ at
+name_number (a_plain_name at x) = refl
+name_number (a_name_of_a_type at x) = refl
+
+-- a name is found where such names may stand
+pub finds_name : {names : Names} {t : Terminal} {at : ℕ} {x : List ℕ} → ReadsName names t at x → (rest : List Terminal) → expect_name names (t ∷ rest) ≡ Ok ((at, x), rest)
+finds_name (a_plain_name at x) rest = refl
+finds_name (a_name_of_a_type at x) rest = refl

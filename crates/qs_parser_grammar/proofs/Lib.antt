@@ -13,6 +13,7 @@ pub mod DeclarationsSound
 pub mod DeclarationsMembers
 pub mod DeclarationsParameters
 pub mod StatementsSound
+pub mod MarkLaws
 pub mod UnitsSound
 pub mod DeclarationsComplete
 pub mod DeclarationsMembersComplete
@@ -33,7 +34,10 @@ pub mod DeclarationsMoreRoom
 pub mod StatementsMoreRoom
 pub mod DeclarationsViable
 pub mod StatementsViable
+pub mod NameMarks
 pub mod UnitsViable
+pub mod MarkedLaws
+pub mod MarkedSteps
 pub mod FaultPlaces
 pub mod BeginsExamples
 mod StopsExamples

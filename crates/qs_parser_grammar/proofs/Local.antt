@@ -2,13 +2,14 @@
 use Rattle.std.proofs.Common.{◌≡◌, ℕ, zero, suc, ◌+◌, ◌<◌, ◌≤◌, Bool, true, false, cond, List, [], ◌∷◌, ◌++◌, length, Result, Ok, Err, refl, sym, ap, subst, ◌∙◌, arith, inl, inr, length-append}
 use Rattle.std.specs.Prelude.{◌⊎◌, Option, ◌&&◌}
 use Rattle.qs_syntax_vocabulary.specs.declared.terminal.Terminal.{Terminal}
-use Rattle.qs_syntax_vocabulary.specs.declared.terminal.Terminal.TheVariants.{Name, Keyword, Constant, Text, Punctuator}
+use Rattle.qs_syntax_vocabulary.specs.declared.terminal.Terminal.TheVariants.{Name, TypeName, Keyword, Constant, Text, Punctuator}
 use Rattle.qs_syntax_vocabulary.specs.declared.punctuator.Punctuator as punctuator
+use Rattle.qs_syntax.specs.ReadsTypes.{Names, Plain, Any}
 use Rattle.qs_syntax.specs.Reads.{place}
 use Rattle.qs_base.specs.declared.keyword.Keyword as key
 use Rattle.qs_syntax_vocabulary.specs.Operators.{number_of}
 use Rattle.qs_parser_grammar.specs.Heads.{is_punctuator, is_keyword, starts, operator_at}
-use Rattle.qs_parser_grammar.specs.Parse.{Stop, Unexpected, Deep, Parse, read_on, unexpected, deep, above, deeper, expect, expect_name}
+use Rattle.qs_parser_grammar.specs.Parse.{Stop, Unexpected, Deep, Parse, read_on, unexpected, deep, above, deeper, expect, type_name_as, expect_name}
 use Rattle.qs_parser_grammar.proofs.HeadsLaws.{punctuator_is, keyword_is}
 use Rattle.qs_parser_grammar.proofs.Sound.{Outcome, Sound}
 
@@ -135,6 +136,7 @@ Local-starts k p q g h = Local-if (starts k) (λ t ts us. refl) p q g h
 
 pub operator_at_same : {A : Type 0} (of : punctuator.Punctuator → Option A) (t : Terminal) (ts us : List Terminal) → operator_at of (t ∷ ts) ≡ operator_at of (t ∷ us)
 operator_at_same of (Name at x) ts us = refl
+operator_at_same of (TypeName at x) ts us = refl
 operator_at_same of (Keyword at k) ts us = refl
 operator_at_same of (Constant at n unsigned) ts us = refl
 operator_at_same of (Text at bytes) ts us = refl
@@ -152,18 +154,23 @@ Local-expect k = Local-look (expect k) refl (λ t. Local-cond (is_punctuator k t
 pub Local-punctuator : {A : Type 0} (k : punctuator.Punctuator) (f : Unit {0} → Parse A) → ((x : Unit {0}) → Local 0 (f x)) → Local 0 (λ ts. read_on (expect k ts) f)
 Local-punctuator k f good = Local-read_on f good (expect k) (Local-expect k)
 
-Local-expect_name : Local 0 expect_name
-Local-expect_name = Local-look expect_name refl each
+Local-type_name_as : (names : Names) (at : ℕ) (x : List ℕ) → Local 1 (type_name_as names at x)
+Local-type_name_as Plain at x = Local-unexpected
+Local-type_name_as Any at x = Local-weak _ (Local-ok (at, x))
+
+Local-expect_name : (names : Names) → Local 0 (expect_name names)
+Local-expect_name names = Local-look (expect_name names) refl each
   where
-    each : (t : Terminal) → Local 1 (λ ts. expect_name (t ∷ ts))
+    each : (t : Terminal) → Local 1 (λ ts. expect_name names (t ∷ ts))
     each (Name at x) = Local-weak _ (Local-ok (at, x))
+    each (TypeName at x) = Local-type_name_as names at x
     each (Keyword at k) = Local-unexpected
     each (Constant at n unsigned) = Local-unexpected
     each (Text at bytes) = Local-unexpected
     each (Punctuator at m) = Local-unexpected
 
-pub Local-name : {A : Type 0} (f : ℕ × List ℕ → Parse A) → ((x : ℕ × List ℕ) → Local 0 (f x)) → Local 0 (λ ts. read_on (expect_name ts) f)
-Local-name f good = Local-read_on f good expect_name Local-expect_name
+pub Local-name : {A : Type 0} (names : Names) (f : ℕ × List ℕ → Parse A) → ((x : ℕ × List ℕ) → Local 0 (f x)) → Local 0 (λ ts. read_on (expect_name names ts) f)
+Local-name names f good = Local-read_on f good (expect_name names) (Local-expect_name names)
 
 -- ---- two tokens are looked at
 

@@ -6,17 +6,19 @@ use Rattle.qs_syntax_vocabulary.specs.declared.terminal.Terminal.TheVariants as 
 use Rattle.qs_syntax_vocabulary.specs.declared.punctuator.Punctuator.TheVariants as punctuators
 use Rattle.qs_base.specs.declared.keyword.Keyword.TheVariants as keywords
 use Rattle.qs_syntax_vocabulary.specs.Operators.{punctuator_of_access, punctuator_of_binary, punctuator_of_assign}
-use Rattle.qs_syntax.specs.Trees.{ExprTree, Exprs, LengthsTree, DeclaratorTree, InitialiserTree, Initialisers, VariableTree, DeclarationTree, MembersTree, ParameterTree, StartTree, StmtTree, Stmts, DeclTree}
-use Rattle.qs_syntax.specs.Nodes.{all_count, option_count, expr_count, exprs_count, lengths_count, declarator_count, initialiser_count, initialisers_count, variable_count, declaration_count, parameter_count, members_count, start_count, stmt_count, stmts_count, decl_count, unit_count}
+use Rattle.qs_syntax.specs.Trees.{ExprTree, Exprs, LengthsTree, DeclaratorTree, InitialiserTree, Initialisers, VariableTree, DeclarationTree, MembersTree, ParameterTree, StartTree, StmtTree, Stmts, DeclTree, DefinedTree}
+use Rattle.qs_syntax.specs.Nodes.{all_count, option_count, expr_count, exprs_count, lengths_count, declarator_count, initialiser_count, initialisers_count, variable_count, declaration_count, parameter_count, members_count, start_count, stmt_count, stmts_count, decl_count, unit_count, defined_count}
 use Rattle.qs_syntax.specs.declared.types.Base.{Base}
-use Rattle.qs_syntax.specs.ReadsTypes.{ReadsBase, a_void, an_int, a_char, an_unsigned, an_unsigned_int, an_unsigned_char, a_signed, a_signed_int, a_struct, ReadsType, a_type}
+use Rattle.qs_syntax.specs.ReadsTypes.{ReadsBase, a_void, an_int, a_char, an_unsigned, an_unsigned_int, an_unsigned_char, a_signed, a_signed_int, a_struct, ReadsType, a_type, Names, a_named_type}
 use Rattle.qs_syntax.specs.Reads.{Form, Reads, a_name, an_empty_call, a_call, a_constant, a_text, in_parentheses, an_index, a_member, an_increment_after, a_decrement_after, a_postfix, an_increment, a_decrement, an_operator, a_size_of_type, a_size_of_value, a_cast, an_operand, stronger, an_operation, a_plain_level, a_choice, a_plain_conditional, an_assignment, a_plain_assignment, a_comma, ReadsArguments, a_last_argument, an_argument}
 use Rattle.qs_syntax.specs.ReadsDeclarations as ds
 use Rattle.qs_syntax.specs.ReadsDeclarations.{ReadsGiven, ReadsLengths, ReadsDeclarator, ReadsInitialiser, ReadsInitialisers, ReadsVariable, ReadsVariables, ReadsDeclaration, ReadsOuterDeclaration, ReadsDeclarators, ReadsMembers, ReadsAllMembers, ReadsParameter, ReadsParameters, ReadsHead}
 use Rattle.qs_syntax.specs.ReadsStatements as ss
 use Rattle.qs_syntax.specs.ReadsStatements.{ReadsOptional, ReadsStart, ReadsStatement, ReadsItem, ReadsItems}
 use Rattle.qs_syntax.specs.ReadsUnits as us
-use Rattle.qs_syntax.specs.ReadsUnits.{ReadsExternal, ReadsUnit}
+use Rattle.qs_syntax.specs.ReadsUnits.{ReadsExternal, ReadsUnit, a_plain_external, ReadsDefined, ReadsExternals, ReadsPlain, ReadsTypeNames, a_known_type, a_last_name, a_name_before, a_struct_with_tag, a_struct_without_tag, a_typedef}
+use Rattle.qs_syntax_vocabulary.specs.Marks.{NameSet}
+use Rattle.qs_parser_grammar.proofs.MarkLaws.{as_many}
 
 joined : (xs ys : List Terminal) → length (xs ++ ys) ≡ length xs + length ys
 joined xs ys = length-append xs ys
@@ -30,7 +32,7 @@ mutual
   counted (a_text at first r) = omega arith
   counted (in_parentheses {ts = ts} o c r) = let n = counted r in omega (arith, joined ts (terminals.Punctuator c punctuators.CloseParenthesis ∷ []))
   counted (an_index {xs = xs} {ys = ys} o c r s) = let n = counted r in let m = counted s in omega (arith, joined xs (terminals.Punctuator o punctuators.OpenBracket ∷ (ys ++ terminals.Punctuator c punctuators.CloseBracket ∷ [])), joined ys (terminals.Punctuator c punctuators.CloseBracket ∷ []))
-  counted (a_member {xs = xs} access d n x r) = let i = counted r in omega (arith, joined xs (terminals.Punctuator d (punctuator_of_access access) ∷ terminals.Name n x ∷ []))
+  counted (a_member {xs = xs} {t = t} access d r name) = let i = counted r in omega (arith, joined xs (terminals.Punctuator d (punctuator_of_access access) ∷ t ∷ []))
   counted (an_increment_after {xs = xs} s r) = let n = counted r in omega (arith, joined xs (terminals.Punctuator s punctuators.Increment ∷ []))
   counted (a_decrement_after {xs = xs} s r) = let n = counted r in omega (arith, joined xs (terminals.Punctuator s punctuators.Decrement ∷ []))
   counted (a_postfix r) = counted r
@@ -64,7 +66,8 @@ base_some (an_unsigned_int at bt) = omega arith
 base_some (an_unsigned_char at bt) = omega arith
 base_some (a_signed at) = omega arith
 base_some (a_signed_int at bt) = omega arith
-base_some (a_struct at bt x) = omega arith
+base_some (a_struct at r) = omega arith
+base_some (a_named_type at x) = omega arith
 
 pub type_some : {ts : List Terminal} {b : Base} → ReadsType ts b → 1 ≤ length ts
 type_some (a_type {xs = xs} {ys = ys} {zs = zs} r s t) = let n = base_some s in omega (arith, joined xs (ys ++ zs), joined ys zs)
@@ -77,8 +80,8 @@ counted_lengths : {h : ℕ} {ts : List Terminal} {l : LengthsTree} → ReadsLeng
 counted_lengths (ds.are_given r) = counted_given r
 counted_lengths (ds.first_open o c r) = let n = counted_given r in omega arith
 
-counted_declarator : {h : ℕ} {ts : List Terminal} {d : DeclaratorTree} → ReadsDeclarator h ts d → declarator_count d ≤ length ts
-counted_declarator (ds.a_declarator {xs = xs} {ys = ys} at x r s) = let n = counted_lengths s in omega (arith, joined xs (terminals.Name at x ∷ ys))
+counted_declarator : {names : Names} {h : ℕ} {ts : List Terminal} {d : DeclaratorTree} → ReadsDeclarator names h ts d → declarator_count d ≤ length ts
+counted_declarator (ds.a_declarator {xs = xs} {ys = ys} {t = t} r name s) = let n = counted_lengths s in omega (arith, joined xs (t ∷ ys))
 
 mutual
   counted_initialiser : {h : ℕ} {ts : List Terminal} {i : InitialiserTree} → ReadsInitialiser h ts i → initialiser_count i ≤ length ts
@@ -171,10 +174,10 @@ mutual
   counted_items ss.no_item = omega arith
   counted_items (ss.an_item {xs = xs} {ys = ys} r s) = let n = counted_item r in let m = counted_items s in omega (arith, joined xs ys)
 
-counted_external : {h : ℕ} {ts : List Terminal} {d : DeclTree} → ReadsExternal h ts d → decl_count d ≤ length ts
-counted_external (us.a_struct_with_members {ts = ts} at n o c s x r) = let k = counted_groups r in omega (arith, joined ts (terminals.Punctuator c punctuators.CloseBrace ∷ terminals.Punctuator s punctuators.Semicolon ∷ []))
-counted_external (us.a_forward at n s x) = omega arith
-counted_external (us.a_header {xs = xs} {ys = ys} {zs = zs} n o c s x t st r) =
+counted_plain : {h : ℕ} {ts : List Terminal} {d : DeclTree} → ReadsPlain h ts d → decl_count d ≤ length ts
+counted_plain (us.a_struct_with_members {ts = ts} at o c s name r) = let k = counted_groups r in omega (arith, joined ts (terminals.Punctuator c punctuators.CloseBrace ∷ terminals.Punctuator s punctuators.Semicolon ∷ []))
+counted_plain (us.a_forward at s name) = omega arith
+counted_plain (us.a_header {xs = xs} {ys = ys} {zs = zs} n o c s x t st r) =
     let k = counted_head r in
     omega (
       arith,
@@ -182,13 +185,32 @@ counted_external (us.a_header {xs = xs} {ys = ys} {zs = zs} n o c s x t st r) =
       joined ys (terminals.Name n x ∷ terminals.Punctuator o punctuators.OpenParenthesis ∷ (zs ++ terminals.Punctuator c punctuators.CloseParenthesis ∷ terminals.Punctuator s punctuators.Semicolon ∷ [])),
       joined zs (terminals.Punctuator c punctuators.CloseParenthesis ∷ terminals.Punctuator s punctuators.Semicolon ∷ []),
     )
-counted_external (us.a_definition {xs = xs} {ys = ys} {zs = zs} {ws = ws} n o c b e x t st r s) =
+counted_plain (us.a_definition {xs = xs} {ys = ys} {zs = zs} {ws = ws} n o c b e x t st r s) =
     let k = counted_head r in
     let l = counted_items s in
     let tail : List Terminal = terminals.Punctuator c punctuators.CloseParenthesis ∷ terminals.Punctuator b punctuators.OpenBrace ∷ (ws ++ terminals.Punctuator e punctuators.CloseBrace ∷ []) in
     omega (arith, joined xs (ys ++ terminals.Name n x ∷ terminals.Punctuator o punctuators.OpenParenthesis ∷ (zs ++ tail)), joined ys (terminals.Name n x ∷ terminals.Punctuator o punctuators.OpenParenthesis ∷ (zs ++ tail)), joined zs tail, joined ws (terminals.Punctuator e punctuators.CloseBrace ∷ []))
-counted_external (us.some_variables r) = counted_outer r
+counted_plain (us.some_variables r) = counted_outer r
 
-pub counted_unit : {h : ℕ} {ts : List Terminal} {ds : List DeclTree} → ReadsUnit h ts ds → unit_count ds ≤ length ts
+counted_defined : {h : ℕ} {ts : List Terminal} {d : DefinedTree} → ReadsDefined h ts d → defined_count d ≤ length ts
+counted_defined (us.a_struct_with_tag {ts = ts} at o c name r) = let k = counted_groups r in omega (arith, joined ts (terminals.Punctuator c punctuators.CloseBrace ∷ []))
+counted_defined (us.a_struct_without_tag {ts = ts} at o c r) = let k = counted_groups r in omega (arith, joined ts (terminals.Punctuator c punctuators.CloseBrace ∷ []))
+counted_defined (us.a_known_type r) = omega arith
+
+counted_type_names : {set : NameSet} {h : ℕ} {ts : List Terminal} {l : List DeclaratorTree} → ReadsTypeNames set h ts l → all_count declarator_count l ≤ length ts
+counted_type_names {set} (us.a_last_name {ts = ts} r) = let n = counted_declarator r in omega (arith, as_many set ts)
+counted_type_names {set} (us.a_name_before {ys = ys} xs at r s) =
+    let n = counted_declarator r in
+    let m = counted_type_names s in
+    omega (arith, as_many set xs, joined xs (terminals.Punctuator at punctuators.Comma ∷ ys))
+
+counted_external : {set : NameSet} {h : ℕ} {ts : List Terminal} {d : DeclTree} → ReadsExternal set h ts d → decl_count d ≤ length ts
+counted_external {set} (us.a_plain_external {ts = ts} r) = let n = counted_plain r in omega (arith, as_many set ts)
+counted_external {set} (us.a_typedef {ys = ys} xs at s r q) =
+    let n = counted_defined r in
+    let m = counted_type_names q in
+    omega (arith, as_many set xs, joined xs (ys ++ terminals.Punctuator s punctuators.Semicolon ∷ []), joined ys (terminals.Punctuator s punctuators.Semicolon ∷ []))
+
+pub counted_unit : {set : NameSet} {h : ℕ} {ts : List Terminal} {ds : List DeclTree} → ReadsExternals set h ts ds → unit_count ds ≤ length ts
 counted_unit (us.a_last_external r) = let n = counted_external r in omega arith
 counted_unit (us.an_external {xs = xs} {ys = ys} r s) = let n = counted_external r in let m = counted_unit s in omega (arith, joined xs ys)

@@ -3,11 +3,12 @@ use Rattle.std.proofs.Common.{◌≡◌, ℕ, ◌≤◌, Bool, true, false, cond
 use Rattle.std.specs.Prelude.{nat_le}
 use Rattle.std.proofs.lemmas.Bool.{leb-true}
 use Rattle.qs_syntax_vocabulary.specs.declared.terminal.Terminal.{Terminal}
-use Rattle.qs_syntax_vocabulary.specs.declared.terminal.Terminal.TheVariants.{Name, Keyword, Constant, Text, Punctuator}
+use Rattle.qs_syntax_vocabulary.specs.declared.terminal.Terminal.TheVariants.{Name, TypeName, Keyword, Constant, Text, Punctuator}
 use Rattle.qs_syntax_vocabulary.specs.declared.punctuator.Punctuator as punctuator
 use Rattle.qs_syntax_vocabulary.specs.Operators.{number_of}
 use Rattle.qs_parser_grammar.specs.Heads.{is_punctuator}
 use Rattle.qs_parser_grammar.specs.Parse.{Stop, Parse, read_on, expect, expect_name}
+use Rattle.qs_syntax.specs.ReadsTypes.{Names, Plain, Any, ReadsName, a_plain_name, a_name_of_a_type}
 use Rattle.qs_parser_grammar.proofs.HeadsLaws.{punctuator_is}
 use Rattle.qs_parser_grammar.proofs.Sound.{Outcome, Sound, Sound-ok, Sound-err, at_end, Sound-after, Sound-token}
 
@@ -32,16 +33,18 @@ sound_expect m [] = Sound-err at_end
 sound_expect m (t ∷ ts) = Sound-if (is_punctuator m t) (λ e. Sound-token (Sound-ok (number_of t, ap (λ u. u ∷ []) (punctuator_is m t e)))) (λ e. Sound-err at_end)
 
 -- the name alone
-abbrev pub IsName : ℕ × List ℕ → List Terminal → Type 0
-IsName x ts = ts ≡ Name x.0 x.1 ∷ []
+abbrev pub IsName : Names → ℕ × List ℕ → List Terminal → Type 0
+IsName names x ts = (t : Terminal) × (ts ≡ t ∷ []) × ReadsName names t x.0 x.1
 
-pub sound_expect_name : (ts : List Terminal) → Sound IsName [] ts (expect_name ts)
-sound_expect_name [] = Sound-err at_end
-sound_expect_name (Name at x ∷ ts) = Sound-token (Sound-ok refl)
-sound_expect_name (Keyword at k ∷ ts) = Sound-err at_end
-sound_expect_name (Constant at n unsigned ∷ ts) = Sound-err at_end
-sound_expect_name (Text at bytes ∷ ts) = Sound-err at_end
-sound_expect_name (Punctuator at m ∷ ts) = Sound-err at_end
+pub sound_expect_name : (names : Names) (ts : List Terminal) → Sound (IsName names) [] ts (expect_name names ts)
+sound_expect_name names [] = Sound-err at_end
+sound_expect_name names (Name at x ∷ ts) = Sound-token (Sound-ok (Name at x, refl, a_plain_name at x))
+sound_expect_name Plain (TypeName at x ∷ ts) = Sound-err at_end
+sound_expect_name Any (TypeName at x ∷ ts) = Sound-token (Sound-ok (TypeName at x, refl, a_name_of_a_type at x))
+sound_expect_name names (Keyword at k ∷ ts) = Sound-err at_end
+sound_expect_name names (Constant at n unsigned ∷ ts) = Sound-err at_end
+sound_expect_name names (Text at bytes ∷ ts) = Sound-err at_end
+sound_expect_name names (Punctuator at m ∷ ts) = Sound-err at_end
 
 module _ {A C : Type 0} {R : A → List Terminal → Type 0} {S : C → List Terminal → Type 0} where
   -- what follows a first part knows how all the tokens begin

@@ -1,32 +1,36 @@
 -- What the parser of statements and units answers depends on no token behind the one at which it stops.
-use Rattle.std.proofs.Common.{◌≡◌, ℕ, zero, suc, ◌+◌, ◌<◌, ◌≤◌, Bool, true, false, cond, List, [], ◌∷◌, ◌++◌, length, Result, Ok, Err, refl, sym, ap, subst, ◌∙◌, arith, inl, inr, length-append}
+use Rattle.std.proofs.Common.{◌≡◌, ℕ, zero, suc, ◌+◌, ◌<◌, ◌≤◌, Bool, true, false, cond, List, [], ◌∷◌, ◌++◌, length, Result, Ok, Err, refl, sym, ap, subst, ◌∙◌, arith, inl, inr, length-append, None, Some, Option}
 use Rattle.std.specs.Prelude.{◌⊎◌, max, ◌==◌}
 use Rattle.qs_syntax_vocabulary.specs.declared.terminal.Terminal.{Terminal}
-use Rattle.qs_syntax_vocabulary.specs.declared.terminal.Terminal.TheVariants.{Name, Keyword, Constant, Text, Punctuator}
+use Rattle.qs_syntax_vocabulary.specs.declared.terminal.Terminal.TheVariants.{Name, TypeName, Keyword, Constant, Text, Punctuator}
 use Rattle.qs_base.specs.declared.keyword.Keyword.TheVariants as keywords
 use Rattle.qs_syntax_vocabulary.specs.declared.punctuator.Punctuator as punctuator
 use Rattle.qs_syntax_vocabulary.specs.declared.punctuator.Punctuator.TheVariants as punctuators
 use Rattle.qs_syntax.specs.declared.types.Base.{Base}
 use Rattle.qs_syntax.specs.declared.types.Base.TheVariants as bases
-use Rattle.qs_syntax.specs.Trees.{unnumbered, ParameterTree, DeclarationTree, StmtTree, expression, DeclTree}
+use Rattle.qs_syntax.specs.Trees.{unnumbered, ParameterTree, DeclarationTree, StmtTree, expression, DeclTree, DefinedTree, of_base, DeclaratorTree}
 use Rattle.qs_syntax.specs.Trees as trees
 use Rattle.qs_syntax_vocabulary.specs.Operators.{number_of}
 use Rattle.qs_syntax.specs.Reads.{Expression}
 use Rattle.qs_syntax.specs.ReadsDeclarations.{ReadsDeclaration, a_declaration}
 use Rattle.qs_syntax.specs.ReadsStatements.{ReadsStatement, a_block, an_empty, an_expression, an_if, an_if_with_else, a_while, a_do, a_for, a_break, a_continue, a_return}
 use Rattle.qs_parser_grammar.specs.Heads.{is_punctuator, is_keyword, starts, begins_type}
-use Rattle.qs_parser_grammar.specs.Parse.{Stop, Parse, read_on, E, unexpected, deep, expect, skip_consts, tagged, stars, part}
+use Rattle.qs_parser_grammar.specs.Parse.{Stop, Parse, read_on, E, unexpected, deep, expect, skip_consts, tagged, stars, part, expect_name, type}
 use Rattle.qs_parser_grammar.specs.ParseDeclarations.{outer_type, declaration_within, declared, declarator, groups, head}
-use Rattle.qs_parser_grammar.specs.ParseStatements.{S, optional, condition, start_of, begins_statement, item, items, after_then, after_if, after_while, expect_while, after_do, after_for, running, plain_statement, keyword_statement, statement_at, statement, is_named, struct_of, forward_of, body_of, function_of, typed, external, is_empty, externals, unit}
-use Rattle.qs_parser_grammar.proofs.HeadsLaws.{keyword_is}
+use Rattle.qs_parser_grammar.specs.ParseStatements.{S, optional, condition, start_of, begins_statement, item, items, after_then, after_if, after_while, expect_while, after_do, after_for, running, plain_statement, keyword_statement, statement_at, statement, is_named, struct_of, forward_of, body_of, function_of, typed, external, is_empty, externals, unit, braced, has_members, in_marks, known_type, struct_defined, type_names, typedef_of, plain, defined}
+use Rattle.qs_parser_grammar.proofs.HeadsLaws.{keyword_is, finds_name}
 use Rattle.qs_parser_grammar.proofs.NodeCounts.{type_some}
 use Rattle.qs_parser_grammar.proofs.DeclarationsSound.{sound_declaration_within}
 use Rattle.qs_parser_grammar.proofs.StatementsSound.{sound_statement}
 use Rattle.qs_parser_grammar.proofs.UnitsSound.{sound_external}
 use Rattle.qs_parser_grammar.proofs.UnitsComplete.{external_takes}
-use Rattle.qs_parser_grammar.proofs.ExpressionsLocal.{Local-skip, Local-tagged, Local-stars, Local-part}
-use Rattle.qs_parser_grammar.proofs.DeclarationsLocal.{Local-outer_type, Local-named, named_fewer, Local-declared, declared_left, Local-declaration_within, Local-groups, Local-head}
-use Rattle.qs_parser_grammar.proofs.Local.{left, Local, read_on-left, Local-read_on, Local-look, Local-weak, Local-cons, Local-cond, Local-ok, Local-here, Local-unexpected, Local-deep, Local-unexpected-all, Local-deep-all, Local-if, Local-starts, Local-punctuator, Local-name, Looks, cond-left, Local-two, Local-far, read_on_same, read_on_nothing, cond_same, Turns, Local-same, Local-turns, sound_takes}
+use Rattle.qs_parser_grammar.proofs.ExpressionsLocal.{Local-skip, Local-tagged, Local-stars, Local-part, Local-type}
+use Rattle.qs_parser_grammar.proofs.DeclarationsLocal.{Local-outer_type, Local-named, named_fewer, Local-declared, declared_left, Local-declaration_within, Local-groups, Local-head, Local-declarator, declarator_nothing}
+use Rattle.qs_parser_grammar.proofs.Local.{left, Local, read_on-left, Local-read_on, Local-look, Local-weak, Local-cons, Local-cond, Local-ok, Local-here, Local-unexpected, Local-deep, Local-unexpected-all, Local-deep-all, Local-if, Local-starts, Local-punctuator, Local-name, Looks, cond-left, Local-two, Local-far, read_on_same, read_on_nothing, cond_same, Turns, Local-same, Local-turns, sound_takes, Local-after, after_same, leaves_less}
+use Rattle.qs_syntax.specs.ReadsTypes.{Any, Plain, ReadsName, a_plain_name, a_name_of_a_type}
+use Rattle.qs_syntax.specs.ReadsUnits.{names_behind}
+use Rattle.qs_syntax_vocabulary.specs.Marks.{NameSet}
+use Rattle.qs_parser_grammar.proofs.MarkLaws.{Local-marks}
 
 module _ (m : ℕ) where
   Local-optional : (k : punctuator.Punctuator) → Local 0 (optional m k)
@@ -134,6 +138,7 @@ module _ (m : ℕ) (inner : Parse S) (good : Local 0 inner) (nothing : inner [] 
 
 begins_statement_same : (t : Terminal) (ts us : List Terminal) → begins_statement (t ∷ ts) ≡ begins_statement (t ∷ us)
 begins_statement_same (Name at x) ts us = refl
+begins_statement_same (TypeName at x) ts us = refl
 begins_statement_same (Keyword at k) ts us = refl
 begins_statement_same (Constant at n unsigned) ts us = refl
 begins_statement_same (Text at bytes) ts us = refl
@@ -157,19 +162,19 @@ Local-statement (suc m) = Local-at m (statement m) (Local-statement m) (statemen
 module _ (k : ℕ) where
   abbrev behind_struct : ℕ → ℕ × List ℕ → Parse (DeclTree × ℕ)
   behind_struct at x us =
-      read_on (expect punctuators.OpenBrace us) (λ _ vs. read_on (groups k (length vs) [] 0 vs) (λ ms ws. read_on (expect punctuators.Semicolon ws) (λ _ xs. Ok ((trees.structure (record { node = unnumbered at; name = x.1; members = ms.0 }), ms.1 + 1), xs))))
+      read_on (expect punctuators.OpenBrace us) (λ _ vs. read_on (groups k (length vs) [] 0 vs) (λ ms ws. read_on (expect punctuators.Semicolon ws) (λ _ xs. Ok ((trees.structure (record { node = unnumbered at; name = Some x.1; members = ms.0 }), ms.1 + 1), xs))))
 
   Local-behind_struct : (at : ℕ) (x : ℕ × List ℕ) → Local 0 (behind_struct at x)
   Local-behind_struct at x = Local-punctuator punctuators.OpenBrace _ (λ _. Local-read_on _ (λ ms. Local-punctuator punctuators.Semicolon _ (λ _. Local-ok _)) (λ vs. groups k (length vs) [] 0 vs) (Local-groups k))
 
   Local-struct : (at : ℕ) → Local 0 (struct_of k at)
-  Local-struct at = Local-name (behind_struct at) (Local-behind_struct at)
+  Local-struct at = Local-name Any (behind_struct at) (Local-behind_struct at)
 
   Local-behind_forward : (at : ℕ) (x : List ℕ) → Local {A = DeclTree × ℕ} 0 (λ us. read_on (expect punctuators.Semicolon us) (λ _ vs. Ok ((trees.forward (record { node = unnumbered at; name = x }), 1), vs)))
   Local-behind_forward at x = Local-punctuator punctuators.Semicolon _ (λ _. Local-ok _)
 
   Local-forward : (at : ℕ) → Local 0 (forward_of at)
-  Local-forward at = Local-name _ (λ x. Local-behind_forward at x.1)
+  Local-forward at = Local-name Any _ (λ x. Local-behind_forward at x.1)
 
   Local-body : (start : ℕ) (b : Base) (n : ℕ) (x : List ℕ) (ps : List ParameterTree × ℕ) → Local 0 (body_of k start b n x ps)
   Local-body start b n x ps =
@@ -183,7 +188,7 @@ module _ (k : ℕ) where
   Local-behind_name start b n x = Local-punctuator punctuators.OpenParenthesis _ (λ _. Local-read_on _ (λ ps. Local-body start b n x.1 ps) (head k) (Local-head k))
 
   Local-function : (start : ℕ) (b : Base) (n : ℕ) → Local 0 (function_of k start b n)
-  Local-function start b n = Local-name (behind_name start b n) (Local-behind_name start b n)
+  Local-function start b n = Local-name Plain (behind_name start b n) (Local-behind_name start b n)
 
   abbrev function_there : (start : ℕ) → Base → Parse (DeclTree × ℕ)
   function_there start b ts = function_of k start b (stars ts).0 (stars ts).1
@@ -197,7 +202,7 @@ module _ (k : ℕ) where
   Local-variables_there : (b : Base) → Local 0 (variables_there b)
   Local-variables_there b = Local-read_on _ (λ d. Local-ok _) (declared (k + 1) b) (Local-declared (k + 1) b)
 
-  variables_left : (b : Base) (ts : List Terminal) → left (variables_there b ts) ≤ left (declarator (k + 1) ts)
+  variables_left : (b : Base) (ts : List Terminal) → left (variables_there b ts) ≤ left (declarator Plain (k + 1) ts)
   variables_left b ts = omega (arith, read_on-left _ (λ (d : DeclarationTree × ℕ). Local-ok {A = DeclTree × ℕ} (trees.variables d.0, d.1)) (declared (k + 1) b ts), declared_left (k + 1) b ts)
 
   -- as many are left as behind the stars, or fewer behind a name
@@ -206,9 +211,9 @@ module _ (k : ℕ) where
 
   abbrev Decides : (start : ℕ) → Base → List Terminal → List Terminal → Type 0
   Decides start b ts us =
-      (is_named punctuators.OpenParenthesis (stars (ts ++ us)).1 ≡ is_named punctuators.OpenParenthesis (stars ts).1)
-      ⊎ ((left (cond (is_named punctuators.OpenParenthesis (stars ts).1) (function_there start b ts) (variables_there b ts)) ≡ 0)
-      × (left (cond (is_named punctuators.OpenParenthesis (stars (ts ++ us)).1) (function_there start b (ts ++ us)) (variables_there b (ts ++ us))) ≤ length us))
+      (is_named Plain punctuators.OpenParenthesis (stars (ts ++ us)).1 ≡ is_named Plain punctuators.OpenParenthesis (stars ts).1)
+      ⊎ ((left (cond (is_named Plain punctuators.OpenParenthesis (stars ts).1) (function_there start b ts) (variables_there b ts)) ≡ 0)
+      × (left (cond (is_named Plain punctuators.OpenParenthesis (stars (ts ++ us)).1) (function_there start b (ts ++ us)) (variables_there b (ts ++ us))) ≤ length us))
 
   stars_same : (ts us : List Terminal) → 0 < length (stars ts).1 → (stars (ts ++ us)).1 ≡ (stars ts).1 ++ us
   stars_same ts us h = let same : ◌≡◌ {A = Result (ℕ × List Terminal) Stop} (Ok (stars (ts ++ us))) (Ok ((stars ts).0, (stars ts).1 ++ us)) = Local-stars.stable ts us h in
@@ -217,15 +222,15 @@ module _ (k : ℕ) where
   -- all is stopped at the end
   stopped : (start : ℕ) (b : Base) (ts us : List Terminal) → left (function_there start b ts) ≤ 0 → left (variables_there b ts) ≤ 0 → left (function_there start b (ts ++ us)) ≤ length us → Decides start b ts us
   stopped start b ts us none nothing fewer = inr (
-    omega (arith, cond-left (is_named punctuators.OpenParenthesis (stars ts).1) (function_there start b ts) (variables_there b ts) 0 none nothing),
-    cond-left (is_named punctuators.OpenParenthesis (stars (ts ++ us)).1) (function_there start b (ts ++ us)) (variables_there b (ts ++ us)) (length us) fewer ((Local-variables_there b).passes ts us (omega (arith, nothing))),
+    omega (arith, cond-left (is_named Plain punctuators.OpenParenthesis (stars ts).1) (function_there start b ts) (variables_there b ts) 0 none nothing),
+    cond-left (is_named Plain punctuators.OpenParenthesis (stars (ts ++ us)).1) (function_there start b (ts ++ us)) (variables_there b (ts ++ us)) (length us) fewer ((Local-variables_there b).passes ts us (omega (arith, nothing))),
   )
 
-  declarator_left : (ts : List Terminal) → left (declarator (k + 1) ts) ≤ 0 + length (stars ts).1
+  declarator_left : (ts : List Terminal) → left (declarator Plain (k + 1) ts) ≤ 0 + length (stars ts).1
   unfolding declarator
-  declarator_left ts = (Local-named (k + 1) (stars ts).0).shrinks (stars ts).1
+  declarator_left ts = (Local-named Plain (k + 1) (stars ts).0).shrinks (stars ts).1
 
-  named_left : (ts : List Terminal) (at : ℕ) (x : List ℕ) → (stars ts).1 ≡ Name at x ∷ [] → left (declarator (k + 1) ts) ≤ 0
+  named_left : (ts : List Terminal) (at : ℕ) (x : List ℕ) → (stars ts).1 ≡ Name at x ∷ [] → left (declarator Plain (k + 1) ts) ≤ 0
   unfolding declarator
   named_left ts at x e = rw e (named_fewer (k + 1) (stars ts).0 at x [])
 
@@ -241,24 +246,32 @@ module _ (k : ℕ) where
       (omega (arith, variables_left b ts, named_left ts at x e))
       (subst (λ l. left (function_of k start b (stars (ts ++ us)).0 l) ≤ length us) (sym (stars_same ts us (omega (arith, ap length e)) ∙ ap (λ l. l ++ us) e)) (function_fewer start b (stars (ts ++ us)).0 at x us))
   decides start b ts us (Name at x ∷ t ∷ l) e = inl (rw (stars_same ts us (omega (arith, ap length e)), e) refl)
+  decides start b ts us (TypeName at x ∷ l) e = inl (rw (stars_same ts us (omega (arith, ap length e)), e) refl)
   decides start b ts us (Keyword at x ∷ l) e = inl (rw (stars_same ts us (omega (arith, ap length e)), e) refl)
   decides start b ts us (Constant at n unsigned ∷ l) e = inl (rw (stars_same ts us (omega (arith, ap length e)), e) refl)
   decides start b ts us (Text at bytes ∷ l) e = inl (rw (stars_same ts us (omega (arith, ap length e)), e) refl)
   decides start b ts us (Punctuator at n ∷ l) e = inl (rw (stars_same ts us (omega (arith, ap length e)), e) refl)
 
   Local-typed : (start : ℕ) (b : Base) → Local 0 (typed k start b)
-  Local-typed start b = Local-far (λ ts. is_named punctuators.OpenParenthesis (stars ts).1) (function_there start b) (variables_there b) (Local-function_there start b) (Local-variables_there b) (λ ts us. decides start b ts us (stars ts).1 refl)
+  Local-typed start b = Local-far (λ ts. is_named Plain punctuators.OpenParenthesis (stars ts).1) (function_there start b) (variables_there b) (Local-function_there start b) (Local-variables_there b) (λ ts us. decides start b ts us (stars ts).1 refl)
 
   -- ---- externals
 
   -- what stands behind `struct`
-  Looks-named : (n : punctuator.Punctuator) (p q : Parse (DeclTree × ℕ)) → ((at : ℕ) (x : List ℕ) (us : List Terminal) → left (p (Name at x ∷ us)) ≤ length us) → ((at : ℕ) (x : List ℕ) (us : List Terminal) → left (q (Name at x ∷ us)) ≤ length us)
-      → (t : Terminal) → Looks (is_named n) p q t
-  Looks-named n p q f g (Name at x) = inr (record { same = λ u ts us. refl; passed = f at x; passed_else = g at x })
+  abbrev Fewer : {A : Type 0} → Parse A → Type 0
+  Fewer p = (t : Terminal) (at : ℕ) (x : List ℕ) → ReadsName Any t at x → (us : List Terminal) → left (p (t ∷ us)) ≤ length us
+
+  Looks-named : {A : Type 0} (n : punctuator.Punctuator) (p q : Parse A) → Fewer p → Fewer q → (t : Terminal) → Looks (is_named Any n) p q t
+  Looks-named n p q f g (Name at x) = inr (record { same = λ u ts us. refl; passed = f (Name at x) at x (a_plain_name at x); passed_else = g (Name at x) at x (a_plain_name at x) })
+  Looks-named n p q f g (TypeName at x) = inr (record { same = λ u ts us. refl; passed = f (TypeName at x) at x (a_name_of_a_type at x); passed_else = g (TypeName at x) at x (a_name_of_a_type at x) })
   Looks-named n p q f g (Keyword at x) = inl (λ ts us. refl)
   Looks-named n p q f g (Constant at x unsigned) = inl (λ ts us. refl)
   Looks-named n p q f g (Text at x) = inl (λ ts us. refl)
   Looks-named n p q f g (Punctuator at x) = inl (λ ts us. refl)
+
+  -- what goes on behind a name stops behind it
+  fewer_behind : {A : Type 0} (f : ℕ × List ℕ → Parse A) → ((x : ℕ × List ℕ) → Local 0 (f x)) → Fewer (λ ts. read_on (expect_name Any ts) f)
+  fewer_behind f good t at x is us = rw (finds_name is us) (omega (arith, (good (at, x)).shrinks us))
 
   abbrev other_external : ℕ → Terminal → Parse (DeclTree × ℕ)
   other_external start t ts = read_on (outer_type (t ∷ ts)) (typed k start)
@@ -273,58 +286,153 @@ module _ (k : ℕ) where
   Local-behind_tag : (at : ℕ) (x : List ℕ) → Local 0 (λ us. read_on (read_on (Ok (bases.Struct x, us)) (λ b us. Ok (b, skip_consts us))) (typed k at))
   Local-behind_tag at x = Local-read_on (typed k at) (λ b. Local-typed at b) (λ us. read_on (Ok (bases.Struct x, us)) (λ b us. Ok (b, skip_consts us))) (Local-read_on _ (λ b. Local-skip b) (λ us. Ok (bases.Struct x, us)) (Local-ok (bases.Struct x)))
 
-  struct_fewer : (at n : ℕ) (x : List ℕ) (us : List Terminal) → left (struct_of k at (Name n x ∷ us)) ≤ length us
-  struct_fewer at n x us = omega (arith, (Local-behind_struct at (n, x)).shrinks us)
+  struct_fewer : (at : ℕ) → Fewer (struct_of k at)
+  struct_fewer at = fewer_behind (behind_struct at) (Local-behind_struct at)
 
-  forward_fewer : (at n : ℕ) (x : List ℕ) (us : List Terminal) → left (forward_of at (Name n x ∷ us)) ≤ length us
-  forward_fewer at n x us = omega (arith, (Local-behind_forward at x).shrinks us)
+  forward_fewer : (at : ℕ) → Fewer (forward_of at)
+  forward_fewer at = fewer_behind _ (λ x. Local-behind_forward at x.1)
 
-  type_fewer : (at n : ℕ) (x : List ℕ) (us : List Terminal) → left (struct_type at (Name n x ∷ us)) ≤ length us
-  type_fewer at n x us = omega (arith, (Local-behind_tag at x).shrinks us)
+  type_fewer : (at : ℕ) → Fewer (struct_type at)
+  type_fewer at t n x is us = rw (finds_name is us) (omega (arith, (Local-behind_tag at x).shrinks us))
 
   abbrev forward_or_type : (at : ℕ) → Parse (DeclTree × ℕ)
-  forward_or_type at ts = cond (is_named punctuators.Semicolon ts) (forward_of at ts) (struct_type at ts)
+  forward_or_type at ts = cond (is_named Any punctuators.Semicolon ts) (forward_of at ts) (struct_type at ts)
 
   Local-forward_or_type : (at : ℕ) → Local 0 (forward_or_type at)
-  Local-forward_or_type at = Local-two (is_named punctuators.Semicolon) (forward_of at) (struct_type at) (Local-forward at) (Local-struct_type at) (Looks-named punctuators.Semicolon (forward_of at) (struct_type at) (forward_fewer at) (type_fewer at))
+  Local-forward_or_type at = Local-two (is_named Any punctuators.Semicolon) (forward_of at) (struct_type at) (Local-forward at) (Local-struct_type at) (Looks-named punctuators.Semicolon (forward_of at) (struct_type at) (forward_fewer at) (type_fewer at))
 
-  Local-behind_keyword : (at : ℕ) → Local 0 (λ ts. cond (is_named punctuators.OpenBrace ts) (struct_of k at ts) (forward_or_type at ts))
+  Local-behind_keyword : (at : ℕ) → Local 0 (λ ts. cond (is_named Any punctuators.OpenBrace ts) (struct_of k at ts) (forward_or_type at ts))
   Local-behind_keyword at =
-      Local-two (is_named punctuators.OpenBrace) (struct_of k at) (forward_or_type at) (Local-struct at) (Local-forward_or_type at)
-      (Looks-named punctuators.OpenBrace (struct_of k at) (forward_or_type at) (struct_fewer at) (λ n x us. cond-left (starts punctuators.Semicolon us) (forward_of at (Name n x ∷ us)) (struct_type at (Name n x ∷ us)) (length us) (forward_fewer at n x us) (type_fewer at n x us)))
+      Local-two (is_named Any punctuators.OpenBrace) (struct_of k at) (forward_or_type at) (Local-struct at) (Local-forward_or_type at)
+      (Looks-named punctuators.OpenBrace (struct_of k at) (forward_or_type at) (struct_fewer at) (λ t n x is us. cond-left (is_named Any punctuators.Semicolon (t ∷ us)) (forward_of at (t ∷ us)) (struct_type at (t ∷ us)) (length us) (forward_fewer at t n x is us) (type_fewer at t n x is us)))
 
-  external_struct : (at : ℕ) → Local 1 (λ ts. external k (Keyword at keywords.Struct ∷ ts))
-  unfolding external outer_type
-  external_struct at = Local-weak _ (Local-behind_keyword at)
+  plain_struct : (at : ℕ) → Local 1 (λ ts. plain k (Keyword at keywords.Struct ∷ ts))
+  unfolding plain outer_type
+  plain_struct at = Local-weak _ (Local-behind_keyword at)
 
-  external_other : (t : Terminal) → is_keyword keywords.Struct t ≡ false → Local 1 (λ ts. external k (t ∷ ts))
-  unfolding external
-  external_other t e = Local-same (λ ts. other_external (number_of t) t ts) (λ ts. external k (t ∷ ts)) (λ ts. rw e refl) (Local-cons (λ us. read_on (outer_type us) (typed k (number_of t))) t (Local-read_on _ (λ b. Local-typed (number_of t) b) outer_type Local-outer_type))
+  plain_other : (t : Terminal) → is_keyword keywords.Struct t ≡ false → Local 1 (λ ts. plain k (t ∷ ts))
+  unfolding plain
+  plain_other t e = Local-same (λ ts. other_external (number_of t) t ts) (λ ts. plain k (t ∷ ts)) (λ ts. rw e refl) (Local-cons (λ us. read_on (outer_type us) (typed k (number_of t))) t (Local-read_on _ (λ b. Local-typed (number_of t) b) outer_type Local-outer_type))
 
-  external_nothing : external k [] ≡ unexpected []
-  unfolding external
-  external_nothing = refl
+  plain_nothing : plain k [] ≡ unexpected []
+  unfolding plain
+  plain_nothing = refl
 
-  pub Local-external : Local 0 (external k)
-  Local-external = Local-look (external k) (ap left external_nothing) (λ t. by_case t (is_keyword keywords.Struct t) refl)
+  pub Local-plain_external : Local 0 (plain k)
+  Local-plain_external = Local-look (plain k) (ap left plain_nothing) (λ t. by_case t (is_keyword keywords.Struct t) refl)
     where
-      by_case : (t : Terminal) (b : Bool) → is_keyword keywords.Struct t ≡ b → Local 1 (λ ts. external k (t ∷ ts))
-      by_case t true e = subst (λ u. Local 1 (λ ts. external k (u ∷ ts))) (sym (keyword_is keywords.Struct t e)) (external_struct (number_of t))
-      by_case t false e = external_other t e
+      by_case : (t : Terminal) (b : Bool) → is_keyword keywords.Struct t ≡ b → Local 1 (λ ts. plain k (t ∷ ts))
+      by_case t true e = subst (λ u. Local 1 (λ ts. plain k (u ∷ ts))) (sym (keyword_is keywords.Struct t e)) (plain_struct (number_of t))
+      by_case t false e = plain_other t e
 
-  abbrev externals_turn : (List DeclTree × ℕ → Parse (List DeclTree × ℕ)) → List DeclTree × ℕ → Parse (List DeclTree × ℕ)
-  externals_turn f x ts = read_on (external k ts) (λ d us. cond (is_empty us) (Ok ((x.0 ++ d.0 ∷ [], max x.1 d.1), us)) (f (x.0 ++ d.0 ∷ [], max x.1 d.1) us))
+  -- ---- what a typedef gives names to
 
-  externals_turns : Turns (λ n x. externals k n x.0 x.1) externals_turn
+  Local-braced : (at : ℕ) (x : Option (List ℕ)) → Local 0 (braced k at x)
+  Local-braced at x = Local-punctuator punctuators.OpenBrace _ (λ _. Local-read_on _ (λ ms. Local-ok _) (λ us. groups k (length us) [] 0 us) (Local-groups k))
+
+  abbrev tag_and_braces : (at : ℕ) → Parse (DefinedTree × ℕ)
+  tag_and_braces at ts = read_on (expect_name Any ts) (λ x us. braced k at (Some x.1) us)
+
+  Local-tag_and_braces : (at : ℕ) → Local 0 (tag_and_braces at)
+  Local-tag_and_braces at = Local-name Any (λ x us. braced k at (Some x.1) us) (λ x. Local-braced at (Some x.1))
+
+  Local-struct_defined : (at : ℕ) → Local 0 (struct_defined k at)
+  Local-struct_defined at = Local-starts punctuators.OpenBrace (braced k at None) (tag_and_braces at) (Local-braced at None) (Local-tag_and_braces at)
+
+  abbrev struct_known : Parse (DefinedTree × ℕ)
+  struct_known ts = read_on (read_on (tagged ts) (λ b us. Ok (b, skip_consts us))) (λ b us. Ok ((of_base b, 0), us))
+
+  Local-struct_known : Local 0 struct_known
+  Local-struct_known = Local-read_on _ (λ b. Local-ok (of_base b, 0)) (λ ts. read_on (tagged ts) (λ b us. Ok (b, skip_consts us))) (Local-read_on _ (λ b. Local-skip b) tagged Local-tagged)
+
+  -- a struct's name, behind it
+  Local-named_known : (x : List ℕ) → Local {A = DefinedTree × ℕ} 0 (λ us. read_on (read_on (Ok (bases.Struct x, us)) (λ b us. Ok (b, skip_consts us))) (λ b us. Ok ((of_base b, 0), us)))
+  Local-named_known x = Local-read_on _ (λ b. Local-ok (of_base b, 0)) (λ us. read_on (Ok (bases.Struct x, us)) (λ b us. Ok (b, skip_consts us))) (Local-read_on _ (λ b. Local-skip b) (λ us. Ok (bases.Struct x, us)) (Local-ok (bases.Struct x)))
+
+  known_fewer : Fewer struct_known
+  known_fewer t n x is us = rw (finds_name is us) (omega (arith, (Local-named_known x).shrinks us))
+
+  Looks-members : (at : ℕ) (t : Terminal) → Looks has_members (struct_defined k at) struct_known t
+  Looks-members at (Name n x) = inr (record { same = λ u ts us. refl; passed = λ us. omega (arith, (Local-braced at (Some x)).shrinks us); passed_else = known_fewer (Name n x) n x (a_plain_name n x) })
+  Looks-members at (TypeName n x) = inr (record { same = λ u ts us. refl; passed = λ us. omega (arith, (Local-braced at (Some x)).shrinks us); passed_else = known_fewer (TypeName n x) n x (a_name_of_a_type n x) })
+  Looks-members at (Keyword n x) = inl (λ ts us. refl)
+  Looks-members at (Constant n x unsigned) = inl (λ ts us. refl)
+  Looks-members at (Text n x) = inl (λ ts us. refl)
+  Looks-members at (Punctuator n x) = inl (λ ts us. refl)
+
+  defined_struct : (at : ℕ) → Local 1 (λ ts. defined k (Keyword at keywords.Struct ∷ ts))
+  unfolding defined type
+  defined_struct at = Local-weak _ (Local-two has_members (struct_defined k at) struct_known (Local-struct_defined at) Local-struct_known (Looks-members at))
+
+  defined_other : (t : Terminal) → is_keyword keywords.Struct t ≡ false → Local 1 (λ ts. defined k (t ∷ ts))
+  unfolding defined
+  defined_other t e = Local-same (λ ts. known_type (t ∷ ts)) (λ ts. defined k (t ∷ ts)) (λ ts. rw e refl) (Local-cons known_type t (Local-read_on _ (λ b. Local-ok (of_base b, 0)) type Local-type))
+
+  defined_nothing : defined k [] ≡ unexpected []
+  unfolding defined
+  defined_nothing = refl
+
+  Local-defined : Local 0 (defined k)
+  Local-defined = Local-look (defined k) (ap left defined_nothing) (λ t. by_case t (is_keyword keywords.Struct t) refl)
+    where
+      by_case : (t : Terminal) (b : Bool) → is_keyword keywords.Struct t ≡ b → Local 1 (λ ts. defined k (t ∷ ts))
+      by_case t true e = subst (λ u. Local 1 (λ ts. defined k (u ∷ ts))) (sym (keyword_is keywords.Struct t e)) (defined_struct (number_of t))
+      by_case t false e = defined_other t e
+
+  -- ---- externals
+
+  abbrev TypeNames : Type 0
+  TypeNames = NameSet × List DeclaratorTree × ℕ
+
+  abbrev names_turn : (TypeNames → Parse (List DeclaratorTree × ℕ)) → TypeNames → Parse (List DeclaratorTree × ℕ)
+  names_turn f x ts =
+      read_on (in_marks x.0 (declarator Any (k + 1)) ts) (λ d us. cond (starts punctuators.Semicolon us) (read_on (expect punctuators.Semicolon us) (λ _ vs. Ok ((x.1 ++ d.0 ∷ [], max x.2 (d.1 + 1)), vs)))
+      (read_on (expect punctuators.Comma us) (λ _ vs. f (d.0.name ∷ x.0, x.1 ++ d.0 ∷ [], max x.2 (d.1 + 1)) vs)))
+
+  Local-type_name : (set : NameSet) → Local 0 (in_marks set (declarator Any (k + 1)))
+  Local-type_name set = Local-marks set (declarator Any (k + 1)) (Local-declarator Any (k + 1))
+
+  names_turns : Turns (λ n (x : TypeNames). type_names (k + 1) x.0 n x.1 x.2) names_turn
+  unfolding type_names
+  names_turns = record {
+    turn = λ n x ts. refl;
+    none = λ x. read_on_nothing _ (read_on_nothing _ (declarator_nothing Any (k + 1)));
+    takes = λ f g x ts same. read_on_same (in_marks x.0 (declarator Any (k + 1)) ts) _ _
+        (λ d us read. after_same punctuators.Semicolon punctuators.Comma (x.1 ++ d.0 ∷ [], max x.2 (d.1 + 1)) (f (d.0.name ∷ x.0, x.1 ++ d.0 ∷ [], max x.2 (d.1 + 1))) (g (d.0.name ∷ x.0, x.1 ++ d.0 ∷ [], max x.2 (d.1 + 1))) us
+        (λ vs lt. same _ vs (let less = leaves_less (in_marks x.0 (declarator Any (k + 1))) (Local-type_name x.0) ts d us read in omega arith)));
+    last = λ x. Local-unexpected-all;
+    further = λ f local x. Local-read_on _ (λ d. Local-after punctuators.Semicolon punctuators.Comma _ _ (local (d.0.name ∷ x.0, x.1 ++ d.0 ∷ [], max x.2 (d.1 + 1)))) (in_marks x.0 (declarator Any (k + 1))) (Local-type_name x.0);
+  }
+
+  Local-typedef : (set : NameSet) → Local 0 (typedef_of k set)
+  Local-typedef set =
+      Local-read_on _ (λ t. Local-read_on _ (λ ds. Local-ok _) (λ us. type_names (k + 1) set (length us) [] 0 us) (Local-turns _ _ names_turns (set, [], 0))) (in_marks set (defined k)) (Local-marks set (defined k) Local-defined)
+
+  external_nothing : (set : NameSet) → external k set [] ≡ unexpected []
+  unfolding external
+  external_nothing set = refl
+
+  Local-external : (set : NameSet) → Local 0 (external k set)
+  unfolding external
+  Local-external set = Local-look (external k set) refl
+      (λ t. Local-cond (is_keyword keywords.Typedef t) (typedef_of k set) (λ ts. in_marks set (plain k) (t ∷ ts)) (Local-weak _ (Local-typedef set)) (Local-cons _ t (Local-marks set (plain k) Local-plain_external)))
+
+  abbrev Externals : Type 0
+  Externals = NameSet × List DeclTree × ℕ
+
+  abbrev externals_turn : (Externals → Parse (List DeclTree × ℕ)) → Externals → Parse (List DeclTree × ℕ)
+  externals_turn f x ts = read_on (external k x.0 ts) (λ d us. cond (is_empty us) (Ok ((x.1 ++ d.0 ∷ [], max x.2 d.1), us)) (f (names_behind x.0 d.0, x.1 ++ d.0 ∷ [], max x.2 d.1) us))
+
+  externals_turns : Turns (λ n (x : Externals). externals k x.0 n x.1 x.2) externals_turn
   unfolding externals
   externals_turns = record {
     turn = λ n x ts. refl;
-    none = λ x. read_on_nothing _ external_nothing;
-    takes = λ f g x ts same. read_on_same (external k ts) _ _ (λ d us read. cond_same (is_empty us) refl (same _ us (sound_takes ts (external k ts) (sound_external k ts) (λ x l r. external_takes r.0) d us read)));
+    none = λ x. read_on_nothing _ (external_nothing x.0);
+    takes = λ f g x ts same. read_on_same (external k x.0 ts) _ _ (λ d us read. cond_same (is_empty us) refl (same _ us (sound_takes ts (external k x.0 ts) (sound_external k x.0 ts) (λ x l r. external_takes r.0) d us read)));
     last = λ x. Local-unexpected-all;
-    further = λ f local x. Local-read_on _ (λ d. Local-if is_empty (λ t ts us. refl) _ _ (Local-ok _) (local _)) (external k) Local-external;
+    further = λ f local x. Local-read_on _ (λ d. Local-if is_empty (λ t ts us. refl) _ _ (Local-ok _) (local _)) (external k x.0) (Local-external x.0);
   }
 
   pub Local-unit : Local 0 (unit k)
   unfolding unit
-  Local-unit = Local-turns _ _ externals_turns ([], 0)
+  Local-unit = Local-turns _ _ externals_turns ([], [], 0)

@@ -1,5 +1,5 @@
 -- With more room a statement or a unit is answered in the same way, but for what was too deep.
-use Rattle.std.proofs.Common.{◌≡◌, ℕ, zero, suc, ◌+◌, ◌≤◌, Bool, true, false, cond, List, [], ◌∷◌, ◌++◌, length, refl, arith, Err}
+use Rattle.std.proofs.Common.{◌≡◌, ℕ, zero, suc, ◌+◌, ◌≤◌, Bool, true, false, cond, List, [], ◌∷◌, ◌++◌, length, refl, arith, Err, None, Some, Option}
 use Rattle.std.specs.Prelude.{max, ◌&&◌}
 use Rattle.std.proofs.lemmas.Bool.{or_parts}
 use Rattle.qs_syntax_vocabulary.specs.declared.terminal.Terminal.{Terminal}
@@ -7,15 +7,19 @@ use Rattle.qs_base.specs.declared.keyword.Keyword.TheVariants as keywords
 use Rattle.qs_syntax_vocabulary.specs.declared.punctuator.Punctuator as punctuator
 use Rattle.qs_syntax_vocabulary.specs.declared.punctuator.Punctuator.TheVariants as punctuators
 use Rattle.qs_syntax.specs.declared.types.Base.{Base}
-use Rattle.qs_syntax.specs.Trees.{StmtTree, ParameterTree, DeclTree}
+use Rattle.qs_syntax.specs.Trees.{StmtTree, ParameterTree, DeclTree, DeclaratorTree}
 use Rattle.qs_syntax.specs.Reads.{Expression, place}
 use Rattle.qs_parser_grammar.specs.Heads.{is_punctuator, is_keyword, starts, starts_with, begins_type}
 use Rattle.qs_parser_grammar.specs.Parse.{Parse, Unexpected, E, unexpected, deep, expect, expect_name, stars, begins_one}
-use Rattle.qs_parser_grammar.specs.ParseDeclarations.{outer_type}
-use Rattle.qs_parser_grammar.specs.ParseStatements.{S, optional, condition, start_of, begins_statement, item, items, after_then, after_if, after_while, expect_while, after_do, after_for, plain_statement, keyword_statement, statement_at, statement, is_named, struct_of, body_of, function_of, typed, external, is_empty, externals, unit}
+use Rattle.qs_parser_grammar.specs.ParseDeclarations.{outer_type, declarator}
+use Rattle.qs_parser_grammar.specs.ParseStatements.{S, optional, condition, start_of, begins_statement, item, items, after_then, after_if, after_while, expect_while, after_do, after_for, plain_statement, keyword_statement, statement_at, statement, is_named, struct_of, body_of, function_of, typed, external, is_empty, externals, unit, braced, has_members, type_names, typedef_of, plain, defined}
 use Rattle.qs_parser_grammar.proofs.MoreRoom.{DeepOrSame, DeepOrSame-refl, DeepOrSame-deep, DeepOrSame-read_on, DeepOrSame-then, DeepOrSame-last, DeepOrSame-some, DeepOrSame-cond, DeepOrSame-unexpected}
 use Rattle.qs_parser_grammar.proofs.ExpressionsMoreRoom.{not_begun, more_room_part}
-use Rattle.qs_parser_grammar.proofs.DeclarationsMoreRoom.{more_room_declared, more_room_declaration_within, more_room_groups, more_room_head}
+use Rattle.qs_parser_grammar.proofs.DeclarationsMoreRoom.{more_room_declared, more_room_declaration_within, more_room_groups, more_room_head, more_room_declarator}
+use Rattle.qs_syntax.specs.ReadsTypes.{Any, Plain}
+use Rattle.qs_syntax.specs.ReadsUnits.{names_behind}
+use Rattle.qs_syntax_vocabulary.specs.Marks.{NameSet, marked}
+use Rattle.qs_parser_grammar.proofs.MarkLaws.{DeepOrSame-marks}
 
 module _ (m n : ℕ) (le : m ≤ n) where
   more_room_optional : (k : punctuator.Punctuator) (ts : List Terminal) → DeepOrSame (optional m k ts) (optional n k ts)
@@ -107,33 +111,59 @@ more_room_statement (suc m) (suc n) le ts = more_room_at m n (omega arith) (stat
 
 module _ (k l : ℕ) (le : k ≤ l) where
   more_room_struct : (at : ℕ) (ts : List Terminal) → DeepOrSame (struct_of k at ts) (struct_of l at ts)
-  more_room_struct at ts = DeepOrSame-then (expect_name ts) _ _ (λ x us. DeepOrSame-then (expect punctuators.OpenBrace us) _ _ (λ _ vs. DeepOrSame-last _ (more_room_groups k l le (length vs) [] 0 vs)))
+  more_room_struct at ts = DeepOrSame-then (expect_name Any ts) _ _ (λ x us. DeepOrSame-then (expect punctuators.OpenBrace us) _ _ (λ _ vs. DeepOrSame-last _ (more_room_groups k l le (length vs) [] 0 vs)))
 
   more_room_body : (start : ℕ) (b : Base) (n : ℕ) (x : List ℕ) (ps : List ParameterTree × ℕ) (ts : List Terminal) → DeepOrSame (body_of k start b n x ps ts) (body_of l start b n x ps ts)
   more_room_body start b n x ps ts =
       DeepOrSame-cond (starts punctuators.Semicolon ts) DeepOrSame-refl (DeepOrSame-then (expect punctuators.OpenBrace ts) _ _ (λ _ us. DeepOrSame-last _ (more_room_items k l le (statement k) (statement l) (λ vs. more_room_statement k l le vs) (length us) [] 0 us)))
 
   more_room_function : (start : ℕ) (b : Base) (n : ℕ) (ts : List Terminal) → DeepOrSame (function_of k start b n ts) (function_of l start b n ts)
-  more_room_function start b n ts = DeepOrSame-then (expect_name ts) _ _ (λ x us. DeepOrSame-then (expect punctuators.OpenParenthesis us) _ _ (λ _ vs. DeepOrSame-read_on _ _ (more_room_head k l le vs) (λ ps ws. more_room_body start b n x.1 ps ws)))
+  more_room_function start b n ts = DeepOrSame-then (expect_name Plain ts) _ _ (λ x us. DeepOrSame-then (expect punctuators.OpenParenthesis us) _ _ (λ _ vs. DeepOrSame-read_on _ _ (more_room_head k l le vs) (λ ps ws. more_room_body start b n x.1 ps ws)))
 
   more_room_typed : (start : ℕ) (b : Base) (ts : List Terminal) → DeepOrSame (typed k start b ts) (typed l start b ts)
-  more_room_typed start b ts = DeepOrSame-cond (is_named punctuators.OpenParenthesis (stars ts).1) (more_room_function start b (stars ts).0 (stars ts).1) (DeepOrSame-last _ (more_room_declared (k + 1) (l + 1) (omega arith) b ts))
+  more_room_typed start b ts = DeepOrSame-cond (is_named Plain punctuators.OpenParenthesis (stars ts).1) (more_room_function start b (stars ts).0 (stars ts).1) (DeepOrSame-last _ (more_room_declared (k + 1) (l + 1) (omega arith) b ts))
 
-  more_room_external : (ts : List Terminal) → DeepOrSame (external k ts) (external l ts)
+  more_room_plain_external : (ts : List Terminal) → DeepOrSame (plain k ts) (plain l ts)
+  unfolding plain
+  more_room_plain_external [] = DeepOrSame-refl
+  more_room_plain_external (t ∷ ts) =
+      DeepOrSame-cond (is_keyword keywords.Struct t && is_named Any punctuators.OpenBrace ts) (more_room_struct (place (t ∷ ts)) ts)
+      (DeepOrSame-cond (is_keyword keywords.Struct t && is_named Any punctuators.Semicolon ts) DeepOrSame-refl (DeepOrSame-then (outer_type (t ∷ ts)) _ _ (λ b us. more_room_typed (place (t ∷ ts)) b us)))
+
+  more_room_braced : (at : ℕ) (x : Option (List ℕ)) (ts : List Terminal) → DeepOrSame (braced k at x ts) (braced l at x ts)
+  more_room_braced at x ts = DeepOrSame-then (expect punctuators.OpenBrace ts) _ _ (λ _ us. DeepOrSame-last _ (more_room_groups k l le (length us) [] 0 us))
+
+  more_room_defined : (ts : List Terminal) → DeepOrSame (defined k ts) (defined l ts)
+  unfolding defined
+  more_room_defined [] = DeepOrSame-refl
+  more_room_defined (t ∷ ts) =
+      DeepOrSame-cond (is_keyword keywords.Struct t && has_members ts)
+      (DeepOrSame-cond (starts punctuators.OpenBrace ts) (more_room_braced (place (t ∷ ts)) None ts) (DeepOrSame-then (expect_name Any ts) _ _ (λ x us. more_room_braced (place (t ∷ ts)) (Some x.1) us))) DeepOrSame-refl
+
+  more_room_type_names : (m o : ℕ) → m ≤ o → (set : NameSet) (n : ℕ) (done : List DeclaratorTree) (h : ℕ) (ts : List Terminal) → DeepOrSame (type_names m set n done h ts) (type_names o set n done h ts)
+  unfolding type_names
+  more_room_type_names m o low set zero done h ts = DeepOrSame-refl
+  more_room_type_names m o low set (suc n) done h ts =
+      DeepOrSame-read_on _ _ (DeepOrSame-marks set (declarator Any m) (declarator Any o) ts (more_room_declarator m o low Any (marked set ts)))
+      (λ d us. DeepOrSame-cond (starts punctuators.Semicolon us) DeepOrSame-refl (DeepOrSame-then (expect punctuators.Comma us) _ _ (λ _ vs. more_room_type_names m o low (d.0.name ∷ set) n (done ++ d.0 ∷ []) (max h (d.1 + 1)) vs)))
+
+  more_room_typedef : (set : NameSet) (ts : List Terminal) → DeepOrSame (typedef_of k set ts) (typedef_of l set ts)
+  more_room_typedef set ts =
+      DeepOrSame-read_on _ _ (DeepOrSame-marks set (defined k) (defined l) ts (more_room_defined (marked set ts))) (λ t us. DeepOrSame-last _ (more_room_type_names (k + 1) (l + 1) (omega arith) set (length us) [] 0 us))
+
+  more_room_external : (set : NameSet) (ts : List Terminal) → DeepOrSame (external k set ts) (external l set ts)
   unfolding external
-  more_room_external [] = DeepOrSame-refl
-  more_room_external (t ∷ ts) =
-      DeepOrSame-cond (is_keyword keywords.Struct t && is_named punctuators.OpenBrace ts) (more_room_struct (place (t ∷ ts)) ts)
-      (DeepOrSame-cond (is_keyword keywords.Struct t && is_named punctuators.Semicolon ts) DeepOrSame-refl (DeepOrSame-then (outer_type (t ∷ ts)) _ _ (λ b us. more_room_typed (place (t ∷ ts)) b us)))
+  more_room_external set [] = DeepOrSame-refl
+  more_room_external set (t ∷ ts) = DeepOrSame-cond (is_keyword keywords.Typedef t) (more_room_typedef set ts) (DeepOrSame-marks set (plain k) (plain l) (t ∷ ts) (more_room_plain_external (marked set (t ∷ ts))))
 
-  more_room_externals : (n : ℕ) (done : List DeclTree) (h : ℕ) (ts : List Terminal) → DeepOrSame (externals k n done h ts) (externals l n done h ts)
+  more_room_externals : (set : NameSet) (n : ℕ) (done : List DeclTree) (h : ℕ) (ts : List Terminal) → DeepOrSame (externals k set n done h ts) (externals l set n done h ts)
   unfolding externals
-  more_room_externals zero done h ts = DeepOrSame-refl
-  more_room_externals (suc n) done h ts = DeepOrSame-read_on _ _ (more_room_external ts) (λ d us. DeepOrSame-cond (is_empty us) DeepOrSame-refl (more_room_externals n (done ++ d.0 ∷ []) (max h d.1) us))
+  more_room_externals set zero done h ts = DeepOrSame-refl
+  more_room_externals set (suc n) done h ts = DeepOrSame-read_on _ _ (more_room_external set ts) (λ d us. DeepOrSame-cond (is_empty us) DeepOrSame-refl (more_room_externals (names_behind set d.0) n (done ++ d.0 ∷ []) (max h d.1) us))
 
   pub more_room_unit : (ts : List Terminal) → DeepOrSame (unit k ts) (unit l ts)
   unfolding unit
-  more_room_unit ts = more_room_externals (length ts) [] 0 ts
+  more_room_unit ts = more_room_externals [] (length ts) [] 0 ts
 
 -- what is unexpected is so with more room too
 pub unexpected_in_all : (k l : ℕ) → k ≤ l → (ts : List Terminal) (n : ℕ) → unit k ts ≡ Err (Unexpected n) → unit l ts ≡ Err (Unexpected n)

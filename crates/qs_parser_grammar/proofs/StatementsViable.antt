@@ -23,7 +23,7 @@ use Rattle.qs_parser_grammar.proofs.ExpressionsSound.{sound_part}
 use Rattle.qs_parser_grammar.proofs.StatementsSound.{NoElse, Takes, takes_statement, IsOptional, sound_optional, IsCondition, sound_condition, sound_start, IsStatement, if_read, else_read, while_read, do_read, for_read, return_read, sound_item, taken_there, sound_statement}
 use Rattle.qs_parser_grammar.proofs.ExpressionsViable.{Has, number, one, one_begun, viable_part}
 use Rattle.qs_parser_grammar.proofs.DeclarationsViable.{a_punctuator, viable_declaration_within}
-use Rattle.qs_parser_grammar.proofs.Viable.{Claims, OfFronts, behind_token, behind, Both, under, Viable, Viable-ok, Viable-unexpected, Viable-deep, Viable-token, Viable-if, Viable-read_on, Viable-read_on-is, Viable-done, here, Viable-is_punctuator, Viable-keyword, Viable-punctuator, Viable-some}
+use Rattle.qs_parser_grammar.proofs.Viable.{Claims, OfFronts, behind_token, behind, Both, under, Viable, Viable-ok, Viable-unexpected, Viable-deep, Viable-token, Viable-if, Viable-read_on, Viable-read_on-is, Viable-done, here, Viable-is_punctuator, Viable-keyword, Viable-punctuator, Viable-some, is_plain, plain_both}
 
 -- ---- parts of statements
 
@@ -47,13 +47,13 @@ option_fits m k e xs (inside, at, is, r, low) = low
 
 viable_optional : (m : ℕ) (k : punctuator.Punctuator) (Q : Claims) → OfFronts Q → ((h : ℕ) (xs : List Terminal) → IsOption k h xs → Both Q m h xs) → (ts : List Terminal) → Viable Q ts (optional m k ts)
 viable_optional m k Q c w ts =
-    let low : Q true [] = c.front true [] (a_punctuator k ∷ []) ((w 0 _ (an_option k 0)).1 (omega arith)) in
+    let low : Q true [] = c.front true [] (a_punctuator k ∷ []) ((w 0 _ (an_option k 0)).1 (omega arith)) refl in
     Viable-if (starts k ts)
     (λ _. Viable-punctuator k ts _ low (λ at us. Viable-ok))
     (λ _. Viable-read_on _ (sound_part m Expression ts) (viable_part m Expression refl Q c begun low ts) (λ e front us r. Viable-punctuator k us _ (here Q front ((begun e.1 front (e.0, r.0)).1 r.1)) (λ at vs. Viable-ok)))
   where
     begun : (h : ℕ) (xs : List Terminal) → Has Expression h xs → Both Q m h xs
-    begun h xs s = under c xs (a_punctuator k ∷ []) m h (w h _ (some_option k h xs s)) m h (λ le. le)
+    begun h xs s = under c xs (a_punctuator k ∷ []) refl m h (w h _ (some_option k h xs s)) m h (λ le. le)
 
 abbrev IsTest : ℕ → List Terminal → Type 0
 IsTest h xs = (e : ExprTree) × IsCondition h (e, h) xs
@@ -76,13 +76,13 @@ test_fits m e xs (inside, o, k, is, r, low) = low
 
 viable_condition : (m : ℕ) (Q : Claims) → OfFronts Q → ((h : ℕ) (xs : List Terminal) → IsTest h xs → Both Q m h xs) → 0 < m → (ts : List Terminal) → Viable Q ts (condition m ts)
 viable_condition m Q c w some ts =
-    Viable-punctuator punctuators.OpenParenthesis ts _ (c.front true [] _ ((w 1 _ one_test).1 (omega arith)))
+    Viable-punctuator punctuators.OpenParenthesis ts _ (c.front true [] _ ((w 1 _ one_test).1 (omega arith)) refl)
     (λ o us. Viable-read_on _ (sound_part m Expression us)
-    (viable_part m Expression refl _ (behind_token (Punctuator o punctuators.OpenParenthesis) c) (begun o) (c.front true (Punctuator o punctuators.OpenParenthesis ∷ []) number ((begun o 1 number (one Expression refl)).1 (omega arith))) us)
+    (viable_part m Expression refl _ (behind_token (Punctuator o punctuators.OpenParenthesis) c) (begun o) (c.front true (Punctuator o punctuators.OpenParenthesis ∷ []) number ((begun o 1 number (one Expression refl)).1 (omega arith)) refl) us)
     (λ e front vs r. Viable-punctuator punctuators.CloseParenthesis vs _ (here (λ b l. Q b (Punctuator o punctuators.OpenParenthesis ∷ l)) front ((begun o e.1 front (e.0, r.0)).1 r.1)) (λ at ws. Viable-ok)))
   where
     begun : (o h : ℕ) (xs : List Terminal) → Has Expression h xs → Both Q m h (Punctuator o punctuators.OpenParenthesis ∷ xs)
-    begun o h xs s = under c (Punctuator o punctuators.OpenParenthesis ∷ xs) (a_punctuator punctuators.CloseParenthesis ∷ []) m h (w h _ (a_test o h xs s)) m h (λ le. le)
+    begun o h xs s = under c (Punctuator o punctuators.OpenParenthesis ∷ xs) (a_punctuator punctuators.CloseParenthesis ∷ []) refl m h (w h _ (a_test o h xs s)) m h (λ le. le)
 
 abbrev IsBeginning : ℕ → List Terminal → Type 0
 IsBeginning h xs = (a : StartTree) × ReadsStart h xs a
@@ -98,10 +98,10 @@ viable_start m Q c w ts =
     (λ _. Viable-read_on _ (sound_part m Expression ts) (viable_part m Expression refl Q c begun low ts) (λ e front us r. Viable-punctuator punctuators.Semicolon us _ (here Q front ((begun e.1 front (e.0, r.0)).1 r.1)) (λ at vs. Viable-ok))))
   where
     low : Q true []
-    low = c.front true [] (a_punctuator punctuators.Semicolon ∷ []) ((w 0 _ (no_beginning 0)).1 (omega arith))
+    low = c.front true [] (a_punctuator punctuators.Semicolon ∷ []) ((w 0 _ (no_beginning 0)).1 (omega arith)) refl
 
     begun : (h : ℕ) (xs : List Terminal) → Has Expression h xs → Both Q m h xs
-    begun h xs s = under c xs (a_punctuator punctuators.Semicolon ∷ []) m h (w h _ (_, a_start_expression 0 s.1)) m h (λ le. le)
+    begun h xs s = under c xs (a_punctuator punctuators.Semicolon ∷ []) refl m h (w h _ (_, a_start_expression 0 s.1)) m h (λ le. le)
 
     declared_there : (ts : List Terminal) → begins_type ts ≡ true → Viable {A = StartTree × ℕ} Q ts (read_on (declaration_within m ts) (λ d us. Ok ((trees.start_declaration d.0, d.1), us)))
     declared_there [] e = absurd cc
@@ -158,9 +158,9 @@ module _ (m : ℕ) (inner : Parse S) (takes : (ts : List Terminal) → Takes (in
 
   pub viable_items : (n : ℕ) (done : List StmtTree) (h : ℕ) (Q : Claims) → OfFronts Q → ((h : ℕ) (xs : List Terminal) → AreStmts h xs → Both Q m h (xs ++ a_punctuator punctuators.CloseBrace ∷ [])) → (ts : List Terminal) → Viable Q ts (items m inner n done h ts)
   unfolding items
-  viable_items zero done h Q c w ts = Viable-unexpected (c.front true [] (a_punctuator punctuators.CloseBrace ∷ []) ((w 0 [] (_, no_item)).1 (omega arith)))
+  viable_items zero done h Q c w ts = Viable-unexpected (c.front true [] (a_punctuator punctuators.CloseBrace ∷ []) ((w 0 [] (_, no_item)).1 (omega arith)) refl)
   viable_items (suc n) done h Q c w ts =
-      let low : Q true [] = c.front true [] (a_punctuator punctuators.CloseBrace ∷ []) ((w 0 [] (_, no_item)).1 (omega arith)) in
+      let low : Q true [] = c.front true [] (a_punctuator punctuators.CloseBrace ∷ []) ((w 0 [] (_, no_item)).1 (omega arith)) refl in
       Viable-if (starts punctuators.CloseBrace ts)
       (λ _. Viable-punctuator punctuators.CloseBrace ts _ low (λ at us. Viable-ok))
       (λ _. Viable-read_on _ (sound_item m inner takes sound ts) (viable_item Q c begun low ts)
@@ -170,7 +170,7 @@ module _ (m : ℕ) (inner : Parse S) (takes : (ts : List Terminal) → Takes (in
       (subst (Q false) same both.0, λ le. subst (Q true) same (both.1 (omega arith)))) us))
     where
       begun : (h : ℕ) (xs : List Terminal) → IsOneItem h xs → Both Q m h xs
-      begun h xs s = under c xs (a_punctuator punctuators.CloseBrace ∷ []) m (max h 0) (subst (λ l. Both Q m (max h 0) l) (append_assoc xs [] (a_punctuator punctuators.CloseBrace ∷ [])) (w (max h 0) (xs ++ []) (_, an_item s.1 no_item))) m h (λ le. omega arith)
+      begun h xs s = under c xs (a_punctuator punctuators.CloseBrace ∷ []) refl m (max h 0) (subst (λ l. Both Q m (max h 0) l) (append_assoc xs [] (a_punctuator punctuators.CloseBrace ∷ [])) (w (max h 0) (xs ++ []) (_, an_item s.1 no_item))) m h (λ le. omega arith)
 
   module _ (Q : Claims) (c : OfFronts Q) (w : (h : ℕ) (xs : List Terminal) → IsStmt h xs → Both Q (suc m) h xs) where
     viable_block : (at : ℕ) (ts : List Terminal) → Viable (λ b l. Q b (Punctuator at punctuators.OpenBrace ∷ l)) ts (in_block m inner ts)
@@ -186,33 +186,33 @@ module _ (m : ℕ) (inner : Parse S) (takes : (ts : List Terminal) → Takes (in
           Viable-if (is_keyword keywords.Else u)
           (λ yes. let closed : is_open s.0 ≡ false = false_from_ne_true (is_open s.0) (λ o. true≢false (sym yes ∙ end o)) in
           let inside = behind_token (Keyword (number_of u) keywords.Else) (behind ys (behind cs (behind_token (Keyword at keywords.If) c))) in
-          Viable-keyword keywords.Else u yes (Viable-token (Viable-done _ (viable _ inside (begun (number_of u) closed) (inside.front true [] (a_punctuator punctuators.Semicolon ∷ []) ((begun (number_of u) closed 1 _ empty_one).1 (omega arith))) ts))))
+          Viable-keyword keywords.Else u yes (Viable-token (Viable-done _ (viable _ inside (begun (number_of u) closed) (inside.front true [] (a_punctuator punctuators.Semicolon ∷ []) ((begun (number_of u) closed 1 _ empty_one).1 (omega arith)) refl) ts))))
           (λ _. Viable-ok)
         where
           begun : (i : ℕ) → is_open s.0 ≡ false → (k : ℕ) (zs : List Terminal) → IsStmt k zs → Both Q m k (Keyword at keywords.If ∷ (cs ++ (ys ++ Keyword i keywords.Else ∷ zs)))
           begun i closed k zs z = let both = w _ _ (else_one at i e.1 s.1 k cs ys zs t (s.0, r) closed z) in (both.0, λ le. both.1 (omega arith))
 
       if_begun : (at g : ℕ) (cs : List Terminal) → IsTest g cs → Both Q m g (Keyword at keywords.If ∷ cs)
-      if_begun at g cs t = under c (Keyword at keywords.If ∷ cs) (a_punctuator punctuators.Semicolon ∷ []) (suc m) (max g 1 + 1) (w _ _ (if_one at g 1 cs _ t empty_one)) m g (λ le. omega arith)
+      if_begun at g cs t = under c (Keyword at keywords.If ∷ cs) (a_punctuator punctuators.Semicolon ∷ []) refl (suc m) (max g 1 + 1) (w _ _ (if_one at g 1 cs _ t empty_one)) m g (λ le. omega arith)
 
       viable_if : (at n : ℕ) (ts : List Terminal) → Viable (λ b l. Q b (Keyword at keywords.If ∷ l)) ts (after_if m inner n ts)
       viable_if at n ts =
           Viable-read_on _ (sound_condition m ts) (viable_condition m _ (behind_token (Keyword at keywords.If) c) (if_begun at) some ts)
           (λ e cs us r. let test : IsTest e.1 cs = lower_test m e cs r in let fits : e.1 ≤ m = test_fits m e cs r in let inside = behind cs (behind_token (Keyword at keywords.If) c) in
-          Viable-read_on-is _ (sound us) (viable _ inside (then_begun e cs test fits) (inside.front true [] (a_punctuator punctuators.Semicolon ∷ []) ((then_begun e cs test fits 1 _ empty_one).1 (omega arith))) us)
+          Viable-read_on-is _ (sound us) (viable _ inside (then_begun e cs test fits) (inside.front true [] (a_punctuator punctuators.Semicolon ∷ []) ((then_begun e cs test fits 1 _ empty_one).1 (omega arith)) refl) us)
           (λ s ys vs read split q. viable_after_then at n e s cs ys test fits q.0 q.1 vs (taken_there m inner takes sound us vs s read)))
         where
           then_begun : (e : E) (cs : List Terminal) → IsTest e.1 cs → e.1 ≤ m → (h : ℕ) (ys : List Terminal) → IsStmt h ys → Both Q m h (Keyword at keywords.If ∷ (cs ++ ys))
           then_begun e cs test fits h ys s = let both = w _ _ (if_one at e.1 h cs ys test s) in (both.0, λ le. both.1 (omega arith))
 
       while_begun : (at g : ℕ) (cs : List Terminal) → IsTest g cs → Both Q m g (Keyword at keywords.While ∷ cs)
-      while_begun at g cs t = under c (Keyword at keywords.While ∷ cs) (a_punctuator punctuators.Semicolon ∷ []) (suc m) (max g 1 + 1) (w _ _ (while_one at g 1 cs _ t empty_one)) m g (λ le. omega arith)
+      while_begun at g cs t = under c (Keyword at keywords.While ∷ cs) (a_punctuator punctuators.Semicolon ∷ []) refl (suc m) (max g 1 + 1) (w _ _ (while_one at g 1 cs _ t empty_one)) m g (λ le. omega arith)
 
       viable_while : (at n : ℕ) (ts : List Terminal) → Viable (λ b l. Q b (Keyword at keywords.While ∷ l)) ts (after_while m inner n ts)
       viable_while at n ts =
           Viable-read_on _ (sound_condition m ts) (viable_condition m _ (behind_token (Keyword at keywords.While) c) (while_begun at) some ts)
           (λ e cs us r. let test : IsTest e.1 cs = lower_test m e cs r in let fits : e.1 ≤ m = test_fits m e cs r in let inside = behind cs (behind_token (Keyword at keywords.While) c) in
-          Viable-done _ (viable _ inside (body_begun e cs test fits) (inside.front true [] (a_punctuator punctuators.Semicolon ∷ []) ((body_begun e cs test fits 1 _ empty_one).1 (omega arith))) us))
+          Viable-done _ (viable _ inside (body_begun e cs test fits) (inside.front true [] (a_punctuator punctuators.Semicolon ∷ []) ((body_begun e cs test fits 1 _ empty_one).1 (omega arith)) refl) us))
         where
           body_begun : (e : E) (cs : List Terminal) → IsTest e.1 cs → e.1 ≤ m → (h : ℕ) (ys : List Terminal) → IsStmt h ys → Both Q m h (Keyword at keywords.While ∷ (cs ++ ys))
           body_begun e cs test fits h ys s = let both = w _ _ (while_one at e.1 h cs ys test s) in (both.0, λ le. both.1 (omega arith))
@@ -225,10 +225,10 @@ module _ (m : ℕ) (inner : Parse S) (takes : (ts : List Terminal) → Takes (in
         doing = behind_token (Keyword at keywords.Do) c
 
         tested : (v h g : ℕ) (xs cs : List Terminal) → IsStmt h xs → h ≤ m → IsTest g cs → Both Doing m g (xs ++ Keyword v keywords.While ∷ cs)
-        tested v h g xs cs s fits t = under (behind xs doing) (Keyword v keywords.While ∷ cs) (a_punctuator punctuators.Semicolon ∷ []) (suc m) (max h g + 1) (w _ _ (do_one at v 0 h g xs cs s t)) m g (λ le. omega arith)
+        tested v h g xs cs s fits t = under (behind xs doing) (Keyword v keywords.While ∷ cs) (a_punctuator punctuators.Semicolon ∷ []) refl (suc m) (max h g + 1) (w _ _ (do_one at v 0 h g xs cs s t)) m g (λ le. omega arith)
 
         while_due : (h : ℕ) (xs : List Terminal) → IsStmt h xs → Both Doing m h xs
-        while_due h xs s = under doing xs _ (suc m) (max h 1 + 1) (w _ _ (do_one at 0 0 h 1 xs _ s one_test)) m h (λ le. omega arith)
+        while_due h xs s = under doing xs _ refl (suc m) (max h 1 + 1) (w _ _ (do_one at 0 0 h 1 xs _ s one_test)) m h (λ le. omega arith)
 
         viable_expect_while : {A : Type 0} (xs ts : List Terminal) (f : Unit {0} → Parse A) → Doing true xs → ((v : ℕ) (us : List Terminal) → Viable (λ b l. Doing b (xs ++ Keyword v keywords.While ∷ l)) us (f tt us)) → Viable (λ b l. Doing b (xs ++ l)) ts (read_on (expect_while m inner ts) f)
         viable_expect_while xs [] f due go = Viable-unexpected (here Doing xs due)
@@ -240,7 +240,7 @@ module _ (m : ℕ) (inner : Parse S) (takes : (ts : List Terminal) → Takes (in
 
         viable_do : (n : ℕ) (ts : List Terminal) → Viable Doing ts (after_do m inner n ts)
         viable_do n ts =
-            Viable-read_on _ (sound ts) (viable Doing doing while_due (doing.front true [] (a_punctuator punctuators.Semicolon ∷ []) ((while_due 1 _ empty_one).1 (omega arith))) ts)
+            Viable-read_on _ (sound ts) (viable Doing doing while_due (doing.front true [] (a_punctuator punctuators.Semicolon ∷ []) ((while_due 1 _ empty_one).1 (omega arith)) refl) ts)
             (λ s xs us q. let body : IsStmt s.1 xs = (s.0, q.0) in let fits : s.1 ≤ m = q.1 in
             viable_expect_while xs us _ ((while_due s.1 xs body).1 fits)
             (λ v vs. Viable-read_on _ (sound_condition m vs) (viable_condition m _ (behind_token (Keyword v keywords.While) (behind xs doing)) (λ g cs t. tested v s.1 g xs cs body fits t) some vs)
@@ -255,15 +255,15 @@ module _ (m : ℕ) (inner : Parse S) (takes : (ts : List Terminal) → Takes (in
 
         stepped : (h i j : ℕ) (ws xs ys : List Terminal) → IsBeginning h ws → h ≤ m → IsOption punctuators.Semicolon i xs → i ≤ m → IsOption punctuators.CloseParenthesis j ys → Both Turning m j (ws ++ (xs ++ ys))
         stepped h i j ws xs ys a l1 e l2 u =
-            under (behind xs (behind ws turning)) ys (a_punctuator punctuators.Semicolon ∷ []) (suc m) (max h (max i (max j 1)) + 1) (w _ _ (for_one at o h i j 1 ws xs ys _ a e u empty_one)) m j (λ le. omega arith)
+            under (behind xs (behind ws turning)) ys (a_punctuator punctuators.Semicolon ∷ []) refl (suc m) (max h (max i (max j 1)) + 1) (w _ _ (for_one at o h i j 1 ws xs ys _ a e u empty_one)) m j (λ le. omega arith)
 
         checked : (h i : ℕ) (ws xs : List Terminal) → IsBeginning h ws → h ≤ m → IsOption punctuators.Semicolon i xs → Both Turning m i (ws ++ xs)
         checked h i ws xs a l1 e =
-            under (behind ws turning) xs (a_punctuator punctuators.CloseParenthesis ∷ a_punctuator punctuators.Semicolon ∷ []) (suc m) (max h (max i (max 0 1)) + 1) (w _ _ (for_one at o h i 0 1 ws xs _ _ a e (an_option punctuators.CloseParenthesis 0) empty_one)) m i (λ le. omega arith)
+            under (behind ws turning) xs (a_punctuator punctuators.CloseParenthesis ∷ a_punctuator punctuators.Semicolon ∷ []) refl (suc m) (max h (max i (max 0 1)) + 1) (w _ _ (for_one at o h i 0 1 ws xs _ _ a e (an_option punctuators.CloseParenthesis 0) empty_one)) m i (λ le. omega arith)
 
         started : (h : ℕ) (ws : List Terminal) → IsBeginning h ws → Both Turning m h ws
         started h ws a =
-            under turning ws (a_punctuator punctuators.Semicolon ∷ a_punctuator punctuators.CloseParenthesis ∷ a_punctuator punctuators.Semicolon ∷ []) (suc m) (max h (max 0 (max 0 1)) + 1)
+            under turning ws (a_punctuator punctuators.Semicolon ∷ a_punctuator punctuators.CloseParenthesis ∷ a_punctuator punctuators.Semicolon ∷ []) refl (suc m) (max h (max 0 (max 0 1)) + 1)
             (w _ _ (for_one at o h 0 0 1 ws _ _ _ a (an_option punctuators.Semicolon 0) (an_option punctuators.CloseParenthesis 0) empty_one)) m h (λ le. omega arith)
 
         turned : (h i j : ℕ) (ws xs ys : List Terminal) → IsBeginning h ws → h ≤ m → IsOption punctuators.Semicolon i xs → i ≤ m → IsOption punctuators.CloseParenthesis j ys → j ≤ m
@@ -272,7 +272,7 @@ module _ (m : ℕ) (inner : Parse S) (takes : (ts : List Terminal) → Takes (in
 
       viable_for : (at n : ℕ) (ts : List Terminal) → Viable (λ b l. Q b (Keyword at keywords.For ∷ l)) ts (after_for m inner n ts)
       viable_for at n ts =
-          Viable-punctuator punctuators.OpenParenthesis ts _ (c.front true (Keyword at keywords.For ∷ []) _ ((started at 0 0 _ (no_beginning 0)).1 (omega arith)))
+          Viable-punctuator punctuators.OpenParenthesis ts _ (c.front true (Keyword at keywords.For ∷ []) _ ((started at 0 0 _ (no_beginning 0)).1 (omega arith)) refl)
           (λ o us. Viable-read_on _ (sound_start m us) (viable_start m _ (turning at o) (started at o) us)
           (λ a ws vs r. let beginning : IsBeginning a.1 ws = (a.0, r.0) in let l1 : a.1 ≤ m = r.1 in
           Viable-read_on _ (sound_optional m punctuators.Semicolon vs) (viable_optional m punctuators.Semicolon _ (behind ws (turning at o)) (λ i xs e. checked at o a.1 i ws xs beginning l1 e) vs)
@@ -280,38 +280,38 @@ module _ (m : ℕ) (inner : Parse S) (takes : (ts : List Terminal) → Takes (in
           Viable-read_on _ (sound_optional m punctuators.CloseParenthesis vs') (viable_optional m punctuators.CloseParenthesis _ (behind xs (behind ws (turning at o))) (λ j ys u. stepped at o a.1 e.1 j ws xs ys beginning l1 test l2 u) vs')
           (λ u ys xs' z. let last : IsOption punctuators.CloseParenthesis u.1 ys = lower_option m punctuators.CloseParenthesis u ys z in let l3 : u.1 ≤ m = option_fits m punctuators.CloseParenthesis u ys z in
           let inside = behind ys (behind xs (behind ws (turning at o))) in let begun = turned at o a.1 e.1 u.1 ws xs ys beginning l1 test l2 last l3 in
-          Viable-done _ (viable _ inside begun (inside.front true [] (a_punctuator punctuators.Semicolon ∷ []) ((begun 1 _ empty_one).1 (omega arith))) xs')))))
+          Viable-done _ (viable _ inside begun (inside.front true [] (a_punctuator punctuators.Semicolon ∷ []) ((begun 1 _ empty_one).1 (omega arith)) refl) xs')))))
 
     -- ---- all
 
     statement_due : Q true []
-    statement_due = c.front true [] (a_punctuator punctuators.Semicolon ∷ []) ((w 1 _ empty_one).1 (omega arith))
+    statement_due = c.front true [] (a_punctuator punctuators.Semicolon ∷ []) ((w 1 _ empty_one).1 (omega arith)) refl
 
     viable_plain : (at : ℕ) (t : Terminal) (ts : List Terminal) → Viable Q (t ∷ ts) (plain_statement m inner at t ts)
     viable_plain at t ts =
         Viable-if (is_keyword keywords.Break t)
-        (λ e. Viable-keyword keywords.Break t e (Viable-token (Viable-punctuator punctuators.Semicolon ts _ (c.front true (Keyword (number_of t) keywords.Break ∷ []) (a_punctuator punctuators.Semicolon ∷ []) ((w 1 _ (_, a_break (number_of t) 0)).1 (omega arith))) (λ k us. Viable-ok))))
+        (λ e. Viable-keyword keywords.Break t e (Viable-token (Viable-punctuator punctuators.Semicolon ts _ (c.front true (Keyword (number_of t) keywords.Break ∷ []) (a_punctuator punctuators.Semicolon ∷ []) ((w 1 _ (_, a_break (number_of t) 0)).1 (omega arith)) refl) (λ k us. Viable-ok))))
         (λ _. Viable-if (is_keyword keywords.Continue t)
-        (λ e. Viable-keyword keywords.Continue t e (Viable-token (Viable-punctuator punctuators.Semicolon ts _ (c.front true (Keyword (number_of t) keywords.Continue ∷ []) (a_punctuator punctuators.Semicolon ∷ []) ((w 1 _ (_, a_continue (number_of t) 0)).1 (omega arith))) (λ k us. Viable-ok))))
+        (λ e. Viable-keyword keywords.Continue t e (Viable-token (Viable-punctuator punctuators.Semicolon ts _ (c.front true (Keyword (number_of t) keywords.Continue ∷ []) (a_punctuator punctuators.Semicolon ∷ []) ((w 1 _ (_, a_continue (number_of t) 0)).1 (omega arith)) refl) (λ k us. Viable-ok))))
         (λ _. Viable-if (is_keyword keywords.Return t)
         (λ e. Viable-keyword keywords.Return t e (Viable-token (Viable-done _ (viable_optional m punctuators.Semicolon _ (behind_token (Keyword (number_of t) keywords.Return) c)
         (λ h xs s. let both = w (h + 1) _ (return_one (number_of t) h xs s) in (both.0, λ le. both.1 (omega arith))) ts))))
         (λ _. Viable-read_on _ (sound_part m Expression (t ∷ ts)) (viable_part m Expression refl Q c begun statement_due (t ∷ ts)) (λ e front us r. Viable-punctuator punctuators.Semicolon us _ (here Q front ((begun e.1 front (e.0, r.0)).1 r.1)) (λ k vs. Viable-ok)))))
       where
         begun : (h : ℕ) (xs : List Terminal) → Has Expression h xs → Both Q m h xs
-        begun h xs s = under c xs (a_punctuator punctuators.Semicolon ∷ []) (suc m) (suc h) (w (suc h) _ (expression_one h xs s)) m h (λ le. omega arith)
+        begun h xs s = under c xs (a_punctuator punctuators.Semicolon ∷ []) refl (suc m) (suc h) (w (suc h) _ (expression_one h xs s)) m h (λ le. omega arith)
 
     viable_keyword : (at : ℕ) (t : Terminal) (ts : List Terminal) → Viable Q (t ∷ ts) (keyword_statement m inner at t ts)
     viable_keyword at t ts =
         Viable-if (is_keyword keywords.If t)
-        (λ e. Viable-keyword keywords.If t e (Viable-some m statement_due (c.front false (Keyword (number_of t) keywords.If ∷ []) _ (w _ _ (if_one (number_of t) 1 1 _ _ one_test empty_one)).0) (λ some. Viable-token (viable_if some (number_of t) at ts))))
+        (λ e. Viable-keyword keywords.If t e (Viable-some m statement_due (c.front false (Keyword (number_of t) keywords.If ∷ []) _ (w _ _ (if_one (number_of t) 1 1 _ _ one_test empty_one)).0 refl) (λ some. Viable-token (viable_if some (number_of t) at ts))))
         (λ _. Viable-if (is_keyword keywords.While t)
-        (λ e. Viable-keyword keywords.While t e (Viable-some m statement_due (c.front false (Keyword (number_of t) keywords.While ∷ []) _ (w _ _ (while_one (number_of t) 1 1 _ _ one_test empty_one)).0) (λ some. Viable-token (viable_while some (number_of t) at ts))))
+        (λ e. Viable-keyword keywords.While t e (Viable-some m statement_due (c.front false (Keyword (number_of t) keywords.While ∷ []) _ (w _ _ (while_one (number_of t) 1 1 _ _ one_test empty_one)).0 refl) (λ some. Viable-token (viable_while some (number_of t) at ts))))
         (λ _. Viable-if (is_keyword keywords.Do t)
-        (λ e. Viable-keyword keywords.Do t e (Viable-some m statement_due (c.front false (Keyword (number_of t) keywords.Do ∷ []) _ (w _ _ (do_one (number_of t) 0 0 1 1 _ _ empty_one one_test)).0) (λ some. Viable-token (viable_do some (number_of t) at ts))))
+        (λ e. Viable-keyword keywords.Do t e (Viable-some m statement_due (c.front false (Keyword (number_of t) keywords.Do ∷ []) _ (w _ _ (do_one (number_of t) 0 0 1 1 _ _ empty_one one_test)).0 refl) (λ some. Viable-token (viable_do some (number_of t) at ts))))
         (λ _. Viable-if (is_keyword keywords.For t)
         (λ e. Viable-keyword keywords.For t e (Viable-some m statement_due
-        (c.front false (Keyword (number_of t) keywords.For ∷ []) _ (w _ _ (for_one (number_of t) 0 0 0 0 1 _ _ _ _ (no_beginning 0) (an_option punctuators.Semicolon 0) (an_option punctuators.CloseParenthesis 0) empty_one)).0) (λ some. Viable-token (viable_for some (number_of t) at ts))))
+        (c.front false (Keyword (number_of t) keywords.For ∷ []) _ (w _ _ (for_one (number_of t) 0 0 0 0 1 _ _ _ _ (no_beginning 0) (an_option punctuators.Semicolon 0) (an_option punctuators.CloseParenthesis 0) empty_one)).0 refl) (λ some. Viable-token (viable_for some (number_of t) at ts))))
         (λ _. viable_plain at t ts))))
 
     viable_at : (ts : List Terminal) → Viable Q ts (statement_at m inner ts)
@@ -323,13 +323,13 @@ module _ (m : ℕ) (inner : Parse S) (takes : (ts : List Terminal) → Takes (in
 -- ---- what begins a statement
 
 abbrev BegunStmt : Terminal → Type 0
-BegunStmt t = (xs : List Terminal) × (h : ℕ) × IsStmt h (t ∷ xs)
+BegunStmt t = (xs : List Terminal) × (h : ℕ) × IsStmt h (t ∷ xs) × (is_plain xs ≡ true)
 
-by_keyword : (k : key.Keyword) (t : Terminal) → is_keyword k t ≡ true → (xs : List Terminal) (h : ℕ) → IsStmt h (Keyword (number_of t) k ∷ xs) → BegunStmt t
-by_keyword k t e xs h s = (xs, h, subst (λ u. IsStmt h (u ∷ xs)) (sym (keyword_is k t e)) s)
+by_keyword : (k : key.Keyword) (t : Terminal) → is_keyword k t ≡ true → (xs : List Terminal) (h : ℕ) → IsStmt h (Keyword (number_of t) k ∷ xs) → is_plain xs ≡ true → BegunStmt t
+by_keyword k t e xs h s plain = (xs, h, subst (λ u. IsStmt h (u ∷ xs)) (sym (keyword_is k t e)) s, plain)
 
-by_punctuator : (k : punctuator.Punctuator) (t : Terminal) → is_punctuator k t ≡ true → (xs : List Terminal) (h : ℕ) → IsStmt h (Punctuator (number_of t) k ∷ xs) → BegunStmt t
-by_punctuator k t e xs h s = (xs, h, subst (λ u. IsStmt h (u ∷ xs)) (sym (punctuator_is k t e)) s)
+by_punctuator : (k : punctuator.Punctuator) (t : Terminal) → is_punctuator k t ≡ true → (xs : List Terminal) (h : ℕ) → IsStmt h (Punctuator (number_of t) k ∷ xs) → is_plain xs ≡ true → BegunStmt t
+by_punctuator k t e xs h s plain = (xs, h, subst (λ u. IsStmt h (u ∷ xs)) (sym (punctuator_is k t e)) s, plain)
 
 either : {P : Type 0} (b c : Bool) → (b ≡ true → P) → (c ≡ true → P) → (b || c) ≡ true → P
 either true c f g e = f refl
@@ -337,21 +337,21 @@ either false c f g e = g e
 
 statement_begun : (t : Terminal) (ts : List Terminal) → begins_statement (t ∷ ts) ≡ true → BegunStmt t
 statement_begun t ts e =
-    either (begins_one (t ∷ ts)) _ (λ d. let by = one_begun Expression refl t ts d in (by.0 ++ a_punctuator punctuators.Semicolon ∷ [], suc by.1.0, expression_one by.1.0 (t ∷ by.0) (by.1.1, by.1.2)))
-    (either (starts punctuators.OpenBrace (t ∷ ts)) _ (λ d. by_punctuator punctuators.OpenBrace t d _ 1 (_, a_block (number_of t) 0 no_item))
-    (either (starts punctuators.Semicolon (t ∷ ts)) _ (λ d. by_punctuator punctuators.Semicolon t d [] 1 (_, an_empty (number_of t)))
-    (either (starts_with keywords.If (t ∷ ts)) _ (λ d. by_keyword keywords.If t d _ _ (if_one (number_of t) 1 1 _ _ one_test empty_one))
-    (either (starts_with keywords.While (t ∷ ts)) _ (λ d. by_keyword keywords.While t d _ _ (while_one (number_of t) 1 1 _ _ one_test empty_one))
-    (either (starts_with keywords.Do (t ∷ ts)) _ (λ d. by_keyword keywords.Do t d _ _ (do_one (number_of t) 0 0 1 1 _ _ empty_one one_test))
-    (either (starts_with keywords.For (t ∷ ts)) _ (λ d. by_keyword keywords.For t d _ _ (for_one (number_of t) 0 0 0 0 1 _ _ _ _ (no_beginning 0) (an_option punctuators.Semicolon 0) (an_option punctuators.CloseParenthesis 0) empty_one))
-    (either (starts_with keywords.Break (t ∷ ts)) _ (λ d. by_keyword keywords.Break t d _ 1 (_, a_break (number_of t) 0))
-    (either (starts_with keywords.Continue (t ∷ ts)) _ (λ d. by_keyword keywords.Continue t d _ 1 (_, a_continue (number_of t) 0))
-    (λ d. by_keyword keywords.Return t d _ _ (return_one (number_of t) 0 _ (an_option punctuators.Semicolon 0)))))))))))
+    either (begins_one (t ∷ ts)) _ (λ d. let by = one_begun Expression refl t ts d in (by.0 ++ a_punctuator punctuators.Semicolon ∷ [], suc by.1.0, expression_one by.1.0 (t ∷ by.0) (by.1.1, by.1.2), plain_both by.0 (a_punctuator punctuators.Semicolon ∷ []) by.2 refl))
+    (either (starts punctuators.OpenBrace (t ∷ ts)) _ (λ d. by_punctuator punctuators.OpenBrace t d _ 1 (_, a_block (number_of t) 0 no_item) refl)
+    (either (starts punctuators.Semicolon (t ∷ ts)) _ (λ d. by_punctuator punctuators.Semicolon t d [] 1 (_, an_empty (number_of t)) refl)
+    (either (starts_with keywords.If (t ∷ ts)) _ (λ d. by_keyword keywords.If t d _ _ (if_one (number_of t) 1 1 _ _ one_test empty_one) refl)
+    (either (starts_with keywords.While (t ∷ ts)) _ (λ d. by_keyword keywords.While t d _ _ (while_one (number_of t) 1 1 _ _ one_test empty_one) refl)
+    (either (starts_with keywords.Do (t ∷ ts)) _ (λ d. by_keyword keywords.Do t d _ _ (do_one (number_of t) 0 0 1 1 _ _ empty_one one_test) refl)
+    (either (starts_with keywords.For (t ∷ ts)) _ (λ d. by_keyword keywords.For t d _ _ (for_one (number_of t) 0 0 0 0 1 _ _ _ _ (no_beginning 0) (an_option punctuators.Semicolon 0) (an_option punctuators.CloseParenthesis 0) empty_one) refl)
+    (either (starts_with keywords.Break (t ∷ ts)) _ (λ d. by_keyword keywords.Break t d _ 1 (_, a_break (number_of t) 0) refl)
+    (either (starts_with keywords.Continue (t ∷ ts)) _ (λ d. by_keyword keywords.Continue t d _ 1 (_, a_continue (number_of t) 0) refl)
+    (λ d. by_keyword keywords.Return t d _ _ (return_one (number_of t) 0 _ (an_option punctuators.Semicolon 0)) refl)))))))))
     e
 
 pub viable_statement : (n : ℕ) (Q : Claims) → OfFronts Q → ((h : ℕ) (xs : List Terminal) → IsStmt h xs → Both Q n h xs) → Q true [] → (ts : List Terminal) → Viable Q ts (statement n ts)
 unfolding statement
 viable_statement zero Q c w low [] = Viable-unexpected low
 viable_statement zero Q c w low (t ∷ ts) =
-    Viable-if (begins_statement (t ∷ ts)) (λ e. let by = statement_begun t ts e in Viable-deep low (c.front false (t ∷ []) by.0 (w by.1 _ by.2).0)) (λ _. Viable-unexpected low)
+    Viable-if (begins_statement (t ∷ ts)) (λ e. let by = statement_begun t ts e in Viable-deep low (c.front false (t ∷ []) by.0 (w by.1 _ by.2).0 by.3)) (λ _. Viable-unexpected low)
 viable_statement (suc m) Q c w low ts = viable_at m (statement m) (λ us. takes_statement m us) (λ us. sound_statement m us) (λ P d v l us. viable_statement m P d v l us) Q c w ts

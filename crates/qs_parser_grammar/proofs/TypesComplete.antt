@@ -8,9 +8,10 @@ use Rattle.qs_syntax_vocabulary.specs.declared.punctuator.Punctuator.TheVariants
 use Rattle.qs_syntax.specs.declared.types.Base.{Base}
 use Rattle.qs_syntax.specs.declared.types.Base.TheVariants as bases
 use Rattle.qs_syntax.specs.declared.types.TypeName.{TypeName}
-use Rattle.qs_syntax.specs.ReadsTypes.{ReadsConsts, no_const, a_const, ReadsBase, a_void, an_int, a_char, an_unsigned, an_unsigned_int, an_unsigned_char, a_signed, a_signed_int, a_struct, ReadsType, a_type, ReadsStars, no_star, a_star, ReadsTypeName, a_type_name}
+use Rattle.qs_syntax.specs.ReadsTypes.{ReadsConsts, no_const, a_const, ReadsBase, a_void, an_int, a_char, an_unsigned, an_unsigned_int, an_unsigned_char, a_signed, a_signed_int, a_struct, ReadsType, a_type, ReadsStars, no_star, a_star, ReadsTypeName, a_type_name, a_named_type}
 use Rattle.qs_parser_grammar.specs.Heads.{is_punctuator, is_keyword, starts, starts_with, begins_type}
 use Rattle.qs_parser_grammar.specs.Parse.{skip_consts, after_unsigned, after_signed, base, type, stars_from, stars, type_name}
+use Rattle.qs_parser_grammar.proofs.HeadsLaws.{finds_name}
 
 -- what would go on with a base, with a type, with stars
 abbrev pub goes_on_base : List Terminal → Bool
@@ -47,7 +48,8 @@ finds_base (an_unsigned_int at bt) rest e = refl
 finds_base (an_unsigned_char at bt) rest e = refl
 finds_base (a_signed at) rest e = let parts = or_parts (starts_with keywords.Int rest) (starts_with keywords.Char rest) e in after_signed_stops rest parts.0
 finds_base (a_signed_int at bt) rest e = refl
-finds_base (a_struct at bt x) rest e = refl
+finds_base (a_struct at r) rest e = rw (finds_name r rest) refl
+finds_base (a_named_type at x) rest e = refl
 
 base_no_const : {f : List Terminal} {b : Base} → ReadsBase f b → (rest : List Terminal) → starts_with keywords.Const (f ++ rest) ≡ false
 base_no_const (a_void at) rest = refl
@@ -58,7 +60,8 @@ base_no_const (an_unsigned_int at bt) rest = refl
 base_no_const (an_unsigned_char at bt) rest = refl
 base_no_const (a_signed at) rest = refl
 base_no_const (a_signed_int at bt) rest = refl
-base_no_const (a_struct at bt x) rest = refl
+base_no_const (a_struct at r) rest = refl
+base_no_const (a_named_type at x) rest = refl
 
 base_begins : {f : List Terminal} {b : Base} → ReadsBase f b → (rest : List Terminal) → begins_type (f ++ rest) ≡ true
 base_begins (a_void at) rest = refl
@@ -69,7 +72,8 @@ base_begins (an_unsigned_int at bt) rest = refl
 base_begins (an_unsigned_char at bt) rest = refl
 base_begins (a_signed at) rest = refl
 base_begins (a_signed_int at bt) rest = refl
-base_begins (a_struct at bt x) rest = refl
+base_begins (a_struct at r) rest = refl
+base_begins (a_named_type at x) rest = refl
 
 consts_goes_on_base : {f : List Terminal} → ReadsConsts f → (rest : List Terminal) → goes_on_base rest ≡ false → goes_on_base (f ++ rest) ≡ false
 consts_goes_on_base no_const rest e = e

@@ -1,16 +1,17 @@
 -- What is read as a type has that reading.
 use Rattle.std.proofs.Common.{◌≡◌, ℕ, suc, ◌+◌, Bool, true, false, cond, List, [], ◌∷◌, ◌++◌, Result, Ok, refl, sym, ap, subst, ◌∙◌, append_assoc, arith}
 use Rattle.qs_syntax_vocabulary.specs.declared.terminal.Terminal.{Terminal}
-use Rattle.qs_syntax_vocabulary.specs.declared.terminal.Terminal.TheVariants.{Keyword, Punctuator}
+use Rattle.qs_syntax_vocabulary.specs.declared.terminal.Terminal.TheVariants.{Name, Keyword, Constant, Text, Punctuator}
+use Rattle.qs_syntax_vocabulary.specs.declared.terminal.Terminal.TheVariants as terminals
 use Rattle.qs_base.specs.declared.keyword.Keyword.TheVariants as keywords
 use Rattle.qs_syntax_vocabulary.specs.declared.punctuator.Punctuator.TheVariants as punctuators
 use Rattle.qs_syntax.specs.declared.types.Base.{Base}
 use Rattle.qs_syntax.specs.declared.types.Base.TheVariants as bases
 use Rattle.qs_syntax.specs.declared.types.TypeName.{TypeName}
 use Rattle.qs_syntax_vocabulary.specs.Operators.{number_of}
-use Rattle.qs_syntax.specs.ReadsTypes.{ReadsConsts, no_const, a_const, ReadsBase, a_void, an_int, a_char, an_unsigned, an_unsigned_int, an_unsigned_char, a_signed, a_signed_int, a_struct, ReadsType, a_type, ReadsStars, no_star, a_star, ReadsTypeName, a_type_name}
+use Rattle.qs_syntax.specs.ReadsTypes.{ReadsConsts, no_const, a_const, ReadsBase, a_void, an_int, a_char, an_unsigned, an_unsigned_int, an_unsigned_char, a_signed, a_signed_int, a_struct, ReadsType, a_type, ReadsStars, no_star, a_star, ReadsTypeName, a_type_name, Any, a_named_type}
 use Rattle.qs_parser_grammar.specs.Heads.{is_punctuator, is_keyword, starts}
-use Rattle.qs_parser_grammar.specs.Parse.{Stop, read_on, expect_name, skip_consts, after_unsigned, after_signed, base, type, stars_from, stars, type_name}
+use Rattle.qs_parser_grammar.specs.Parse.{Stop, skip_consts, after_unsigned, after_signed, base, type, stars_from, stars, type_name, named_type, tagged}
 use Rattle.qs_parser_grammar.proofs.HeadsLaws.{keyword_is, punctuator_is, starts_is}
 use Rattle.qs_parser_grammar.proofs.Sound.{Sound, Sound-ok, Sound-err, at_end, Sound-after, Sound-token, Sound-read_on}
 use Rattle.qs_parser_grammar.proofs.SoundSteps.{Sound-if, Sound-ends, sound_expect_name}
@@ -58,8 +59,16 @@ sound_after_signed : (at : ℕ) (ts : List Terminal) → Sound IsBase (Keyword a
 sound_after_signed at [] = Sound-ok (a_signed at)
 sound_after_signed at (t ∷ ts) = Sound-if (is_keyword keywords.Int t) (base_second keywords.Signed keywords.Int bases.Int at t ts (a_signed_int at)) (λ _. Sound-ok (a_signed at))
 
-sound_after_struct : (at : ℕ) (ts : List Terminal) → Sound IsBase (Keyword at keywords.Struct ∷ []) ts (read_on (expect_name ts) (λ x us. Ok (bases.Struct x.1, us)))
-sound_after_struct at ts = Sound-read_on _ (sound_expect_name ts) (λ x front us is. Sound-ok (subst (λ l. ReadsBase (Keyword at keywords.Struct ∷ l) (bases.Struct x.1)) (sym is) (a_struct at x.0 x.1)))
+sound_after_struct : (at : ℕ) (ts : List Terminal) → Sound IsBase (Keyword at keywords.Struct ∷ []) ts (tagged ts)
+sound_after_struct at ts = Sound-read_on _ (sound_expect_name Any ts) (λ x front us is. Sound-ok (subst (λ l. ReadsBase (Keyword at keywords.Struct ∷ l) (bases.Struct x.1)) (sym is.1) (a_struct at is.2)))
+
+sound_named_type : (t : Terminal) (ts : List Terminal) → Sound IsBase [] (t ∷ ts) (named_type (t ∷ ts))
+sound_named_type (Name at x) ts = Sound-err at_end
+sound_named_type (terminals.TypeName at x) ts = Sound-token (Sound-ok (a_named_type at x))
+sound_named_type (Keyword at k) ts = Sound-err at_end
+sound_named_type (Constant at n unsigned) ts = Sound-err at_end
+sound_named_type (Text at bytes) ts = Sound-err at_end
+sound_named_type (Punctuator at m) ts = Sound-err at_end
 
 keyword_first : (k : _) (t : Terminal) (ts : List Terminal) (r : Result (Base × List Terminal) Stop) → ((at : ℕ) → Sound IsBase (Keyword at k ∷ []) ts r) → is_keyword k t ≡ true → Sound IsBase [] (t ∷ ts) r
 keyword_first k t ts r f e = Sound-token (subst (λ u. Sound IsBase (u ∷ []) ts r) (sym (keyword_is k t e)) (f (number_of t)))
@@ -72,7 +81,7 @@ sound_base (t ∷ ts) =
     (λ _. Sound-if (is_keyword keywords.Char t) (base_token keywords.Char bases.Char t ts a_char)
     (λ _. Sound-if (is_keyword keywords.Unsigned t) (keyword_first keywords.Unsigned t ts (after_unsigned ts) (λ at. sound_after_unsigned at ts))
     (λ _. Sound-if (is_keyword keywords.Signed t) (keyword_first keywords.Signed t ts (after_signed ts) (λ at. sound_after_signed at ts))
-    (λ _. Sound-if (is_keyword keywords.Struct t) (keyword_first keywords.Struct t ts _ (λ at. sound_after_struct at ts)) (λ _. Sound-err at_end))))))
+    (λ _. Sound-if (is_keyword keywords.Struct t) (keyword_first keywords.Struct t ts _ (λ at. sound_after_struct at ts)) (λ _. sound_named_type t ts))))))
 
 -- behind tokens that are skipped
 module _ {A : Type 0} {R : A → List Terminal → Type 0} where

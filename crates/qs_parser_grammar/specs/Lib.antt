@@ -4,3 +4,4 @@ pub mod ParseDeclarations
 pub mod ParseStatements
 pub mod Stops
 pub mod Operands
+pub mod ParseMarked

@@ -3,6 +3,7 @@
 use Rattle.std.specs.Prelude.{ℕ, zero, suc, ◌+◌, max, List, [], ◌∷◌, ◌++◌, length, Result, Ok, Err, Option, Some, None, Bool, true, false, nat_le, ◌==◌, ◌&&◌, ◌||◌, if◌then◌else◌, is_some}
 use Rattle.qs_syntax_vocabulary.specs.declared.terminal.Terminal.{Terminal}
 use Rattle.qs_syntax_vocabulary.specs.declared.terminal.Terminal.TheVariants.{Name, Keyword, Constant, Text, Punctuator}
+use Rattle.qs_syntax_vocabulary.specs.declared.terminal.Terminal.TheVariants as terminals
 use Rattle.qs_base.specs.Results.{bind}
 use Rattle.qs_base.specs.declared.keyword.Keyword.TheVariants as keywords
 use Rattle.qs_syntax_vocabulary.specs.declared.punctuator.Punctuator as punctuator
@@ -18,6 +19,7 @@ use Rattle.qs_syntax_vocabulary.specs.declared.operators.AssignmentOperator.{Ass
 use Rattle.qs_syntax_vocabulary.specs.declared.operators.Access.{Access}
 use Rattle.qs_syntax.specs.Trees.{unnumbered, ExprTree, expr, constant, text, name, unary, step, cast, sizeof_type, sizeof_expr, binary, assign, conditional, comma, subscript, member, call, exprs_of}
 use Rattle.qs_syntax_vocabulary.specs.Operators.{precedence, weakest, unary_of, binary_of, assign_of, access_of}
+use Rattle.qs_syntax.specs.ReadsTypes.{Names, Plain, Any}
 use Rattle.qs_syntax.specs.Reads.{Form, Postfix, Unary, Level, Conditional, Assignment, Expression, place}
 use Rattle.qs_parser_grammar.specs.Heads.{is_punctuator, is_keyword, starts, starts_step, operator_at, begins_type}
 
@@ -59,14 +61,20 @@ abbrev pub expect : punctuator.Punctuator → Parse (Unit {0})
 expect m [] = unexpected []
 expect m (t ∷ ts) = if is_punctuator m t then Ok (tt, ts) else unexpected (t ∷ ts)
 
+-- the name of a type, where such a name may stand
+abbrev pub type_name_as : Names → ℕ → List ℕ → Parse (ℕ × List ℕ)
+type_name_as Plain at x ts = unexpected (terminals.TypeName at x ∷ ts)
+type_name_as Any at x ts = Ok ((at, x), ts)
+
 -- the number of a name's token, and its bytes
-abbrev pub expect_name : Parse (ℕ × List ℕ)
-expect_name [] = unexpected []
-expect_name (Name at x ∷ ts) = Ok ((at, x), ts)
-expect_name (Keyword at k ∷ ts) = unexpected (Keyword at k ∷ ts)
-expect_name (Constant at n unsigned ∷ ts) = unexpected (Constant at n unsigned ∷ ts)
-expect_name (Text at bytes ∷ ts) = unexpected (Text at bytes ∷ ts)
-expect_name (Punctuator at m ∷ ts) = unexpected (Punctuator at m ∷ ts)
+abbrev pub expect_name : Names → Parse (ℕ × List ℕ)
+expect_name names [] = unexpected []
+expect_name names (Name at x ∷ ts) = Ok ((at, x), ts)
+expect_name names (terminals.TypeName at x ∷ ts) = type_name_as names at x ts
+expect_name names (Keyword at k ∷ ts) = unexpected (Keyword at k ∷ ts)
+expect_name names (Constant at n unsigned ∷ ts) = unexpected (Constant at n unsigned ∷ ts)
+expect_name names (Text at bytes ∷ ts) = unexpected (Text at bytes ∷ ts)
+expect_name names (Punctuator at m ∷ ts) = unexpected (Punctuator at m ∷ ts)
 
 -- ---- types
 
@@ -86,7 +94,17 @@ after_signed (t ∷ ts) = if is_keyword keywords.Int t then Ok (bases.Int, ts) e
 
 -- behind `struct`
 abbrev pub tagged : Parse Base
-tagged ts = read_on (expect_name ts) (λ x us. Ok (bases.Struct x.1, us))
+tagged ts = read_on (expect_name Any ts) (λ x us. Ok (bases.Struct x.1, us))
+
+-- the name of a type
+abbrev pub named_type : Parse Base
+named_type [] = unexpected []
+named_type (Name at x ∷ ts) = unexpected (Name at x ∷ ts)
+named_type (terminals.TypeName at x ∷ ts) = Ok (bases.Named x, ts)
+named_type (Keyword at k ∷ ts) = unexpected (Keyword at k ∷ ts)
+named_type (Constant at n unsigned ∷ ts) = unexpected (Constant at n unsigned ∷ ts)
+named_type (Text at bytes ∷ ts) = unexpected (Text at bytes ∷ ts)
+named_type (Punctuator at m ∷ ts) = unexpected (Punctuator at m ∷ ts)
 
 abbrev pub base : Parse Base
 base [] = unexpected []
@@ -97,7 +115,7 @@ base (t ∷ ts) =
     else if is_keyword keywords.Unsigned t then after_unsigned ts
     else if is_keyword keywords.Signed t then after_signed ts
     else if is_keyword keywords.Struct t then tagged ts
-    else unexpected (t ∷ ts)
+    else named_type (t ∷ ts)
 
 -- { "const" } base { "const" }
 unfoldable pub type : Parse Base
@@ -121,6 +139,7 @@ type_name ts = read_on (type ts) (λ b us. Ok (record { base = b; stars = (stars
 abbrev pub begins_one : List Terminal → Bool
 begins_one [] = false
 begins_one (Name at x ∷ ts) = true
+begins_one (terminals.TypeName at x ∷ ts) = false
 begins_one (Keyword at k ∷ ts) = is_keyword keywords.Sizeof (Keyword at k)
 begins_one (Constant at n unsigned ∷ ts) = true
 begins_one (Text at bytes ∷ ts) = true
@@ -152,6 +171,7 @@ operator_of_level j (Some operator) = if precedence operator == j + 1 then Some 
 unfoldable pub texts_from : List ℕ → List Terminal → List ℕ × List Terminal
 texts_from done [] = (done, [])
 texts_from done (Name at x ∷ ts) = (done, Name at x ∷ ts)
+texts_from done (terminals.TypeName at x ∷ ts) = (done, terminals.TypeName at x ∷ ts)
 texts_from done (Keyword at k ∷ ts) = (done, Keyword at k ∷ ts)
 texts_from done (Constant at n unsigned ∷ ts) = (done, Constant at n unsigned ∷ ts)
 texts_from done (Text at bytes ∷ ts) = texts_from (done ++ bytes) ts
@@ -190,6 +210,7 @@ module _ (m : ℕ) (part : Form → Parse E) where
   unfoldable pub primary : Parse E
   primary [] = unexpected []
   primary (Name at x ∷ ts) = after_name at x ts
+  primary (terminals.TypeName at x ∷ ts) = unexpected (terminals.TypeName at x ∷ ts)
   primary (Keyword at k ∷ ts) = unexpected (Keyword at k ∷ ts)
   primary (Constant at n unsigned ∷ ts) = Ok ((expr (unnumbered at) (constant n unsigned), 1), ts)
   primary (Text at bytes ∷ ts) = after_text at (texts_from bytes ts)
@@ -201,7 +222,7 @@ module _ (m : ℕ) (part : Form → Parse E) where
 
   -- behind `.` or `->`
   abbrev pub member_of : (start : ℕ) → E → Access → Parse E
-  member_of start a access ts = read_on (expect_name ts) (λ x us. Ok ((expr (unnumbered start) (member access a.0 x.1), a.1 + 1), us))
+  member_of start a access ts = read_on (expect_name Any ts) (λ x us. Ok ((expr (unnumbered start) (member access a.0 x.1), a.1 + 1), us))
 
   abbrev pub access_at : (start : ℕ) → E → Option Access → Parse E
   access_at start a None ts = unexpected ts
@@ -247,6 +268,7 @@ module _ (m : ℕ) (part : Form → Parse E) where
   unfoldable pub unary_of_all : Parse E
   unary_of_all [] = unexpected []
   unary_of_all (Name at x ∷ ts) = postfix (Name at x ∷ ts)
+  unary_of_all (terminals.TypeName at x ∷ ts) = postfix (terminals.TypeName at x ∷ ts)
   unary_of_all (Keyword at k ∷ ts) =
       if is_keyword keywords.Sizeof (Keyword at k) then size_of at ts else unexpected (Keyword at k ∷ ts)
   unary_of_all (Constant at n unsigned ∷ ts) = postfix (Constant at n unsigned ∷ ts)

@@ -2,11 +2,12 @@
 -- m + 1 high if it is a node, and else as high as its highest part. The first number of a list bounds its turns.
 use Rattle.std.specs.Prelude.{ℕ, zero, suc, ◌+◌, max, List, [], ◌∷◌, ◌++◌, length, ◌==◌, Result, Ok, Some, None, Bool, true, false, ◌&&◌, if◌then◌else◌, Option}
 use Rattle.qs_syntax_vocabulary.specs.declared.terminal.Terminal.{Terminal}
-use Rattle.qs_syntax_vocabulary.specs.declared.terminal.Terminal.TheVariants.{Name, Keyword, Constant, Text, Punctuator}
+use Rattle.qs_syntax_vocabulary.specs.declared.terminal.Terminal.TheVariants.{Name, TypeName, Keyword, Constant, Text, Punctuator}
 use Rattle.qs_base.specs.declared.keyword.Keyword.TheVariants as keywords
 use Rattle.qs_syntax_vocabulary.specs.declared.punctuator.Punctuator.TheVariants as punctuators
 use Rattle.qs_syntax.specs.declared.types.Base.{Base}
 use Rattle.qs_syntax.specs.Trees.{unnumbered, ExprTree, LengthsTree, DeclaratorTree, InitialiserTree, value, list, initialisers_of, VariableTree, DeclarationTree, ParameterTree, MembersTree}
+use Rattle.qs_syntax.specs.ReadsTypes.{Names, Plain, Any}
 use Rattle.qs_syntax.specs.Reads.{Conditional, Assignment, place}
 use Rattle.qs_parser_grammar.specs.Heads.{is_keyword, is_punctuator, starts}
 use Rattle.qs_parser_grammar.specs.Parse.{Stop, Parse, read_on, unexpected, deep, deeper, expect, expect_name, skip_consts, base, type, stars, begins_one, part}
@@ -45,12 +46,16 @@ lengths m ts =
     then read_on (expect punctuators.OpenBracket ts) (λ _ us. read_on (expect punctuators.CloseBracket us) (λ _ vs. lengths_of true (behind_open m vs)))
     else lengths_of false (given_lengths m (length ts) [] 0 ts)
 
--- behind the stars of a declarator
-abbrev pub named : (m : ℕ) → ℕ → Parse (DeclaratorTree × ℕ)
-named m n ts = read_on (expect_name ts) (λ x us. read_on (lengths m us) (λ l vs. Ok ((record { node = unnumbered x.0; stars = n; name = x.1; lengths = l.0 }, l.1), vs)))
+-- behind the name of a declarator
+abbrev pub behind_name : (m : ℕ) → ℕ → ℕ × List ℕ → Parse (DeclaratorTree × ℕ)
+behind_name m n x ts = read_on (lengths m ts) (λ l us. Ok ((record { node = unnumbered x.0; stars = n; name = x.1; lengths = l.0 }, l.1), us))
 
-unfoldable pub declarator : (m : ℕ) → Parse (DeclaratorTree × ℕ)
-declarator m ts = named m (stars ts).0 (stars ts).1
+-- behind the stars of a declarator
+abbrev pub named : Names → (m : ℕ) → ℕ → Parse (DeclaratorTree × ℕ)
+named names m n ts = read_on (expect_name names ts) (behind_name m n)
+
+unfoldable pub declarator : Names → (m : ℕ) → Parse (DeclaratorTree × ℕ)
+declarator names m ts = named names m (stars ts).0 (stars ts).1
 
 -- Initialisers behind these, and the brace at their end, with `one` for each.
 module _ (one : Parse (InitialiserTree × ℕ)) where
@@ -83,7 +88,7 @@ initialised m d ts =
     else Ok ((record { declarator = d.0; initialiser = None }, d.1 + 1), ts)
 
 unfoldable pub variable : (m : ℕ) → Parse (VariableTree × ℕ)
-variable m ts = read_on (declarator m ts) (initialised m)
+variable m ts = read_on (declarator Plain m ts) (initialised m)
 
 -- behind a variable: the semicolon, or a comma and the others
 abbrev pub after_variable : (List VariableTree → ℕ → Parse (List VariableTree × ℕ)) → List VariableTree → ℕ → Parse (List VariableTree × ℕ)
@@ -116,7 +121,7 @@ after_member others ds h ts =
 -- members behind these, and the semicolon at their end
 unfoldable pub declarators : (m : ℕ) → ℕ → List DeclaratorTree → ℕ → Parse (List DeclaratorTree × ℕ)
 declarators m zero done h ts = unexpected ts
-declarators m (suc n) done h ts = read_on (declarator m ts) (λ d us. after_member (declarators m n) (done ++ d.0 ∷ []) (max h (d.1 + 1)) us)
+declarators m (suc n) done h ts = read_on (declarator Any m ts) (λ d us. after_member (declarators m n) (done ++ d.0 ∷ []) (max h (d.1 + 1)) us)
 
 unfoldable pub members : (m : ℕ) → Parse (MembersTree × ℕ)
 members m ts = read_on (type ts) (λ b us. read_on (declarators m (length us) [] 0 us) (λ ds vs. Ok ((record { base = b; declarators = ds.0 }, ds.1), vs)))
@@ -137,6 +142,7 @@ bracketed m token b n x ts = read_on (lengths m ts) (λ l us. Ok ((record { node
 abbrev pub with_name : (m : ℕ) → (start : ℕ) → Base → ℕ → Parse (ParameterTree × ℕ)
 with_name m start b n [] = read_on (lengths m []) (λ l us. Ok ((record { node = unnumbered start; type_name = record { base = b; stars = n }; name = None; lengths = l.0 }, l.1 + 1), us))
 with_name m start b n (Name at x ∷ ts) = read_on (lengths m ts) (λ l us. Ok ((record { node = unnumbered at; type_name = record { base = b; stars = n }; name = Some x; lengths = l.0 }, l.1 + 1), us))
+with_name m start b n (TypeName at x ∷ ts) = read_on (lengths m (TypeName at x ∷ ts)) (λ l us. Ok ((record { node = unnumbered start; type_name = record { base = b; stars = n }; name = None; lengths = l.0 }, l.1 + 1), us))
 with_name m start b n (Keyword at k ∷ ts) = read_on (lengths m (Keyword at k ∷ ts)) (λ l us. Ok ((record { node = unnumbered start; type_name = record { base = b; stars = n }; name = None; lengths = l.0 }, l.1 + 1), us))
 with_name m start b n (Constant at k unsigned ∷ ts) = read_on (lengths m (Constant at k unsigned ∷ ts)) (λ l us. Ok ((record { node = unnumbered start; type_name = record { base = b; stars = n }; name = None; lengths = l.0 }, l.1 + 1), us))
 with_name m start b n (Text at bytes ∷ ts) = read_on (lengths m (Text at bytes ∷ ts)) (λ l us. Ok ((record { node = unnumbered start; type_name = record { base = b; stars = n }; name = None; lengths = l.0 }, l.1 + 1), us))

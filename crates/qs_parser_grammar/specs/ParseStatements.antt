@@ -1,17 +1,20 @@
 -- The parser of statements and units as functions on lists of tokens.
-use Rattle.std.specs.Prelude.{ℕ, zero, suc, ◌+◌, max, List, [], ◌∷◌, ◌++◌, length, Ok, Option, Some, None, Bool, true, false, ◌==◌, ◌&&◌, ◌||◌, if◌then◌else◌}
+use Rattle.std.specs.Prelude.{ℕ, zero, suc, ◌+◌, ◌-◌, max, List, [], ◌∷◌, ◌++◌, length, drop, Ok, Option, Some, None, Bool, true, false, ◌==◌, ◌&&◌, ◌||◌, if◌then◌else◌}
 use Rattle.qs_syntax_vocabulary.specs.declared.terminal.Terminal.{Terminal}
-use Rattle.qs_syntax_vocabulary.specs.declared.terminal.Terminal.TheVariants.{Name, Keyword, Constant, Text, Punctuator}
+use Rattle.qs_syntax_vocabulary.specs.declared.terminal.Terminal.TheVariants.{Name, TypeName, Keyword, Constant, Text, Punctuator}
 use Rattle.qs_base.specs.declared.keyword.Keyword.TheVariants as keywords
 use Rattle.qs_syntax_vocabulary.specs.declared.punctuator.Punctuator as punctuator
 use Rattle.qs_syntax_vocabulary.specs.declared.punctuator.Punctuator.TheVariants as punctuators
 use Rattle.qs_syntax.specs.declared.types.Base.{Base}
-use Rattle.qs_syntax.specs.Trees.{unnumbered, ExprTree, ParameterTree, StartTree, no_start, start_expression, start_declaration, StmtTree, empty, expression, block, branch, while_loop, do_loop, for_loop, break, continue, return, stmts_of, no_else, else_by, DeclTree, structure, forward, function}
+use Rattle.qs_syntax.specs.Trees.{unnumbered, ExprTree, ParameterTree, StartTree, no_start, start_expression, start_declaration, StmtTree, empty, expression, block, branch, while_loop, do_loop, for_loop, break, continue, return, stmts_of, no_else, else_by, DeclaratorTree, DefinedTree, of_struct, of_base, DeclTree, structure, forward, typedef, function}
 use Rattle.qs_syntax.specs.Trees as trees
+use Rattle.qs_syntax_vocabulary.specs.Marks.{NameSet, marked}
+use Rattle.qs_syntax.specs.ReadsTypes.{Names, Plain, Any}
+use Rattle.qs_syntax.specs.ReadsUnits.{names_behind}
 use Rattle.qs_syntax.specs.Reads.{Expression, place}
 use Rattle.qs_parser_grammar.specs.Heads.{is_keyword, is_punctuator, starts, starts_with, begins_type}
-use Rattle.qs_parser_grammar.specs.Parse.{Parse, read_on, E, unexpected, deep, expect, expect_name, stars, begins_one, part}
-use Rattle.qs_parser_grammar.specs.ParseDeclarations.{outer_type, declaration_within, declared, groups, head}
+use Rattle.qs_parser_grammar.specs.Parse.{Parse, read_on, E, unexpected, deep, expect, expect_name, type, stars, begins_one, part}
+use Rattle.qs_parser_grammar.specs.ParseDeclarations.{outer_type, declarator, declaration_within, declared, after_member, groups, head}
 
 -- a statement or declaration, and how high it is
 abbrev pub S : Type 0
@@ -128,23 +131,28 @@ statement (suc m) ts = statement_at m (statement m) ts
 
 -- ---- at file scope, where what is given is at most k + 2 high
 
+abbrev pub may_be_types : Names → Bool
+may_be_types Plain = false
+may_be_types Any = true
+
 -- a name and this punctuator
-abbrev pub is_named : punctuator.Punctuator → List Terminal → Bool
-is_named k [] = false
-is_named k (Name at x ∷ ts) = starts k ts
-is_named k (Keyword at l ∷ ts) = false
-is_named k (Constant at n unsigned ∷ ts) = false
-is_named k (Text at bytes ∷ ts) = false
-is_named k (Punctuator at l ∷ ts) = false
+abbrev pub is_named : Names → punctuator.Punctuator → List Terminal → Bool
+is_named names k [] = false
+is_named names k (Name at x ∷ ts) = starts k ts
+is_named names k (TypeName at x ∷ ts) = may_be_types names && starts k ts
+is_named names k (Keyword at l ∷ ts) = false
+is_named names k (Constant at n unsigned ∷ ts) = false
+is_named names k (Text at bytes ∷ ts) = false
+is_named names k (Punctuator at l ∷ ts) = false
 
 -- behind `struct`
 abbrev pub struct_of : (k : ℕ) → (at : ℕ) → Parse (DeclTree × ℕ)
 struct_of k at ts =
-    read_on (expect_name ts) (λ x us. read_on (expect punctuators.OpenBrace us) (λ _ vs. read_on (groups k (length vs) [] 0 vs) (λ ms ws. read_on (expect punctuators.Semicolon ws) (λ _ xs.
-    Ok ((structure (record { node = unnumbered at; name = x.1; members = ms.0 }), ms.1 + 1), xs)))))
+    read_on (expect_name Any ts) (λ x us. read_on (expect punctuators.OpenBrace us) (λ _ vs. read_on (groups k (length vs) [] 0 vs) (λ ms ws. read_on (expect punctuators.Semicolon ws) (λ _ xs.
+    Ok ((structure (record { node = unnumbered at; name = Some x.1; members = ms.0 }), ms.1 + 1), xs)))))
 
 abbrev pub forward_of : (at : ℕ) → Parse (DeclTree × ℕ)
-forward_of at ts = read_on (expect_name ts) (λ x us. read_on (expect punctuators.Semicolon us) (λ _ vs. Ok ((forward (record { node = unnumbered at; name = x.1 }), 1), vs)))
+forward_of at ts = read_on (expect_name Any ts) (λ x us. read_on (expect punctuators.Semicolon us) (λ _ vs. Ok ((forward (record { node = unnumbered at; name = x.1 }), 1), vs)))
 
 -- behind a header's parameters: the semicolon or the body
 abbrev pub body_of : (k : ℕ) → (start : ℕ) → Base → ℕ → List ℕ → List ParameterTree × ℕ → Parse (DeclTree × ℕ)
@@ -157,30 +165,71 @@ body_of k start b n x ps ts =
 -- behind the stars of a header
 abbrev pub function_of : (k : ℕ) → (start : ℕ) → Base → ℕ → Parse (DeclTree × ℕ)
 function_of k start b n ts =
-    read_on (expect_name ts) (λ x us. read_on (expect punctuators.OpenParenthesis us) (λ _ vs. read_on (head k vs) (body_of k start b n x.1)))
+    read_on (expect_name Plain ts) (λ x us. read_on (expect punctuators.OpenParenthesis us) (λ _ vs. read_on (head k vs) (body_of k start b n x.1)))
 
 -- behind a type
 abbrev pub typed : (k : ℕ) → (start : ℕ) → Base → Parse (DeclTree × ℕ)
 typed k start b ts =
-    if is_named punctuators.OpenParenthesis (stars ts).1 then function_of k start b (stars ts).0 (stars ts).1
+    if is_named Plain punctuators.OpenParenthesis (stars ts).1 then function_of k start b (stars ts).0 (stars ts).1
     else read_on (declared (k + 1) b ts) (λ d us. Ok ((trees.variables d.0, d.1), us))
 
-unfoldable pub external : (k : ℕ) → Parse (DeclTree × ℕ)
-external k [] = unexpected []
-external k (t ∷ ts) =
-    if is_keyword keywords.Struct t && is_named punctuators.OpenBrace ts then struct_of k (place (t ∷ ts)) ts
-    else if is_keyword keywords.Struct t && is_named punctuators.Semicolon ts then forward_of (place (t ∷ ts)) ts
+-- an external that declares no type names
+unfoldable pub plain : (k : ℕ) → Parse (DeclTree × ℕ)
+plain k [] = unexpected []
+plain k (t ∷ ts) =
+    if is_keyword keywords.Struct t && is_named Any punctuators.OpenBrace ts then struct_of k (place (t ∷ ts)) ts
+    else if is_keyword keywords.Struct t && is_named Any punctuators.Semicolon ts then forward_of (place (t ∷ ts)) ts
     else read_on (outer_type (t ∷ ts)) (typed k (place (t ∷ ts)))
+
+-- behind the tag of a struct that a typedef defines, if it has one
+abbrev pub braced : (k : ℕ) → (at : ℕ) → Option (List ℕ) → Parse (DefinedTree × ℕ)
+braced k at x ts = read_on (expect punctuators.OpenBrace ts) (λ _ us. read_on (groups k (length us) [] 0 us) (λ ms vs. Ok ((of_struct (record { node = unnumbered at; name = x; members = ms.0 }), ms.1 + 1), vs)))
+
+-- such a struct, behind `struct`
+abbrev pub struct_defined : (k : ℕ) → (at : ℕ) → Parse (DefinedTree × ℕ)
+struct_defined k at ts = if starts punctuators.OpenBrace ts then braced k at None ts else read_on (expect_name Any ts) (λ x us. braced k at (Some x.1) us)
+
+-- behind `struct`: members follow, with or without a tag before them
+abbrev pub has_members : List Terminal → Bool
+has_members ts = starts punctuators.OpenBrace ts || is_named Any punctuators.OpenBrace ts
+
+abbrev pub known_type : Parse (DefinedTree × ℕ)
+known_type ts = read_on (type ts) (λ b us. Ok ((of_base b, 0), us))
+
+-- what a typedef gives names to
+unfoldable pub defined : (k : ℕ) → Parse (DefinedTree × ℕ)
+defined k [] = unexpected []
+defined k (t ∷ ts) = if is_keyword keywords.Struct t && has_members ts then struct_defined k (place (t ∷ ts)) ts else known_type (t ∷ ts)
+
+-- ---- where a set says which names are types'
+
+-- what is read where the names are marked by the set, and the tokens behind it without marks
+abbrev pub in_marks : {A : Type 0} → NameSet → Parse A → Parse A
+in_marks set p ts = read_on (p (marked set ts)) (λ x us. Ok (x, drop (length ts - length us) ts))
+
+-- names of types behind these, and the semicolon at their end; each is added to the set before the others
+unfoldable pub type_names : (m : ℕ) → NameSet → ℕ → List DeclaratorTree → ℕ → Parse (List DeclaratorTree × ℕ)
+type_names m set zero done h ts = unexpected ts
+type_names m set (suc n) done h ts = read_on (in_marks set (declarator Any m) ts) (λ d us. after_member (type_names m (d.0.name ∷ set) n) (done ++ d.0 ∷ []) (max h (d.1 + 1)) us)
+
+-- behind `typedef`
+abbrev pub typedef_of : (k : ℕ) → NameSet → Parse (DeclTree × ℕ)
+typedef_of k set ts =
+    read_on (in_marks set (defined k) ts) (λ t us. read_on (type_names (k + 1) set (length us) [] 0 us) (λ ds vs. Ok ((typedef (record { defined = t.0; names = ds.0 }), max t.1 ds.1), vs)))
+
+unfoldable pub external : (k : ℕ) → NameSet → Parse (DeclTree × ℕ)
+external k set [] = unexpected []
+external k set (t ∷ ts) = if is_keyword keywords.Typedef t then typedef_of k set ts else in_marks set (plain k) (t ∷ ts)
 
 abbrev pub is_empty : List Terminal → Bool
 is_empty [] = true
 is_empty (u ∷ us) = false
 
 -- Externals behind these, up to the end. The first number bounds the turns.
-unfoldable pub externals : (k : ℕ) → ℕ → List DeclTree → ℕ → Parse (List DeclTree × ℕ)
-externals k zero done h ts = unexpected ts
-externals k (suc n) done h ts = read_on (external k ts) (λ d us. if is_empty us then Ok ((done ++ d.0 ∷ [], max h d.1), us) else externals k n (done ++ d.0 ∷ []) (max h d.1) us)
+unfoldable pub externals : (k : ℕ) → NameSet → ℕ → List DeclTree → ℕ → Parse (List DeclTree × ℕ)
+externals k set zero done h ts = unexpected ts
+externals k set (suc n) done h ts = read_on (external k set ts) (λ d us. if is_empty us then Ok ((done ++ d.0 ∷ [], max h d.1), us) else externals k (names_behind set d.0) n (done ++ d.0 ∷ []) (max h d.1) us)
 
 -- what is at most k + 2 high
 unfoldable pub unit : (k : ℕ) → Parse (List DeclTree × ℕ)
-unit k ts = externals k (length ts) [] 0 ts
+unit k ts = externals k [] (length ts) [] 0 ts

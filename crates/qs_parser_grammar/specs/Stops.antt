@@ -3,7 +3,7 @@
 use Rattle.std.specs.Prelude.{ℕ, List, [], ◌∷◌, ◌<◌, if◌then◌else◌, Option, Some, None}
 use Rattle.std.specs.List.{list_any}
 use Rattle.qs_syntax_vocabulary.specs.declared.terminal.Terminal.{Terminal}
-use Rattle.qs_syntax_vocabulary.specs.declared.terminal.Terminal.TheVariants.{Name, Keyword, Constant, Text, Punctuator}
+use Rattle.qs_syntax_vocabulary.specs.declared.terminal.Terminal.TheVariants.{Name, TypeName, Keyword, Constant, Text, Punctuator}
 use Rattle.qs_syntax_vocabulary.specs.declared.punctuator.Punctuator as punctuator
 use Rattle.qs_syntax_vocabulary.specs.declared.punctuator.Punctuator.TheVariants as punctuators
 use Rattle.qs_syntax_vocabulary.specs.declared.operators.AssignmentOperator.{AssignmentOperator}
@@ -34,6 +34,7 @@ punctuator_precedence m = precedence_by m (binary_of m) (assign_of m)
 
 abbrev pub terminal_precedence : Terminal → ℕ
 terminal_precedence (Name at x) = no_precedence
+terminal_precedence (TypeName at x) = no_precedence
 terminal_precedence (Keyword at k) = no_precedence
 terminal_precedence (Constant at n unsigned) = no_precedence
 terminal_precedence (Text at bytes) = 0

@@ -9,7 +9,7 @@ use Rattle.qs_lexer.specs.Pieces.{Next, still_fresh}
 use Rattle.qs_lexer.specs.declared.pieces.Piece.TheVariants as pieces
 use Rattle.qs_syntax_vocabulary.specs.WellFormed.{is_well_formed}
 use Rattle.qs_syntax_vocabulary.specs.declared.terminal.Terminal.{Terminal}
-use Rattle.qs_syntax_vocabulary.specs.declared.terminal.Terminal.TheVariants.{Name, Keyword, Constant, Text, Punctuator}
+use Rattle.qs_syntax_vocabulary.specs.declared.terminal.Terminal.TheVariants.{Name, TypeName, Keyword, Constant, Text, Punctuator}
 use Rattle.qs_syntax_vocabulary.specs.declared.tokens.TokenKind.{TokenKind}
 use Rattle.qs_syntax_vocabulary.specs.declared.tokens.TokenKind.TheVariants as kinds
 use Rattle.qs_lexer.proofs.RestOfText.{LexesAs, Lexed, lexed, nothing_left, token_then, white_then}
@@ -24,6 +24,7 @@ use Rattle.qs_print.proofs.LexedWords.{is_gap, keyword_next, name_next}
 
 abbrev kind_of : Terminal → TokenKind
 kind_of (Name at x) = kinds.Name
+kind_of (TypeName at x) = kinds.Name
 kind_of (Keyword at keyword) = kinds.Keyword keyword
 kind_of (Constant at value unsigned) = kinds.Number value unsigned
 kind_of (Text at bytes) = kinds.Text
@@ -31,6 +32,7 @@ kind_of (Punctuator at punctuator) = kinds.Punctuator punctuator
 
 terminal_next : (fresh : Bool) (l : Terminal) (gap : ℕ) (rest : List ℕ) → is_well_formed l ≡ true → is_gap gap ≡ true → Next fresh (spelling l ++ gap ∷ rest) (pieces.Token (length (spelling l)) (kind_of l))
 terminal_next fresh (Name at x) gap rest h g = name_next fresh x gap rest h g
+terminal_next fresh (TypeName at x) gap rest h g = name_next fresh x gap rest h g
 terminal_next fresh (Keyword at keyword) gap rest h g = keyword_next fresh keyword gap rest g
 terminal_next fresh (Constant at value unsigned) gap rest h g = constant_next fresh value unsigned gap rest h g
 terminal_next fresh (Text at bytes) gap rest h g = text_next fresh bytes gap rest h
@@ -38,6 +40,7 @@ terminal_next fresh (Punctuator at punctuator) gap rest h g = punctuator_next fr
 
 terminal_back : (at : ℕ) (l : Terminal) → is_well_formed l ≡ true → terminal_of at (spelling l) (kind_of l) ≡ numbered at l
 terminal_back at (Name old x) f = refl
+terminal_back at (TypeName old x) f = refl
 terminal_back at (Keyword old keyword) f = refl
 terminal_back at (Constant old value unsigned) f = refl
 terminal_back at (Text old bytes) f = ap (Text at) (text_back bytes f)

@@ -1,10 +1,10 @@
 -- The numbers of tokens and nodes aren't printed: what a map over the nodes leaves is printed as before.
 use Rattle.std.proofs.Common.{◌≡◌, ℕ, Bool, true, false, List, [], ◌∷◌, Option, Some, None, flat_map, refl}
-use Rattle.qs_syntax.specs.Trees.{ExprTree, expr, ShapeTree, constant, text, name, unary, step, cast, sizeof_type, sizeof_expr, binary, assign, conditional, comma, subscript, member, call, Exprs, no_exprs, expr_and, LengthsTree, DeclaratorTree, InitialiserTree, value, list, Initialisers, no_initialisers, initialiser_and, VariableTree, DeclarationTree, ParameterTree, MembersTree, StartTree, no_start, start_expression, start_declaration, StmtTree, empty, expression, declaration, block, branch, while_loop, do_loop, for_loop, break, continue, return, Stmts, no_stmts, stmt_and, Else, no_else, else_by, StructTree, FunctionTree, DeclTree, structure, forward, function, variables}
-use Rattle.qs_syntax.specs.Nodes.{all_count, decl_count, declarator_count, expr_count, initialiser_count, members_count, option_count, parameter_count, start_count, stmt_count, variable_count}
-use Rattle.qs_syntax.specs.Numbering.{Relabelling, relabel_all, relabel_decl, relabel_declaration, relabel_declarator, relabel_else, relabel_expr, relabel_exprs, relabel_function, relabel_initialiser, relabel_initialisers, relabel_lengths, relabel_members, relabel_option, relabel_parameter, relabel_shape, relabel_start, relabel_stmt, relabel_stmts, relabel_struct, relabel_unit, relabel_variable}
+use Rattle.qs_syntax.specs.Trees.{ExprTree, expr, ShapeTree, constant, text, name, unary, step, cast, sizeof_type, sizeof_expr, binary, assign, conditional, comma, subscript, member, call, Exprs, no_exprs, expr_and, LengthsTree, DeclaratorTree, InitialiserTree, value, list, Initialisers, no_initialisers, initialiser_and, VariableTree, DeclarationTree, ParameterTree, MembersTree, StartTree, no_start, start_expression, start_declaration, StmtTree, empty, expression, declaration, block, branch, while_loop, do_loop, for_loop, break, continue, return, Stmts, no_stmts, stmt_and, Else, no_else, else_by, StructTree, FunctionTree, DefinedTree, of_struct, of_base, TypedefTree, DeclTree, structure, forward, function, variables, typedef}
+use Rattle.qs_syntax.specs.Nodes.{all_count, decl_count, declarator_count, defined_count, expr_count, initialiser_count, members_count, option_count, parameter_count, start_count, stmt_count, variable_count}
+use Rattle.qs_syntax.specs.Numbering.{Relabelling, relabel_all, relabel_decl, relabel_declaration, relabel_declarator, relabel_defined, relabel_else, relabel_expr, relabel_exprs, relabel_function, relabel_initialiser, relabel_initialisers, relabel_lengths, relabel_members, relabel_option, relabel_parameter, relabel_shape, relabel_start, relabel_stmt, relabel_stmts, relabel_struct, relabel_typedef, relabel_unit, relabel_variable}
 use Rattle.qs_print.specs.Levels.{assignment_level, conditional_level, level, shape_level}
-use Rattle.qs_print.specs.Printed.{behind_commas, further_arguments, further_initialisers, is_without_brackets, printed_arguments, printed_body, printed_decl, printed_declaration, printed_declarator, printed_else, printed_expr, printed_function, printed_initialiser, printed_initialisers, printed_length, printed_lengths, printed_members, printed_optional, printed_parameter, printed_parameters, printed_part, printed_setting, printed_shape, printed_start, printed_stmt, printed_stmts, printed_struct, printed_unit, printed_variable, with_commas}
+use Rattle.qs_print.specs.Printed.{behind_commas, further_arguments, further_initialisers, is_without_brackets, printed_arguments, printed_body, printed_braces, printed_decl, printed_declaration, printed_declarator, printed_defined, printed_else, printed_expr, printed_function, printed_initialiser, printed_initialisers, printed_length, printed_lengths, printed_members, printed_optional, printed_parameter, printed_parameters, printed_part, printed_setting, printed_shape, printed_start, printed_stmt, printed_stmts, printed_struct, printed_typedef, printed_unit, printed_variable, with_commas}
 use Rattle.qs_syntax_vocabulary.specs.declared.terminal.Terminal.{Terminal}
 
 module _ (f : Relabelling) {A : Type 0} (printed : A → List Terminal) (count : A → ℕ) (relabel : ℕ → A → A) (same : (n : ℕ) (x : A) → printed (relabel n x) ≡ printed x) where
@@ -175,6 +175,16 @@ module _ (f : Relabelling) where
   struct_same : (n : ℕ) (s : StructTree) → printed_struct (relabel_struct f n s) ≡ printed_struct s
   struct_same n s = rw (row_same f printed_members members_count (relabel_members f) members_same (f.onward n 1) s.members) refl
 
+  braces_same : (n : ℕ) (s : StructTree) → printed_braces (relabel_struct f n s) ≡ printed_braces s
+  braces_same n s = rw (row_same f printed_members members_count (relabel_members f) members_same (f.onward n 1) s.members) refl
+
+  defined_same : (n : ℕ) (d : DefinedTree) → printed_defined (relabel_defined f n d) ≡ printed_defined d
+  defined_same n (of_struct s) = braces_same n s
+  defined_same n (of_base base) = refl
+
+  typedef_same : (n : ℕ) (t : TypedefTree) → printed_typedef (relabel_typedef f n t) ≡ printed_typedef t
+  typedef_same n t = rw (defined_same n t.defined, commas_same f printed_declarator declarator_count (relabel_declarator f) declarator_same (f.onward n (defined_count t.defined)) t.names) refl
+
   body_same : (n : ℕ) (o : Option Stmts) → printed_body (relabel_option (relabel_stmts f) n o) ≡ printed_body o
   body_same n None = refl
   body_same n (Some ss) = rw (stmts_same n ss) refl
@@ -185,6 +195,7 @@ module _ (f : Relabelling) where
   decl_same : (n : ℕ) (d : DeclTree) → printed_decl (relabel_decl f n d) ≡ printed_decl d
   decl_same n (structure s) = struct_same n s
   decl_same n (forward d) = refl
+  decl_same n (typedef t) = typedef_same n t
   decl_same n (function d) = function_same n d
   decl_same n (variables d) = declaration_same n d
 

@@ -1,18 +1,19 @@
 -- Expressions that are read from terminals are printed as terminals.
-use Rattle.std.proofs.Common.{◌≡◌, ℕ, zero, suc, Bool, true, false, ◌&&◌, List, [], ◌++◌, nat_le, refl, sym, ◌∙◌}
+use Rattle.std.proofs.Common.{◌≡◌, ℕ, zero, suc, Bool, true, false, ◌&&◌, List, [], ◌∷◌, ◌++◌, nat_le, refl, sym, ◌∙◌}
 use Rattle.std.specs.List.{list_all}
 use Rattle.std.proofs.lemmas.List.Folds.{list_all-append}
 use Rattle.std.specs.Cmp.{first_so, second_so}
 use Rattle.qs_base.specs.Names.{is_name}
 use Rattle.qs_syntax_vocabulary.specs.WellFormed.{is_byte, is_well_formed}
 use Rattle.qs_syntax_vocabulary.specs.declared.terminal.Terminal.{Terminal}
+use Rattle.qs_syntax_vocabulary.specs.declared.terminal.Terminal.TheVariants.{Name}
 use Rattle.qs_syntax.specs.declared.types.Base.{Base}
 use Rattle.qs_syntax_vocabulary.specs.declared.operators.StepOperator.{StepOperator}
 use Rattle.qs_syntax_vocabulary.specs.declared.operators.StepOperator.TheVariants as steps
 use Rattle.qs_syntax.specs.declared.types.TypeName.{TypeName}
 use Rattle.qs_syntax.specs.Trees.{ExprTree, Exprs}
 use Rattle.qs_syntax.specs.Reads.{ReadsTexts, no_text, a_further_text, Reads, Form, a_name, an_empty_call, a_call, a_constant, a_text, in_parentheses, an_index, a_member, an_increment_after, a_decrement_after, a_postfix, an_increment, a_decrement, an_operator, a_size_of_type, a_size_of_value, a_cast, an_operand, stronger, an_operation, a_plain_level, a_choice, a_plain_conditional, an_assignment, a_plain_assignment, a_comma, ReadsArguments, a_last_argument, an_argument}
-use Rattle.qs_syntax.specs.ReadsTypes.{ReadsBase, a_void, an_int, a_char, an_unsigned, an_unsigned_int, an_unsigned_char, a_signed, a_signed_int, a_struct, ReadsType, a_type, ReadsOuterType, an_outer_type, ReadsTypeName, a_type_name}
+use Rattle.qs_syntax.specs.ReadsTypes.{ReadsBase, a_void, an_int, a_char, an_unsigned, an_unsigned_int, an_unsigned_char, a_signed, a_signed_int, a_struct, a_named_type, Names, ReadsName, a_plain_name, a_name_of_a_type, ReadsType, a_type, ReadsOuterType, an_outer_type, ReadsTypeName, a_type_name}
 use Rattle.qs_print.specs.Printed as printed
 use Rattle.qs_print.specs.Levels.{level}
 use Rattle.qs_print.specs.Printed.{printed_expr, printed_arguments, further_arguments, printed_base, printed_stars, printed_type_name, within, with_step, parentheses_unless}
@@ -34,6 +35,13 @@ right p xs ys h = second_so (list_all p xs) (list_all p ys) (sym (list_all-appen
 pub join : {A : Type 0} (p : A → Bool) (xs ys : List A) → list_all p xs ≡ true → list_all p ys ≡ true → list_all p (xs ++ ys) ≡ true
 join p xs ys h k = list_all-append p xs ys ∙ rw (h, k) refl
 
+-- ---- names
+
+-- a name of any kind is printed as a name
+pub name_are : {names : Names} {t : Terminal} {at : ℕ} {x : List ℕ} → ReadsName names t at x → (ts : List Terminal) → Are (t ∷ ts) → Are (Name 0 x ∷ ts)
+name_are (a_plain_name at x) ts h = h
+name_are (a_name_of_a_type at x) ts h = h
+
 -- ---- types
 
 pub stars_are : (n : ℕ) → Are (printed_stars n)
@@ -49,7 +57,8 @@ base_are (an_unsigned_int at bt) h = refl
 base_are (an_unsigned_char at bt) h = refl
 base_are (a_signed at) h = refl
 base_are (a_signed_int at bt) h = refl
-base_are (a_struct at bt x) h = h
+base_are (a_struct {x = x} at r) h = name_are r [] h
+base_are (a_named_type at x) h = h
 
 pub type_are : {ts : List Terminal} {base : Base} → ReadsType ts base → Are ts → Are (printed_base base)
 type_are (a_type {xs = xs} {ys = ys} {zs = zs} p b q) h = base_are b (left is_well_formed ys zs (right is_well_formed xs (ys ++ zs) h))
@@ -91,7 +100,7 @@ mutual
   expr_are (in_parentheses {ts = ts} o c r) h = expr_are r (left is_well_formed ts _ h)
   expr_are (an_index {xs = xs} {ys = ys} {a = a} {b = b} o c r s) h =
       join is_well_formed (within 0 a (printed_expr a)) _ (within_are 0 a (expr_are r (left is_well_formed xs _ h))) (join is_well_formed (printed_expr b) _ (expr_are s (left is_well_formed ys _ (right is_well_formed xs _ h))) refl)
-  expr_are (a_member {xs = xs} {a = a} access d n x r) h = join is_well_formed (within 0 a (printed_expr a)) _ (within_are 0 a (expr_are r (left is_well_formed xs _ h))) (right is_well_formed xs _ h)
+  expr_are (a_member {xs = xs} {a = a} access d r n) h = join is_well_formed (within 0 a (printed_expr a)) _ (within_are 0 a (expr_are r (left is_well_formed xs _ h))) (name_are n [] (right is_well_formed xs _ h))
   expr_are (an_increment_after {xs = xs} {a = a} s r) h = step_are steps.IncrementAfter (within 0 a (printed_expr a)) (within_are 0 a (expr_are r (left is_well_formed xs _ h)))
   expr_are (a_decrement_after {xs = xs} {a = a} s r) h = step_are steps.DecrementAfter (within 0 a (printed_expr a)) (within_are 0 a (expr_are r (left is_well_formed xs _ h)))
   expr_are (a_postfix r) h = expr_are r h

@@ -1,17 +1,23 @@
 -- Units that are read from terminals are printed as terminals.
-use Rattle.std.proofs.Common.{◌≡◌, ℕ, Bool, true, false, List, [], ◌∷◌, ◌++◌, Option, Some, None, flat_map, refl, ap, ◌∙◌}
+use Rattle.std.proofs.Common.{◌≡◌, ℕ, Bool, true, false, List, [], ◌∷◌, ◌++◌, Option, Some, None, flat_map, if◌then◌else◌, refl, ap, ◌∙◌}
 use Rattle.std.specs.List.{list_all}
 use Rattle.std.proofs.lemmas.List.Concat.{flat_map-cons}
+use Rattle.std.specs.Cmp.{first_so, second_so}
 use Rattle.qs_base.specs.Names.{is_name}
 use Rattle.qs_syntax_vocabulary.specs.WellFormed.{is_well_formed}
 use Rattle.qs_syntax_vocabulary.specs.declared.terminal.Terminal.{Terminal}
-use Rattle.qs_syntax.specs.Trees.{unnumbered, ExprTree, LengthsTree, DeclaratorTree, InitialiserTree, Initialisers, VariableTree, DeclarationTree, ParameterTree, MembersTree, StartTree, StmtTree, Stmts, DeclTree}
+use Rattle.qs_syntax.specs.Trees.{unnumbered, ExprTree, LengthsTree, DeclaratorTree, InitialiserTree, Initialisers, VariableTree, DeclarationTree, ParameterTree, MembersTree, DefinedTree, StartTree, StmtTree, Stmts, DeclTree}
 use Rattle.qs_syntax.specs.ReadsDeclarations.{ReadsGiven, no_length, a_length, ReadsLengths, are_given, first_open, ReadsDeclarator, a_declarator, ReadsInitialiser, a_value, a_list, ReadsInitialisers, a_last_initialiser, a_last_with_comma, an_initialiser, ReadsVariable, an_unset_variable, a_set_variable, ReadsVariables, a_last_variable, a_variable, ReadsDeclaration, a_declaration, ReadsOuterDeclaration, an_outer_declaration, ReadsDeclarators, a_last_member, a_member, ReadsMembers, a_group, ReadsAllMembers, a_last_group, a_further_group, ReadsParameter, a_named_parameter, an_unnamed_parameter, ReadsParameters, a_last_parameter, a_parameter, ReadsHead, no_parameter, a_void_head, some_parameters}
 use Rattle.qs_syntax.specs.ReadsStatements.{ReadsOptional, nothing_there, something_there, ReadsStart, a_start_declaration, a_start_expression, no_start_at_all, ReadsStatement, a_block, an_empty, an_expression, an_if, an_if_with_else, a_while, a_do, a_for, a_break, a_continue, a_return, ReadsItem, a_statement, a_declared, ReadsItems, no_item, an_item}
-use Rattle.qs_syntax.specs.ReadsUnits.{ReadsExternal, a_struct_with_members, a_forward, a_header, a_definition, some_variables, ReadsUnit, a_last_external, an_external}
+use Rattle.qs_syntax.specs.ReadsUnits.{ReadsPlain, a_struct_with_members, a_forward, a_header, a_definition, some_variables, ReadsDefined, a_struct_with_tag, a_struct_without_tag, a_known_type, ReadsTypeNames, a_last_name, a_name_before, ReadsExternal, a_plain_external, a_typedef, ReadsExternals, a_last_external, an_external}
+use Rattle.qs_syntax.specs.ReadsTypes.{Names, Any, ReadsName}
+use Rattle.qs_syntax_vocabulary.specs.Marks.{NameSet, mark, marked, is_in}
+use Rattle.qs_syntax_vocabulary.specs.declared.terminal.Terminal.TheVariants as terminals
 use Rattle.qs_syntax.specs.Reads.{place}
-use Rattle.qs_print.specs.Printed.{behind_commas, with_commas, const_if, further_initialisers, in_parentheses, is_void_alone, printed_base, printed_decl, printed_declaration, printed_declarator, printed_expr, printed_initialiser, printed_initialisers, printed_length, printed_lengths, printed_members, printed_name, printed_optional, printed_parameter, printed_parameters, printed_stars, printed_start, printed_stmt, printed_stmts, printed_unit, printed_variable, within}
-use Rattle.qs_print.proofs.PrintedTerminals.{Are, keep, left, right, join, stars_are, type_are, outer_type_are, within_are, expr_are}
+use Rattle.qs_print.specs.Printed.{behind_commas, with_commas, const_if, further_initialisers, in_parentheses, is_void_alone, printed_base, printed_decl, printed_declaration, printed_declarator, printed_defined, printed_expr, printed_initialiser, printed_initialisers, printed_length, printed_lengths, printed_members, printed_name, printed_optional, printed_parameter, printed_parameters, printed_stars, printed_start, printed_stmt, printed_stmts, printed_unit, printed_variable, within}
+use Rattle.qs_syntax_vocabulary.specs.declared.terminal.Terminal.TheVariants.{Name, Punctuator}
+use Rattle.qs_syntax_vocabulary.specs.declared.punctuator.Punctuator.TheVariants as punctuators
+use Rattle.qs_print.proofs.PrintedTerminals.{Are, keep, left, right, join, stars_are, name_are, type_are, outer_type_are, within_are, expr_are}
 
 -- ---- lists
 
@@ -36,8 +42,8 @@ lengths_are : {n : ℕ} {ts : List Terminal} {lengths : LengthsTree} → ReadsLe
 lengths_are (are_given r) h = given_are r h
 lengths_are (first_open o c r) h = given_are r h
 
-declarator_are : {n : ℕ} {ts : List Terminal} {d : DeclaratorTree} → ReadsDeclarator n ts d → Are ts → Are (printed_declarator d)
-declarator_are (a_declarator {n = n} {xs = xs} at x s l) h = join is_well_formed (printed_stars n) _ (stars_are n) (keep (is_name x) _ _ (right is_well_formed xs _ h) (λ k. lengths_are l k))
+declarator_are : {names : Names} {n : ℕ} {ts : List Terminal} {d : DeclaratorTree} → ReadsDeclarator names n ts d → Are ts → Are (printed_declarator d)
+declarator_are (a_declarator {n = n} {xs = xs} {ys = ys} {x = x} s named l) h = join is_well_formed (printed_stars n) _ (stars_are n) (keep (is_name x) _ _ (name_are named ys (right is_well_formed xs _ h)) (λ k. lengths_are l k))
 
 mutual
   initialiser_are : {n : ℕ} {ts : List Terminal} {i : InitialiserTree} → ReadsInitialiser n ts i → Are ts → Are (printed_initialiser i)
@@ -159,21 +165,62 @@ mutual
 
 -- ---- what stands at file scope
 
-external_are : {n : ℕ} {ts : List Terminal} {d : DeclTree} → ReadsExternal n ts d → Are ts → Are (printed_decl d)
-external_are (a_struct_with_members {ts = ts} {ms = ms} at n o c s x r) h = keep (is_name x) _ _ h (λ k. join is_well_formed (flat_map printed_members ms) _ (all_members_are r (left is_well_formed ts _ k)) refl)
-external_are (a_forward at n s x) h = h
-external_are (a_header {m = m} {xs = xs} {ys = ys} {zs = zs} {base = base} {ps = ps} n o c s x t st p) h =
+-- a struct up to the brace behind its members
+tagged_are : {n : ℕ} {t : Terminal} {at : ℕ} {x : List ℕ} {ts : List Terminal} {ms : List MembersTree} (after : List Terminal) → ReadsName Any t at x → ReadsAllMembers n ts ms → (us : List Terminal) → Are (t ∷ (ts ++ us)) → Are after → Are (Name 0 x ∷ ((flat_map printed_members ms ++ Punctuator 0 punctuators.CloseBrace ∷ []) ++ after))
+tagged_are {x = x} {ts = ts} {ms = ms} after named r us h a =
+    keep (is_name x) _ _ (name_are named (ts ++ us) h) (λ k. join is_well_formed (flat_map printed_members ms ++ Punctuator 0 punctuators.CloseBrace ∷ []) after (join is_well_formed (flat_map printed_members ms) _ (all_members_are r (left is_well_formed ts us k)) refl) a)
+
+plain_are : {n : ℕ} {ts : List Terminal} {d : DeclTree} → ReadsPlain n ts d → Are ts → Are (printed_decl d)
+plain_are (a_struct_with_members {ts = ts} at o c s named r) h = tagged_are (Punctuator 0 punctuators.Semicolon ∷ []) named r _ h refl
+plain_are (a_forward at s named) h = name_are named [] h
+plain_are (a_header {m = m} {xs = xs} {ys = ys} {zs = zs} {base = base} {ps = ps} n o c s x t st p) h =
     join is_well_formed (printed_base base) _ (outer_type_are t (left is_well_formed xs _ h))
     (join is_well_formed (printed_stars m) _ (stars_are m)
     (keep (is_name x) _ _ (right is_well_formed ys _ (right is_well_formed xs _ h)) (λ k. parentheses_are (printed_parameters ps) _ (head_are p (left is_well_formed zs _ k)) refl)))
-external_are (a_definition {m = m} {xs = xs} {ys = ys} {zs = zs} {ws = ws} {base = base} {ps = ps} {ss = ss} n o c b e x t st p r) h =
+plain_are (a_definition {m = m} {xs = xs} {ys = ys} {zs = zs} {ws = ws} {base = base} {ps = ps} {ss = ss} n o c b e x t st p r) h =
     join is_well_formed (printed_base base) _ (outer_type_are t (left is_well_formed xs _ h))
     (join is_well_formed (printed_stars m) _ (stars_are m)
     (keep (is_name x) _ _ (right is_well_formed ys _ (right is_well_formed xs _ h)) (λ k. parentheses_are (printed_parameters ps) _ (head_are p (left is_well_formed zs _ k))
     (join is_well_formed (printed_stmts ss) _ (items_are r (left is_well_formed ws _ (right is_well_formed zs _ k))) refl))))
-external_are (some_variables r) h = outer_declaration_are r h
+plain_are (some_variables r) h = outer_declaration_are r h
+
+defined_are : {n : ℕ} {ts : List Terminal} {d : DefinedTree} → ReadsDefined n ts d → Are ts → Are (printed_defined d)
+defined_are (a_struct_with_tag {ts = ts} {x = x} {ms = ms} at o c named r) h =
+    let close : List Terminal = Punctuator c punctuators.CloseBrace ∷ [] in
+    keep (is_name x) _ _ (name_are named (Punctuator o punctuators.OpenBrace ∷ (ts ++ close)) h) (λ k. join is_well_formed (flat_map printed_members ms) _ (all_members_are r (left is_well_formed ts close k)) refl)
+defined_are (a_struct_without_tag {ts = ts} {ms = ms} at o c r) h = join is_well_formed (flat_map printed_members ms) _ (all_members_are r (left is_well_formed ts _ h)) refl
+defined_are (a_known_type t) h = type_are t h
+
+-- ---- where names are marked
+
+token_are : (at : ℕ) (x : List ℕ) (b : Bool) → is_name x ≡ true → is_well_formed (if b then terminals.TypeName at x else Name at x) ≡ true
+token_are at x true h = h
+token_are at x false h = h
+
+mark_are : (set : NameSet) (t : Terminal) → is_well_formed t ≡ true → is_well_formed (mark set t) ≡ true
+mark_are set (terminals.Name at x) h = token_are at x (is_in set x) h
+mark_are set (terminals.TypeName at x) h = token_are at x (is_in set x) h
+mark_are set (terminals.Keyword at keyword) h = h
+mark_are set (terminals.Constant at value unsigned) h = h
+mark_are set (terminals.Text at bytes) h = h
+mark_are set (terminals.Punctuator at punctuator) h = h
+
+-- marks leave them well formed
+marked_are : (set : NameSet) (ts : List Terminal) → Are ts → Are (marked set ts)
+marked_are set [] h = refl
+marked_are set (t ∷ ts) h = rw (mark_are set t (first_so (is_well_formed t) (list_all is_well_formed ts) h), marked_are set ts (second_so (is_well_formed t) (list_all is_well_formed ts) h)) refl
+
+names_are : {set : NameSet} {n : ℕ} {ts : List Terminal} {ds : List DeclaratorTree} → ReadsTypeNames set n ts ds → Are ts → Are (behind_commas printed_declarator ds)
+names_are {set} (a_last_name {ts = ts} {d = d} r) h = join is_well_formed (printed_declarator d) [] (declarator_are r (marked_are set ts h)) refl
+names_are {set} (a_name_before {d = d} {ds = ds} xs at r s) h = join is_well_formed (printed_declarator d) (behind_commas printed_declarator ds) (declarator_are r (marked_are set xs (left is_well_formed xs _ h))) (names_are s (right is_well_formed xs _ h))
+
+external_are : {set : NameSet} {n : ℕ} {ts : List Terminal} {d : DeclTree} → ReadsExternal set n ts d → Are ts → Are (printed_decl d)
+external_are {set} (a_plain_external {ts = ts} r) h = plain_are r (marked_are set ts h)
+external_are {set} (a_typedef {ys = ys} {defined = defined} {ds = ds} xs at s r names) h =
+    join is_well_formed (printed_defined defined) _ (defined_are r (marked_are set xs (left is_well_formed xs _ h)))
+    (join is_well_formed (with_commas printed_declarator ds) _ (without_comma printed_declarator ds (names_are names (left is_well_formed ys _ (right is_well_formed xs _ h)))) refl)
 
 -- a unit that is read from terminals is printed as terminals
-pub printed_are_well_formed : {n : ℕ} {ts : List Terminal} {ds : List DeclTree} → ReadsUnit n ts ds → list_all is_well_formed ts ≡ true → list_all is_well_formed (printed_unit ds) ≡ true
+pub printed_are_well_formed : {set : NameSet} {n : ℕ} {ts : List Terminal} {ds : List DeclTree} → ReadsExternals set n ts ds → list_all is_well_formed ts ≡ true → list_all is_well_formed (printed_unit ds) ≡ true
 printed_are_well_formed (a_last_external {d = d} r) h = more_are printed_decl d [] (external_are r h) refl
 printed_are_well_formed (an_external {xs = xs} {d = d} {ds = ds} r s) h = more_are printed_decl d ds (external_are r (left is_well_formed xs _ h)) (printed_are_well_formed s (right is_well_formed xs _ h))

@@ -15,13 +15,13 @@ use Rattle.qs_print.proofs.LexedJoined.{lexed_back}
 use Rattle.qs_print.proofs.PrintedTerminalsOfUnits.{printed_are_well_formed}
 use Rattle.qs_print.proofs.PrintedRelabelled.{unit_same}
 use Rattle.qs_print.proofs.Rereading.{Again}
-use Rattle.qs_print.proofs.RereadUnits.{unit_law}
+use Rattle.qs_print.proofs.RereadUnits.{externals_law}
 
 reading_back : (text : List ℕ) (ds : List DeclTree) → text ≡ joined (printed_unit ds) → Reading ds → ReadsBack text ds
 reading_back text ds e r =
     let us : List DeclTree = r.unnumbered in
     let lexed : LexedBack (printed_unit us) = lexed_back (printed_unit us) (printed_are_well_formed r.reads r.are_tokens) in
-    let again : Again ReadsUnit without_tokens r.height (renumbered 0 (printed_unit us)) us = (unit_law r.reads).from 0 in
+    let again : Again ReadsUnit without_tokens r.height (renumbered 0 (printed_unit us)) us = externals_law r.reads 0 in
     let printed : text ≡ joined (printed_unit us) = e ∙ ap (λ xs. joined (printed_unit xs)) r.are_numbered ∙ ap joined (unit_same numbered us) in
     rw printed (record {
       tokens = lexed.tokens;

@@ -10,7 +10,7 @@ use Rattle.qs_syntax.specs.declared.types.Base.{Base}
 use Rattle.qs_syntax.specs.declared.types.Base.TheVariants as bases
 use Rattle.qs_syntax.specs.declared.types.TypeName.{TypeName}
 use Rattle.qs_syntax_vocabulary.specs.declared.operators.StepOperator.{StepOperator}
-use Rattle.qs_syntax.specs.Trees.{ExprTree, expr, ShapeTree, constant, text, name, unary, step, cast, sizeof_type, sizeof_expr, binary, assign, conditional, comma, subscript, member, call, Exprs, no_exprs, expr_and, LengthsTree, DeclaratorTree, InitialiserTree, value, list, Initialisers, no_initialisers, initialiser_and, VariableTree, DeclarationTree, ParameterTree, MembersTree, StartTree, no_start, start_expression, start_declaration, StmtTree, empty, expression, declaration, block, branch, while_loop, do_loop, for_loop, break, continue, return, Stmts, no_stmts, stmt_and, Else, no_else, else_by, StructTree, ForwardTree, FunctionTree, DeclTree, structure, forward, function, variables}
+use Rattle.qs_syntax.specs.Trees.{ExprTree, expr, ShapeTree, constant, text, name, unary, step, cast, sizeof_type, sizeof_expr, binary, assign, conditional, comma, subscript, member, call, Exprs, no_exprs, expr_and, LengthsTree, DeclaratorTree, InitialiserTree, value, list, Initialisers, no_initialisers, initialiser_and, VariableTree, DeclarationTree, ParameterTree, MembersTree, StartTree, no_start, start_expression, start_declaration, StmtTree, empty, expression, declaration, block, branch, while_loop, do_loop, for_loop, break, continue, return, Stmts, no_stmts, stmt_and, Else, no_else, else_by, StructTree, ForwardTree, FunctionTree, DefinedTree, of_struct, of_base, TypedefTree, DeclTree, structure, forward, function, variables, typedef}
 use Rattle.qs_syntax_vocabulary.specs.Operators.{precedence, punctuator_of_access, punctuator_of_assign, punctuator_of_binary, punctuator_of_step, punctuator_of_unary, stands_before}
 use Rattle.qs_print.specs.Levels.{assignment_level, cast_level, conditional_level, level, or_level, postfix_level, step_level, unary_level}
 
@@ -38,6 +38,7 @@ printed_base bases.Int = Keyword 0 keywords.Int ∷ []
 printed_base bases.Unsigned = Keyword 0 keywords.Unsigned ∷ []
 printed_base bases.Char = Keyword 0 keywords.Char ∷ []
 printed_base (bases.Struct x) = Keyword 0 keywords.Struct ∷ Name 0 x ∷ []
+printed_base (bases.Named x) = Name 0 x ∷ []
 
 abbrev pub printed_stars : ℕ → List Terminal
 printed_stars zero = []
@@ -150,6 +151,7 @@ is_void bases.Int = false
 is_void bases.Unsigned = false
 is_void bases.Char = false
 is_void (bases.Struct x) = false
+is_void (bases.Named x) = false
 
 abbrev pub is_nameless : Option (List ℕ) → Bool
 is_nameless None = true
@@ -221,9 +223,12 @@ abbrev mutual
 
 -- ---- what stands at file scope (6.9)
 
+-- a struct up to the brace behind its members
+abbrev pub printed_braces : StructTree → List Terminal
+printed_braces s = Keyword 0 keywords.Struct ∷ (printed_name s.name ++ Punctuator 0 punctuators.OpenBrace ∷ (flat_map printed_members s.members ++ Punctuator 0 punctuators.CloseBrace ∷ []))
+
 abbrev pub printed_struct : StructTree → List Terminal
-printed_struct s =
-    Keyword 0 keywords.Struct ∷ Name 0 s.name ∷ Punctuator 0 punctuators.OpenBrace ∷ (flat_map printed_members s.members ++ Punctuator 0 punctuators.CloseBrace ∷ Punctuator 0 punctuators.Semicolon ∷ [])
+printed_struct s = printed_braces s ++ Punctuator 0 punctuators.Semicolon ∷ []
 
 abbrev pub printed_forward : ForwardTree → List Terminal
 printed_forward f = Keyword 0 keywords.Struct ∷ Name 0 f.name ∷ Punctuator 0 punctuators.Semicolon ∷ []
@@ -236,11 +241,20 @@ abbrev pub printed_function : FunctionTree → List Terminal
 printed_function f =
     printed_base f.result_type.base ++ (printed_stars f.result_type.stars ++ Name 0 f.name ∷ (in_parentheses (printed_parameters f.parameters) ++ printed_body f.body))
 
+-- what a typedef gives names to
+abbrev pub printed_defined : DefinedTree → List Terminal
+printed_defined (of_struct s) = printed_braces s
+printed_defined (of_base base) = printed_base base
+
+abbrev pub printed_typedef : TypedefTree → List Terminal
+printed_typedef t = Keyword 0 keywords.Typedef ∷ (printed_defined t.defined ++ (with_commas printed_declarator t.names ++ Punctuator 0 punctuators.Semicolon ∷ []))
+
 abbrev pub printed_decl : DeclTree → List Terminal
 printed_decl (structure s) = printed_struct s
 printed_decl (forward f) = printed_forward f
 printed_decl (function f) = printed_function f
 printed_decl (variables d) = printed_declaration d
+printed_decl (typedef t) = printed_typedef t
 
 abbrev pub printed_unit : List DeclTree → List Terminal
 printed_unit ds = flat_map printed_decl ds

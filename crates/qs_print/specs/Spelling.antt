@@ -18,6 +18,7 @@ octal byte = backslash ∷ (digit_zero + byte / 64) ∷ (digit_zero + byte / 8 %
 
 abbrev pub spelling : Terminal → List ℕ
 spelling (terminals.Name at x) = x
+spelling (terminals.TypeName at x) = x
 spelling (terminals.Keyword at keyword) = keyword_spelling keyword
 spelling (terminals.Constant at n unsigned) = decimal n ++ suffix unsigned
 spelling (terminals.Text at bytes) = double_quote ∷ (flat_map octal bytes ++ double_quote ∷ [])

@@ -131,7 +131,8 @@ pub fn put_declaration(out: &mut Vec<u8>, d: &Declaration) -> Result<(), NoMemor
     put_punctuator(out, Punctuator::Semicolon)
 }
 
-fn put_declarators(out: &mut Vec<u8>, declarators: &[Declarator]) -> Result<(), NoMemory>
+/// Writes declarators with commas between.
+pub fn put_declarators(out: &mut Vec<u8>, declarators: &[Declarator]) -> Result<(), NoMemory>
     ensures { OnOk result (Puts out.old (declarator_row declarators.now) out.new) }
 {
     let mut is_first = true;
@@ -172,7 +173,8 @@ fn put_const_if(out: &mut Vec<u8>, is_const: bool) -> Result<(), NoMemory>
     }
 }
 
-fn put_optional_name(out: &mut Vec<u8>, name: &Option<Name>) -> Result<(), NoMemory>
+/// Writes a name where there is one.
+pub fn put_optional_name(out: &mut Vec<u8>, name: &Option<Name>) -> Result<(), NoMemory>
     ensures { OnOk result (Puts out.old (printed_name name.now) out.new) }
 {
     match name {

@@ -21,6 +21,7 @@ pub fn put_base(out: &mut Vec<u8>, base: &Base) -> Result<(), NoMemory>
             put_keyword(out, Keyword::Struct)?;
             put_name(out, name)
         }
+        Base::Named(name) => put_name(out, name),
     }
 }
 

@@ -1,21 +1,24 @@
 // Writes whole units (C11 6.9).
 ghost use Rattle.std.specs.Prelude.{◌≡◌, IfOk, OnOk, map};
-ghost use Rattle.qs_print.specs.Printed.{printed_body, printed_decl, printed_forward};
-ghost use Rattle.qs_print.specs.Printed.{printed_function, printed_struct, printed_unit};
+ghost use Rattle.qs_print.specs.Printed.{printed_body, printed_braces, printed_decl};
+ghost use Rattle.qs_print.specs.Printed.{printed_defined, printed_forward, printed_function};
+ghost use Rattle.qs_print.specs.Printed.{printed_struct, printed_typedef, printed_unit};
 ghost use Rattle.qs_print.specs.ReadsBack.{ReadsBack};
 ghost use Rattle.qs_print.specs.Words.{Puts};
 ghost use Rattle.qs_print.specs.Spelling.{joined};
 ghost use Rattle.qs_syntax.specs.TreeOf.{decl_tree, forward_tree, function_tree, struct_tree};
-ghost use Rattle.qs_syntax.specs.TreeOf.{body_tree};
+ghost use Rattle.qs_syntax.specs.TreeOf.{body_tree, defined_tree, typedef_tree};
 ghost use Rattle.qs_syntax.specs.UnitTrees.{unit_tree};
 ghost use Rattle.qs_print.specs.Rows.{member_row};
 
-use crate::declarations::{put_declaration, put_members, put_parameters};
+use crate::declarations::{
+    put_declaration, put_declarators, put_members, put_optional_name, put_parameters,
+};
 use crate::statements::put_block;
 use crate::types::{put_base, put_stars};
 use crate::words::{put_keyword, put_name, put_punctuator};
 use qs_base::NoMemory;
-use qs_syntax::{Decl, Forward, Function, Members, Stmt, Struct, Unit};
+use qs_syntax::{Decl, Defined, Forward, Function, Members, Stmt, Struct, Typedef, Unit};
 use qs_syntax_vocabulary::{Keyword, Punctuator};
 use std::alloc::Global;
 
@@ -28,14 +31,21 @@ fn put_all_members(out: &mut Vec<u8>, members: &[Members]) -> Result<(), NoMemor
     Ok(())
 }
 
+/// Writes a struct up to the brace behind its members.
+fn put_braces(out: &mut Vec<u8>, s: &Struct) -> Result<(), NoMemory>
+    ensures { OnOk result (Puts out.old (printed_braces (struct_tree s.now)) out.new) }
+{
+    put_keyword(out, Keyword::Struct)?;
+    put_optional_name(out, &s.name)?;
+    put_punctuator(out, Punctuator::OpenBrace)?;
+    put_all_members(out, &s.members)?;
+    put_punctuator(out, Punctuator::CloseBrace)
+}
+
 fn put_struct(out: &mut Vec<u8>, s: &Struct) -> Result<(), NoMemory>
     ensures { OnOk result (Puts out.old (printed_struct (struct_tree s.now)) out.new) }
 {
-    put_keyword(out, Keyword::Struct)?;
-    put_name(out, &s.name)?;
-    put_punctuator(out, Punctuator::OpenBrace)?;
-    put_all_members(out, &s.members)?;
-    put_punctuator(out, Punctuator::CloseBrace)?;
+    put_braces(out, s)?;
     put_punctuator(out, Punctuator::Semicolon)
 }
 
@@ -68,6 +78,24 @@ fn put_function(out: &mut Vec<u8>, f: &Function) -> Result<(), NoMemory>
     put_body(out, &f.body)
 }
 
+fn put_defined(out: &mut Vec<u8>, defined: &Defined) -> Result<(), NoMemory>
+    ensures { OnOk result (Puts out.old (printed_defined (defined_tree defined.now)) out.new) }
+{
+    match defined {
+        Defined::Struct(s) => put_braces(out, s),
+        Defined::Base(base) => put_base(out, base),
+    }
+}
+
+fn put_typedef(out: &mut Vec<u8>, t: &Typedef) -> Result<(), NoMemory>
+    ensures { OnOk result (Puts out.old (printed_typedef (typedef_tree t.now)) out.new) }
+{
+    put_keyword(out, Keyword::Typedef)?;
+    put_defined(out, &t.defined)?;
+    put_declarators(out, &t.names)?;
+    put_punctuator(out, Punctuator::Semicolon)
+}
+
 fn put_decl(out: &mut Vec<u8>, d: &Decl) -> Result<(), NoMemory>
     ensures { OnOk result (Puts out.old (printed_decl (decl_tree d.now)) out.new) }
 {
@@ -76,6 +104,7 @@ fn put_decl(out: &mut Vec<u8>, d: &Decl) -> Result<(), NoMemory>
         Decl::Forward(f) => put_forward(out, f),
         Decl::Function(f) => put_function(out, f),
         Decl::Variable(d) => put_declaration(out, d),
+        Decl::Typedef(t) => put_typedef(out, t),
     }
 }
 

@@ -3,9 +3,9 @@ use Rattle.std.proofs.Common.{◌≡◌, ℕ, ◌+◌, zero, suc, List, [], ◌�
 use Rattle.std.specs.List.{slice_get}
 use Rattle.std.proofs.lemmas.List.{map-append, length-append}
 use Rattle.qs_syntax.specs.declared.nodes.Node.{Node}
-use Rattle.qs_syntax.specs.Trees.{ExprTree, expr, ShapeTree, constant, text, name, unary, step, cast, sizeof_type, sizeof_expr, binary, assign, conditional, comma, subscript, member, call, Exprs, no_exprs, expr_and, LengthsTree, DeclaratorTree, InitialiserTree, value, list, Initialisers, no_initialisers, initialiser_and, VariableTree, DeclarationTree, ParameterTree, MembersTree, StartTree, no_start, start_expression, start_declaration, StmtTree, empty, expression, declaration, block, branch, while_loop, do_loop, for_loop, break, continue, return, Stmts, no_stmts, stmt_and, Else, no_else, else_by, StructTree, FunctionTree, DeclTree, structure, forward, function, variables, UnitTree}
-use Rattle.qs_syntax.specs.Nodes.{tokens_of, all_count, option_count, expr_count, shape_count, exprs_count, lengths_count, declarator_count, initialiser_count, initialisers_count, variable_count, declaration_count, parameter_count, members_count, start_count, stmt_count, stmts_count, else_count, struct_count, function_count, decl_count, unit_count, all_nodes, option_nodes, expr_nodes, shape_nodes, exprs_nodes, lengths_nodes, declarator_nodes, initialiser_nodes, initialisers_nodes, variable_nodes, declaration_nodes, parameter_nodes, members_nodes, start_nodes, stmt_nodes, stmts_nodes, else_nodes, struct_nodes, function_nodes, decl_nodes, unit_nodes}
-use Rattle.qs_syntax.specs.Numbering.{relabel_nodes, relabel_all, relabel_option, relabel_expr, relabel_shape, relabel_exprs, relabel_lengths, relabel_declarator, relabel_initialiser, relabel_initialisers, relabel_variable, relabel_declaration, relabel_parameter, relabel_members, relabel_start, relabel_stmt, relabel_stmts, relabel_else, relabel_decl, numbered, numbered_unit}
+use Rattle.qs_syntax.specs.Trees.{ExprTree, expr, ShapeTree, constant, text, name, unary, step, cast, sizeof_type, sizeof_expr, binary, assign, conditional, comma, subscript, member, call, Exprs, no_exprs, expr_and, LengthsTree, DeclaratorTree, InitialiserTree, value, list, Initialisers, no_initialisers, initialiser_and, VariableTree, DeclarationTree, ParameterTree, MembersTree, StartTree, no_start, start_expression, start_declaration, StmtTree, empty, expression, declaration, block, branch, while_loop, do_loop, for_loop, break, continue, return, Stmts, no_stmts, stmt_and, Else, no_else, else_by, StructTree, DefinedTree, of_struct, of_base, TypedefTree, FunctionTree, DeclTree, structure, forward, typedef, function, variables, UnitTree}
+use Rattle.qs_syntax.specs.Nodes.{tokens_of, all_count, option_count, expr_count, shape_count, exprs_count, lengths_count, declarator_count, initialiser_count, initialisers_count, variable_count, declaration_count, parameter_count, members_count, start_count, stmt_count, stmts_count, else_count, struct_count, defined_count, typedef_count, function_count, decl_count, unit_count, all_nodes, option_nodes, expr_nodes, shape_nodes, exprs_nodes, lengths_nodes, declarator_nodes, initialiser_nodes, initialisers_nodes, variable_nodes, declaration_nodes, parameter_nodes, members_nodes, start_nodes, stmt_nodes, stmts_nodes, else_nodes, struct_nodes, defined_nodes, typedef_nodes, function_nodes, decl_nodes, unit_nodes}
+use Rattle.qs_syntax.specs.Numbering.{relabel_nodes, relabel_all, relabel_option, relabel_expr, relabel_shape, relabel_exprs, relabel_lengths, relabel_declarator, relabel_initialiser, relabel_initialisers, relabel_variable, relabel_declaration, relabel_parameter, relabel_members, relabel_start, relabel_stmt, relabel_stmts, relabel_else, relabel_struct, relabel_defined, relabel_typedef, relabel_decl, numbered, numbered_unit}
 
 -- ---- tokens
 
@@ -141,6 +141,14 @@ mutual
 struct_length : (s : StructTree) → length (struct_nodes s) ≡ struct_count s
 struct_length s = one_node s.node (all_nodes members_nodes s.members) (all_count members_count s.members) (all_length members_count members_nodes members_length s.members)
 
+defined_length : (d : DefinedTree) → length (defined_nodes d) ≡ defined_count d
+defined_length (of_struct s) = struct_length s
+defined_length (of_base b) = refl
+
+typedef_length : (t : TypedefTree) → length (typedef_nodes t) ≡ typedef_count t
+typedef_length t =
+    two_parts (defined_nodes t.defined) (all_nodes declarator_nodes t.names) (defined_count t.defined) (all_count declarator_count t.names) (defined_length t.defined) (all_length declarator_count declarator_nodes declarator_length t.names)
+
 function_length : (f : FunctionTree) → length (function_nodes f) ≡ function_count f
 function_length f =
     node_two f.node (all_nodes parameter_nodes f.parameters) (option_nodes stmts_nodes f.body) (all_count parameter_count f.parameters) (option_count stmts_count f.body)
@@ -149,6 +157,7 @@ function_length f =
 decl_length : (d : DeclTree) → length (decl_nodes d) ≡ decl_count d
 decl_length (structure s) = struct_length s
 decl_length (forward f) = refl
+decl_length (typedef t) = typedef_length t
 decl_length (function f) = function_length f
 decl_length (variables d) = declaration_length d
 
@@ -275,9 +284,22 @@ mutual
   else_at n no_else = refl
   else_at n (else_by s) = stmt_at n s
 
+struct_at : (n : ℕ) (s : StructTree) → struct_nodes (relabel_struct numbered n s) ≡ relabel_nodes numbered n (struct_nodes s)
+struct_at n s = ap (λ l. numbered.label n s.node ∷ l) (all_at members_count members_nodes (relabel_members numbered) members_length members_at (n + 1) s.members)
+
+defined_at : (n : ℕ) (d : DefinedTree) → defined_nodes (relabel_defined numbered n d) ≡ relabel_nodes numbered n (defined_nodes d)
+defined_at n (of_struct s) = struct_at n s
+defined_at n (of_base b) = refl
+
+typedef_at : (n : ℕ) (t : TypedefTree) → typedef_nodes (relabel_typedef numbered n t) ≡ relabel_nodes numbered n (typedef_nodes t)
+typedef_at n t =
+    both_at n (defined_count t.defined) (defined_nodes t.defined) (all_nodes declarator_nodes t.names) _ _ (defined_length t.defined) (defined_at n t.defined)
+    (all_at declarator_count declarator_nodes (relabel_declarator numbered) declarator_length declarator_at (n + defined_count t.defined) t.names)
+
 decl_at : (n : ℕ) (d : DeclTree) → decl_nodes (relabel_decl numbered n d) ≡ relabel_nodes numbered n (decl_nodes d)
-decl_at n (structure s) = ap (λ l. numbered.label n s.node ∷ l) (all_at members_count members_nodes (relabel_members numbered) members_length members_at (n + 1) s.members)
+decl_at n (structure s) = struct_at n s
 decl_at n (forward f) = refl
+decl_at n (typedef t) = typedef_at n t
 decl_at n (function f) =
     ap (λ l. numbered.label n f.node ∷ l)
     (both_at (n + 1) (all_count parameter_count f.parameters) (all_nodes parameter_nodes f.parameters) (option_nodes stmts_nodes f.body) _ _ (all_length parameter_count parameter_nodes parameter_length f.parameters)

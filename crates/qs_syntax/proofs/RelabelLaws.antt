@@ -1,9 +1,9 @@
 -- A map over the nodes of a tree keeps their count, and one such map behind another is one map.
 use Rattle.std.proofs.Common.{◌≡◌, ℕ, ◌+◌, List, [], ◌∷◌, Option, Some, None, refl, ap}
 use Rattle.qs_syntax.specs.declared.nodes.Node.{Node}
-use Rattle.qs_syntax.specs.Trees.{ExprTree, expr, ShapeTree, constant, text, name, unary, step, cast, sizeof_type, sizeof_expr, binary, assign, conditional, comma, subscript, member, call, Exprs, no_exprs, expr_and, LengthsTree, DeclaratorTree, InitialiserTree, value, list, Initialisers, no_initialisers, initialiser_and, VariableTree, DeclarationTree, ParameterTree, MembersTree, StartTree, no_start, start_expression, start_declaration, StmtTree, empty, expression, declaration, block, branch, while_loop, do_loop, for_loop, break, continue, return, Stmts, no_stmts, stmt_and, Else, no_else, else_by, StructTree, FunctionTree, DeclTree, structure, forward, function, variables, UnitTree}
-use Rattle.qs_syntax.specs.Nodes.{all_count, option_count, expr_count, shape_count, exprs_count, lengths_count, declarator_count, initialiser_count, initialisers_count, variable_count, declaration_count, parameter_count, members_count, start_count, stmt_count, stmts_count, else_count, struct_count, function_count, decl_count}
-use Rattle.qs_syntax.specs.Numbering.{Relabelling, relabel_all, relabel_option, relabel_expr, relabel_shape, relabel_exprs, relabel_lengths, relabel_declarator, relabel_initialiser, relabel_initialisers, relabel_variable, relabel_declaration, relabel_parameter, relabel_members, relabel_start, relabel_stmt, relabel_stmts, relabel_else, relabel_struct, relabel_function, relabel_decl, relabel_unit, numbered, bare, numbered_unit}
+use Rattle.qs_syntax.specs.Trees.{ExprTree, expr, ShapeTree, constant, text, name, unary, step, cast, sizeof_type, sizeof_expr, binary, assign, conditional, comma, subscript, member, call, Exprs, no_exprs, expr_and, LengthsTree, DeclaratorTree, InitialiserTree, value, list, Initialisers, no_initialisers, initialiser_and, VariableTree, DeclarationTree, ParameterTree, MembersTree, StartTree, no_start, start_expression, start_declaration, StmtTree, empty, expression, declaration, block, branch, while_loop, do_loop, for_loop, break, continue, return, Stmts, no_stmts, stmt_and, Else, no_else, else_by, StructTree, DefinedTree, of_struct, of_base, TypedefTree, FunctionTree, DeclTree, structure, forward, typedef, function, variables, UnitTree}
+use Rattle.qs_syntax.specs.Nodes.{all_count, option_count, expr_count, shape_count, exprs_count, lengths_count, declarator_count, initialiser_count, initialisers_count, variable_count, declaration_count, parameter_count, members_count, start_count, stmt_count, stmts_count, else_count, struct_count, defined_count, typedef_count, function_count, decl_count}
+use Rattle.qs_syntax.specs.Numbering.{Relabelling, relabel_all, relabel_option, relabel_expr, relabel_shape, relabel_exprs, relabel_lengths, relabel_declarator, relabel_initialiser, relabel_initialisers, relabel_variable, relabel_declaration, relabel_parameter, relabel_members, relabel_start, relabel_stmt, relabel_stmts, relabel_else, relabel_struct, relabel_defined, relabel_typedef, relabel_function, relabel_decl, relabel_unit, numbered, bare, numbered_unit}
 use Rattle.qs_syntax.specs.WithoutTokens.{without_tokens}
 
 -- ---- the count of the nodes
@@ -105,6 +105,13 @@ module _ (f : Relabelling) where
   pub struct_keeps : (n : ℕ) (s : StructTree) → struct_count (relabel_struct f n s) ≡ struct_count s
   struct_keeps n s = ap (λ k. 1 + k) (all_keeps f members_count (relabel_members f) members_keeps (f.onward n 1) s.members)
 
+  pub defined_keeps : (n : ℕ) (d : DefinedTree) → defined_count (relabel_defined f n d) ≡ defined_count d
+  defined_keeps n (of_struct s) = struct_keeps n s
+  defined_keeps n (of_base b) = refl
+
+  pub typedef_keeps : (n : ℕ) (t : TypedefTree) → typedef_count (relabel_typedef f n t) ≡ typedef_count t
+  typedef_keeps n t = rw (defined_keeps n t.defined, all_keeps f declarator_count (relabel_declarator f) declarator_keeps (f.onward n (defined_count t.defined)) t.names) refl
+
   pub function_keeps : (n : ℕ) (d : FunctionTree) → function_count (relabel_function f n d) ≡ function_count d
   function_keeps n d =
       rw (all_keeps f parameter_count (relabel_parameter f) parameter_keeps (f.onward n 1) d.parameters, option_keeps stmts_count (relabel_stmts f) stmts_keeps (f.onward (f.onward n 1) (all_count parameter_count d.parameters)) d.body) refl
@@ -112,6 +119,7 @@ module _ (f : Relabelling) where
   pub decl_keeps : (n : ℕ) (d : DeclTree) → decl_count (relabel_decl f n d) ≡ decl_count d
   decl_keeps n (structure s) = struct_keeps n s
   decl_keeps n (forward d) = refl
+  decl_keeps n (typedef t) = typedef_keeps n t
   decl_keeps n (function d) = function_keeps n d
   decl_keeps n (variables d) = declaration_keeps n d
 
@@ -237,6 +245,18 @@ module _ (g f : Relabelling) (label : ℕ → Node → Node) (At : ℕ → ℕ �
   pub struct_again : (p : Place) (s : StructTree) → relabel_struct g p.n (relabel_struct f p.m s) ≡ relabel_struct both p.n s
   struct_again p s = rw (node_again p s.node, all_again members_count (relabel_members g) (relabel_members f) (relabel_members both) (members_keeps f) members_again (next p 1) s.members) refl
 
+  pub defined_again : (p : Place) (d : DefinedTree) → relabel_defined g p.n (relabel_defined f p.m d) ≡ relabel_defined both p.n d
+  defined_again p (of_struct s) = ap of_struct (struct_again p s)
+  defined_again p (of_base b) = refl
+
+  pub typedef_again : (p : Place) (t : TypedefTree) → relabel_typedef g p.n (relabel_typedef f p.m t) ≡ relabel_typedef both p.n t
+  typedef_again p t =
+      rw (
+        defined_again p t.defined,
+        defined_keeps f p.m t.defined,
+        all_again declarator_count (relabel_declarator g) (relabel_declarator f) (relabel_declarator both) (declarator_keeps f) declarator_again (next p (defined_count t.defined)) t.names,
+      ) refl
+
   pub function_again : (p : Place) (d : FunctionTree) → relabel_function g p.n (relabel_function f p.m d) ≡ relabel_function both p.n d
   function_again p d =
       rw (
@@ -249,6 +269,7 @@ module _ (g f : Relabelling) (label : ℕ → Node → Node) (At : ℕ → ℕ �
   pub decl_again : (p : Place) (d : DeclTree) → relabel_decl g p.n (relabel_decl f p.m d) ≡ relabel_decl both p.n d
   decl_again p (structure s) = ap structure (struct_again p s)
   decl_again p (forward d) = ap (λ n. forward (record { node = n; name = d.name })) (node_again p d.node)
+  decl_again p (typedef t) = ap typedef (typedef_again p t)
   decl_again p (function d) = ap function (function_again p d)
   decl_again p (variables d) = ap variables (declaration_again p d)
 

@@ -2,7 +2,7 @@
 use Rattle.std.specs.Prelude.{◌≡◌, ℕ, ◌+◌, List, [], ◌∷◌, ◌++◌, Option, Some, None, map}
 use Rattle.std.specs.List.{slice_get}
 use Rattle.qs_syntax.specs.declared.nodes.Node.{Node}
-use Rattle.qs_syntax.specs.Trees.{ExprTree, expr, ShapeTree, constant, text, name, unary, step, cast, sizeof_type, sizeof_expr, binary, assign, conditional, comma, subscript, member, call, Exprs, no_exprs, expr_and, LengthsTree, DeclaratorTree, InitialiserTree, value, list, Initialisers, no_initialisers, initialiser_and, VariableTree, DeclarationTree, ParameterTree, MembersTree, StartTree, no_start, start_expression, start_declaration, StmtTree, empty, expression, declaration, block, branch, while_loop, do_loop, for_loop, break, continue, return, Stmts, no_stmts, stmt_and, Else, no_else, else_by, StructTree, FunctionTree, DeclTree, structure, forward, function, variables, UnitTree}
+use Rattle.qs_syntax.specs.Trees.{ExprTree, expr, ShapeTree, constant, text, name, unary, step, cast, sizeof_type, sizeof_expr, binary, assign, conditional, comma, subscript, member, call, Exprs, no_exprs, expr_and, LengthsTree, DeclaratorTree, InitialiserTree, value, list, Initialisers, no_initialisers, initialiser_and, VariableTree, DeclarationTree, ParameterTree, MembersTree, StartTree, no_start, start_expression, start_declaration, StmtTree, empty, expression, declaration, block, branch, while_loop, do_loop, for_loop, break, continue, return, Stmts, no_stmts, stmt_and, Else, no_else, else_by, StructTree, DefinedTree, of_struct, of_base, TypedefTree, FunctionTree, DeclTree, structure, forward, typedef, function, variables, UnitTree}
 
 -- the numbers of the tokens at which nodes stand
 abbrev pub tokens_of : List Node → List ℕ
@@ -101,12 +101,20 @@ abbrev mutual
 abbrev pub struct_count : StructTree → ℕ
 struct_count s = 1 + all_count members_count s.members
 
+abbrev pub defined_count : DefinedTree → ℕ
+defined_count (of_struct s) = struct_count s
+defined_count (of_base b) = 0
+
+abbrev pub typedef_count : TypedefTree → ℕ
+typedef_count t = defined_count t.defined + all_count declarator_count t.names
+
 abbrev pub function_count : FunctionTree → ℕ
 function_count f = 1 + all_count parameter_count f.parameters + option_count stmts_count f.body
 
 abbrev pub decl_count : DeclTree → ℕ
 decl_count (structure s) = struct_count s
 decl_count (forward f) = 1
+decl_count (typedef t) = typedef_count t
 decl_count (function f) = function_count f
 decl_count (variables d) = declaration_count d
 
@@ -205,12 +213,20 @@ abbrev mutual
 abbrev pub struct_nodes : StructTree → List Node
 struct_nodes s = s.node ∷ all_nodes members_nodes s.members
 
+abbrev pub defined_nodes : DefinedTree → List Node
+defined_nodes (of_struct s) = struct_nodes s
+defined_nodes (of_base b) = []
+
+abbrev pub typedef_nodes : TypedefTree → List Node
+typedef_nodes t = defined_nodes t.defined ++ all_nodes declarator_nodes t.names
+
 abbrev pub function_nodes : FunctionTree → List Node
 function_nodes f = f.node ∷ (all_nodes parameter_nodes f.parameters ++ option_nodes stmts_nodes f.body)
 
 abbrev pub decl_nodes : DeclTree → List Node
 decl_nodes (structure s) = struct_nodes s
 decl_nodes (forward f) = f.node ∷ []
+decl_nodes (typedef t) = typedef_nodes t
 decl_nodes (function f) = function_nodes f
 decl_nodes (variables d) = declaration_nodes d
 

@@ -2,8 +2,8 @@
 -- puts a node of f's in place of each. What numbers the nodes of a tree, and what takes numbers and tokens away, are such maps.
 use Rattle.std.specs.Prelude.{ℕ, ◌+◌, List, [], ◌∷◌, Option, Some, None}
 use Rattle.qs_syntax.specs.declared.nodes.Node.{Node}
-use Rattle.qs_syntax.specs.Trees.{ExprTree, expr, ShapeTree, constant, text, name, unary, step, cast, sizeof_type, sizeof_expr, binary, assign, conditional, comma, subscript, member, call, Exprs, no_exprs, expr_and, LengthsTree, DeclaratorTree, InitialiserTree, value, list, Initialisers, no_initialisers, initialiser_and, VariableTree, DeclarationTree, ParameterTree, MembersTree, StartTree, no_start, start_expression, start_declaration, StmtTree, empty, expression, declaration, block, branch, while_loop, do_loop, for_loop, break, continue, return, Stmts, no_stmts, stmt_and, Else, no_else, else_by, StructTree, FunctionTree, DeclTree, structure, forward, function, variables, UnitTree}
-use Rattle.qs_syntax.specs.Nodes.{all_count, option_count, expr_count, declarator_count, initialiser_count, variable_count, parameter_count, members_count, start_count, stmt_count, decl_count}
+use Rattle.qs_syntax.specs.Trees.{ExprTree, expr, ShapeTree, constant, text, name, unary, step, cast, sizeof_type, sizeof_expr, binary, assign, conditional, comma, subscript, member, call, Exprs, no_exprs, expr_and, LengthsTree, DeclaratorTree, InitialiserTree, value, list, Initialisers, no_initialisers, initialiser_and, VariableTree, DeclarationTree, ParameterTree, MembersTree, StartTree, no_start, start_expression, start_declaration, StmtTree, empty, expression, declaration, block, branch, while_loop, do_loop, for_loop, break, continue, return, Stmts, no_stmts, stmt_and, Else, no_else, else_by, StructTree, DefinedTree, of_struct, of_base, TypedefTree, FunctionTree, DeclTree, structure, forward, typedef, function, variables, UnitTree}
+use Rattle.qs_syntax.specs.Nodes.{all_count, option_count, expr_count, declarator_count, initialiser_count, variable_count, parameter_count, members_count, start_count, stmt_count, defined_count, decl_count}
 
 -- what stands in place of a node, given where it is, and where it goes on behind so many nodes
 pub record Relabelling : Type 0 where
@@ -116,6 +116,13 @@ abbrev mutual
 abbrev pub relabel_struct : Relabelling → ℕ → StructTree → StructTree
 relabel_struct f n s = record { node = f.label n s.node; name = s.name; members = relabel_all f members_count (relabel_members f) (f.onward n 1) s.members }
 
+abbrev pub relabel_defined : Relabelling → ℕ → DefinedTree → DefinedTree
+relabel_defined f n (of_struct s) = of_struct (relabel_struct f n s)
+relabel_defined f n (of_base b) = of_base b
+
+abbrev pub relabel_typedef : Relabelling → ℕ → TypedefTree → TypedefTree
+relabel_typedef f n t = record { defined = relabel_defined f n t.defined; names = relabel_all f declarator_count (relabel_declarator f) (f.onward n (defined_count t.defined)) t.names }
+
 abbrev pub relabel_function : Relabelling → ℕ → FunctionTree → FunctionTree
 relabel_function f n d = record {
   node = f.label n d.node;
@@ -128,6 +135,7 @@ relabel_function f n d = record {
 abbrev pub relabel_decl : Relabelling → ℕ → DeclTree → DeclTree
 relabel_decl f n (structure s) = structure (relabel_struct f n s)
 relabel_decl f n (forward d) = forward (record { node = f.label n d.node; name = d.name })
+relabel_decl f n (typedef t) = typedef (relabel_typedef f n t)
 relabel_decl f n (function d) = function (relabel_function f n d)
 relabel_decl f n (variables d) = variables (relabel_declaration f n d)
 

@@ -14,7 +14,7 @@ use Rattle.qs_syntax_vocabulary.specs.declared.operators.StepOperator.TheVariant
 use Rattle.qs_syntax.specs.declared.types.TypeName.{TypeName}
 use Rattle.qs_syntax.specs.Trees.{unnumbered, ExprTree, expr, ShapeTree, constant, text, name, unary, step, cast, sizeof_type, sizeof_expr, binary, assign, conditional, comma, subscript, member, call, Exprs, no_exprs, expr_and}
 use Rattle.qs_syntax_vocabulary.specs.Operators.{punctuator_of_unary, punctuator_of_binary, precedence, weakest, punctuator_of_assign, punctuator_of_access, number_of}
-use Rattle.qs_syntax.specs.ReadsTypes.{ReadsTypeName}
+use Rattle.qs_syntax.specs.ReadsTypes.{Any, ReadsName, ReadsTypeName}
 
 -- what an expression is read as; Level 0 is `cast`, Level 1 to `weakest` are the operators from `* / %` to `||`
 pub data Form : Type 0 where
@@ -50,11 +50,11 @@ mutual
     a_text : {ts : List Terminal} {bytes : List ℕ} (at : ℕ) (first : List ℕ) → ReadsTexts ts bytes → Reads Postfix 1 (Text at first ∷ ts) (expr (unnumbered at) (text (first ++ bytes)))
     in_parentheses : {h : ℕ} {ts : List Terminal} {e : ExprTree} (o c : ℕ) → Reads Expression h ts e
         → Reads Postfix (suc h) (Punctuator o punctuators.OpenParenthesis ∷ (ts ++ Punctuator c punctuators.CloseParenthesis ∷ [])) e
-    -- postfix = primary { "[" expression "]" | "." NAME | "->" NAME | "++" | "--" }
+    -- postfix = primary { "[" expression "]" | "." ANYNAME | "->" ANYNAME | "++" | "--" }
     an_index : {h k : ℕ} {xs ys : List Terminal} {a b : ExprTree} (o c : ℕ) → Reads Postfix h xs a → Reads Expression k ys b
         → Reads Postfix (suc (max h k)) (xs ++ Punctuator o punctuators.OpenBracket ∷ (ys ++ Punctuator c punctuators.CloseBracket ∷ [])) (at_first xs (subscript a b))
-    a_member : {h : ℕ} {xs : List Terminal} {a : ExprTree} (access : Access) (d n : ℕ) (x : List ℕ) → Reads Postfix h xs a
-        → Reads Postfix (suc h) (xs ++ Punctuator d (punctuator_of_access access) ∷ Name n x ∷ []) (at_first xs (member access a x))
+    a_member : {h n : ℕ} {xs : List Terminal} {t : Terminal} {a : ExprTree} {x : List ℕ} (access : Access) (d : ℕ) → Reads Postfix h xs a → ReadsName Any t n x
+        → Reads Postfix (suc h) (xs ++ Punctuator d (punctuator_of_access access) ∷ t ∷ []) (at_first xs (member access a x))
     an_increment_after : {h : ℕ} {xs : List Terminal} {a : ExprTree} (s : ℕ) → Reads Postfix h xs a
         → Reads Postfix (suc h) (xs ++ Punctuator s punctuators.Increment ∷ []) (at_first xs (step steps.IncrementAfter a))
     a_decrement_after : {h : ℕ} {xs : List Terminal} {a : ExprTree} (s : ℕ) → Reads Postfix h xs a

@@ -8,7 +8,7 @@ use Rattle.qs_base.specs.declared.keyword.Keyword.TheVariants as keywords
 use Rattle.qs_syntax_vocabulary.specs.declared.punctuator.Punctuator.TheVariants as punctuators
 use Rattle.qs_syntax.specs.declared.types.Base.{Base}
 use Rattle.qs_syntax.specs.Trees.{unnumbered, ExprTree, LengthsTree, DeclaratorTree, InitialiserTree, value, list, Initialisers, no_initialisers, initialiser_and, VariableTree, DeclarationTree, ParameterTree, MembersTree}
-use Rattle.qs_syntax.specs.ReadsTypes.{ReadsType, ReadsOuterType, ReadsStars}
+use Rattle.qs_syntax.specs.ReadsTypes.{Names, Plain, Any, ReadsName, ReadsType, ReadsOuterType, ReadsStars}
 use Rattle.qs_syntax.specs.Reads.{Reads, Conditional, Assignment, place}
 
 -- { "[" conditional "]" }
@@ -23,10 +23,10 @@ pub data ReadsLengths : ℕ → List Terminal → LengthsTree → Type 0 where
   first_open : {h : ℕ} {ts : List Terminal} {es : List ExprTree} (o c : ℕ) → ReadsGiven h ts es
       → ReadsLengths h (Punctuator o punctuators.OpenBracket ∷ Punctuator c punctuators.CloseBracket ∷ ts) (record { is_open = true; given = es })
 
--- declarator = stars NAME dims; the height of its highest part
-pub data ReadsDeclarator : ℕ → List Terminal → DeclaratorTree → Type 0 where
-  a_declarator : {h n : ℕ} {xs ys : List Terminal} {lengths : LengthsTree} (at : ℕ) (x : List ℕ) → ReadsStars xs n → ReadsLengths h ys lengths
-      → ReadsDeclarator h (xs ++ Name at x ∷ ys) (record { node = unnumbered at; stars = n; name = x; lengths = lengths })
+-- declarator = stars NAME dims, where the name may be a type's or not; the height of its highest part
+pub data ReadsDeclarator : Names → ℕ → List Terminal → DeclaratorTree → Type 0 where
+  a_declarator : {names : Names} {h n at : ℕ} {xs ys : List Terminal} {t : Terminal} {x : List ℕ} {lengths : LengthsTree} → ReadsStars xs n → ReadsName names t at x → ReadsLengths h ys lengths
+      → ReadsDeclarator names h (xs ++ t ∷ ys) (record { node = unnumbered at; stars = n; name = x; lengths = lengths })
 
 -- initialiser = assignment | "{" initialiser { "," initialiser } [ "," ] "}"
 mutual
@@ -43,8 +43,8 @@ mutual
 
 -- init = declarator [ "=" initialiser ]
 pub data ReadsVariable : ℕ → List Terminal → VariableTree → Type 0 where
-  an_unset_variable : {h : ℕ} {ts : List Terminal} {d : DeclaratorTree} → ReadsDeclarator h ts d → ReadsVariable (suc h) ts (record { declarator = d; initialiser = None })
-  a_set_variable : {h k : ℕ} {xs ys : List Terminal} {d : DeclaratorTree} {i : InitialiserTree} (at : ℕ) → ReadsDeclarator h xs d → ReadsInitialiser k ys i
+  an_unset_variable : {h : ℕ} {ts : List Terminal} {d : DeclaratorTree} → ReadsDeclarator Plain h ts d → ReadsVariable (suc h) ts (record { declarator = d; initialiser = None })
+  a_set_variable : {h k : ℕ} {xs ys : List Terminal} {d : DeclaratorTree} {i : InitialiserTree} (at : ℕ) → ReadsDeclarator Plain h xs d → ReadsInitialiser k ys i
       → ReadsVariable (suc (max h k)) (xs ++ Punctuator at punctuators.Assign ∷ ys) (record { declarator = d; initialiser = Some i })
 
 -- init { "," init }
@@ -63,13 +63,13 @@ pub data ReadsOuterDeclaration : ℕ → List Terminal → DeclarationTree → T
   an_outer_declaration : {h : ℕ} {xs ys : List Terminal} {base : Base} {vs : List VariableTree} (s : ℕ) → ReadsOuterType xs base → ReadsVariables h ys vs
       → ReadsOuterDeclaration h (xs ++ (ys ++ Punctuator s punctuators.Semicolon ∷ [])) (record { base = base; variables = vs })
 
--- declarator { "," declarator }; each is a node
+-- mname { "," mname }, where mname = stars ANYNAME dims; each is a node
 pub data ReadsDeclarators : ℕ → List Terminal → List DeclaratorTree → Type 0 where
-  a_last_member : {h : ℕ} {ts : List Terminal} {d : DeclaratorTree} → ReadsDeclarator h ts d → ReadsDeclarators (suc h) ts (d ∷ [])
-  a_member : {h k : ℕ} {xs ys : List Terminal} {d : DeclaratorTree} {ds : List DeclaratorTree} (at : ℕ) → ReadsDeclarator h xs d → ReadsDeclarators k ys ds
+  a_last_member : {h : ℕ} {ts : List Terminal} {d : DeclaratorTree} → ReadsDeclarator Any h ts d → ReadsDeclarators (suc h) ts (d ∷ [])
+  a_member : {h k : ℕ} {xs ys : List Terminal} {d : DeclaratorTree} {ds : List DeclaratorTree} (at : ℕ) → ReadsDeclarator Any h xs d → ReadsDeclarators k ys ds
       → ReadsDeclarators (max (suc h) k) (xs ++ Punctuator at punctuators.Comma ∷ ys) (d ∷ ds)
 
--- member = lspec declarator { "," declarator } ";"
+-- member = lspec mname { "," mname } ";"
 pub data ReadsMembers : ℕ → List Terminal → MembersTree → Type 0 where
   a_group : {h : ℕ} {xs ys : List Terminal} {base : Base} {ds : List DeclaratorTree} (s : ℕ) → ReadsType xs base → ReadsDeclarators h ys ds
       → ReadsMembers h (xs ++ (ys ++ Punctuator s punctuators.Semicolon ∷ [])) (record { base = base; declarators = ds })

@@ -2,11 +2,22 @@
 use Rattle.std.specs.Prelude.{ℕ, suc, List, [], ◌∷◌, ◌++◌}
 use Rattle.qs_syntax_vocabulary.specs.declared.terminal.Terminal.{Terminal}
 use Rattle.qs_syntax_vocabulary.specs.declared.terminal.Terminal.TheVariants.{Name, Keyword, Punctuator}
+use Rattle.qs_syntax_vocabulary.specs.declared.terminal.Terminal.TheVariants as terminals
 use Rattle.qs_base.specs.declared.keyword.Keyword.TheVariants as keywords
 use Rattle.qs_syntax_vocabulary.specs.declared.punctuator.Punctuator.TheVariants as punctuators
 use Rattle.qs_syntax.specs.declared.types.Base.{Base}
 use Rattle.qs_syntax.specs.declared.types.Base.TheVariants as bases
 use Rattle.qs_syntax.specs.declared.types.TypeName.{TypeName}
+
+-- NAME, which is no type's, and ANYNAME, which may be
+pub data Names : Type 0 where
+  Plain : Names
+  Any : Names
+
+-- the tokens that are such names, with their number and their bytes
+pub data ReadsName : Names → Terminal → ℕ → List ℕ → Type 0 where
+  a_plain_name : {names : Names} (at : ℕ) (x : List ℕ) → ReadsName names (Name at x) at x
+  a_name_of_a_type : (at : ℕ) (x : List ℕ) → ReadsName Any (terminals.TypeName at x) at x
 
 -- { "const" }
 pub data ReadsConsts : List Terminal → Type 0 where
@@ -19,7 +30,7 @@ pub data ReadsPrefixes : List Terminal → Type 0 where
   a_const_prefix : {ts : List Terminal} (at : ℕ) → ReadsPrefixes ts → ReadsPrefixes (Keyword at keywords.Const ∷ ts)
   a_static_prefix : {ts : List Terminal} (at : ℕ) → ReadsPrefixes ts → ReadsPrefixes (Keyword at keywords.Static ∷ ts)
 
--- base = "void" | "int" | "char" | "unsigned" [ "int" | "char" ] | "signed" [ "int" ] | "struct" NAME
+-- base = "void" | "int" | "char" | "unsigned" [ "int" | "char" ] | "signed" [ "int" ] | "struct" ANYNAME | TYPENAME
 pub data ReadsBase : List Terminal → Base → Type 0 where
   a_void : (at : ℕ) → ReadsBase (Keyword at keywords.Void ∷ []) bases.Void
   an_int : (at : ℕ) → ReadsBase (Keyword at keywords.Int ∷ []) bases.Int
@@ -29,7 +40,8 @@ pub data ReadsBase : List Terminal → Base → Type 0 where
   an_unsigned_char : (at bt : ℕ) → ReadsBase (Keyword at keywords.Unsigned ∷ Keyword bt keywords.Char ∷ []) bases.Char
   a_signed : (at : ℕ) → ReadsBase (Keyword at keywords.Signed ∷ []) bases.Int
   a_signed_int : (at bt : ℕ) → ReadsBase (Keyword at keywords.Signed ∷ Keyword bt keywords.Int ∷ []) bases.Int
-  a_struct : (at bt : ℕ) (x : List ℕ) → ReadsBase (Keyword at keywords.Struct ∷ Name bt x ∷ []) (bases.Struct x)
+  a_struct : {t : Terminal} {bt : ℕ} {x : List ℕ} (at : ℕ) → ReadsName Any t bt x → ReadsBase (Keyword at keywords.Struct ∷ t ∷ []) (bases.Struct x)
+  a_named_type : (at : ℕ) (x : List ℕ) → ReadsBase (terminals.TypeName at x ∷ []) (bases.Named x)
 
 -- lspec = { "const" } base { "const" }
 pub data ReadsType : List Terminal → Base → Type 0 where

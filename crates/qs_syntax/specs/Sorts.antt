@@ -15,12 +15,14 @@ use Rattle.qs_syntax.specs.declared.declarations.Members.{Members}
 use Rattle.qs_syntax.specs.declared.statements.Start.{Start}
 use Rattle.qs_syntax.specs.declared.statements.Stmt.{Stmt}
 use Rattle.qs_syntax.specs.declared.units.Struct.{Struct}
+use Rattle.qs_syntax.specs.declared.units.Defined.{Defined}
+use Rattle.qs_syntax.specs.declared.units.Typedef.{Typedef}
 use Rattle.qs_syntax.specs.declared.units.Function.{Function}
 use Rattle.qs_syntax.specs.declared.units.Decl.{Decl}
-use Rattle.qs_syntax.specs.Trees.{ExprTree, ShapeTree, Exprs, LengthsTree, DeclaratorTree, InitialiserTree, Initialisers, VariableTree, DeclarationTree, ParameterTree, MembersTree, StartTree, StmtTree, Stmts, Else, StructTree, FunctionTree, DeclTree}
-use Rattle.qs_syntax.specs.TreeOf.{expr_tree, shape_tree, exprs_tree, option_tree, lengths_tree, declarator_tree, initialiser_tree, list_tree, initialisers_tree, setting_tree, variable_tree, declaration_tree, parameter_tree, members_tree, start_tree, stmt_tree, stmts_tree, else_tree, struct_tree, body_tree, function_tree, decl_tree}
-use Rattle.qs_syntax.specs.Nodes.{tokens_of, all_count, option_count, expr_count, shape_count, exprs_count, lengths_count, declarator_count, initialiser_count, initialisers_count, variable_count, declaration_count, parameter_count, members_count, start_count, stmt_count, stmts_count, else_count, struct_count, function_count, decl_count, all_nodes, option_nodes, expr_nodes, shape_nodes, exprs_nodes, lengths_nodes, declarator_nodes, initialiser_nodes, initialisers_nodes, variable_nodes, declaration_nodes, parameter_nodes, members_nodes, start_nodes, stmt_nodes, stmts_nodes, else_nodes, struct_nodes, function_nodes, decl_nodes}
-use Rattle.qs_syntax.specs.Numbering.{Relabelling, numbered, relabel_all, relabel_option, relabel_expr, relabel_shape, relabel_exprs, relabel_lengths, relabel_declarator, relabel_initialiser, relabel_initialisers, relabel_variable, relabel_declaration, relabel_parameter, relabel_members, relabel_start, relabel_stmt, relabel_stmts, relabel_else, relabel_struct, relabel_function, relabel_decl}
+use Rattle.qs_syntax.specs.Trees.{ExprTree, ShapeTree, Exprs, LengthsTree, DeclaratorTree, InitialiserTree, Initialisers, VariableTree, DeclarationTree, ParameterTree, MembersTree, StartTree, StmtTree, Stmts, Else, StructTree, DefinedTree, TypedefTree, FunctionTree, DeclTree}
+use Rattle.qs_syntax.specs.TreeOf.{expr_tree, shape_tree, exprs_tree, option_tree, lengths_tree, declarator_tree, initialiser_tree, list_tree, initialisers_tree, setting_tree, variable_tree, declaration_tree, parameter_tree, members_tree, start_tree, stmt_tree, stmts_tree, else_tree, struct_tree, defined_tree, typedef_tree, body_tree, function_tree, decl_tree}
+use Rattle.qs_syntax.specs.Nodes.{tokens_of, all_count, option_count, expr_count, shape_count, exprs_count, lengths_count, declarator_count, initialiser_count, initialisers_count, variable_count, declaration_count, parameter_count, members_count, start_count, stmt_count, stmts_count, else_count, struct_count, defined_count, typedef_count, function_count, decl_count, all_nodes, option_nodes, expr_nodes, shape_nodes, exprs_nodes, lengths_nodes, declarator_nodes, initialiser_nodes, initialisers_nodes, variable_nodes, declaration_nodes, parameter_nodes, members_nodes, start_nodes, stmt_nodes, stmts_nodes, else_nodes, struct_nodes, defined_nodes, typedef_nodes, function_nodes, decl_nodes}
+use Rattle.qs_syntax.specs.Numbering.{Relabelling, numbered, relabel_all, relabel_option, relabel_expr, relabel_shape, relabel_exprs, relabel_lengths, relabel_declarator, relabel_initialiser, relabel_initialisers, relabel_variable, relabel_declaration, relabel_parameter, relabel_members, relabel_start, relabel_stmt, relabel_stmts, relabel_else, relabel_struct, relabel_defined, relabel_typedef, relabel_function, relabel_decl}
 
 -- the tree that a value of the program stands for, how many nodes a tree has, which, and the tree with others in place of them
 pub record Sort (A T : Type 0) : Type 0 where
@@ -142,6 +144,12 @@ alternatives = record { tree = else_tree; count = else_count; nodes = else_nodes
 
 abbrev pub structs : Sort Struct StructTree
 structs = record { tree = struct_tree; count = struct_count; nodes = struct_nodes; relabel = relabel_struct }
+
+abbrev pub defined_types : Sort Defined DefinedTree
+defined_types = record { tree = defined_tree; count = defined_count; nodes = defined_nodes; relabel = relabel_defined }
+
+abbrev pub typedefs : Sort Typedef TypedefTree
+typedefs = record { tree = typedef_tree; count = typedef_count; nodes = typedef_nodes; relabel = relabel_typedef }
 
 abbrev pub bodies : Sort (Option (Vec Stmt Global)) (Option Stmts)
 bodies = record { tree = body_tree; count = option_count stmts_count; nodes = option_nodes stmts_nodes; relabel = λ f. relabel_option (relabel_stmts f) }

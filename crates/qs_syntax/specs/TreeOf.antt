@@ -1,7 +1,7 @@
 -- The trees that the program's values stand for.
 use Rattle.std.specs.Prelude.{List, Option, Some, None, map, option_map, Box, Vec}
 use Rattle.std.specs.declared.alloc.Global.{Global}
-use Rattle.qs_syntax.specs.Trees.{ExprTree, expr, ShapeTree, constant, text, name, unary, step, cast, sizeof_type, sizeof_expr, binary, assign, conditional, comma, subscript, member, call, Exprs, exprs_of, LengthsTree, DeclaratorTree, InitialiserTree, value, list, Initialisers, initialisers_of, VariableTree, DeclarationTree, ParameterTree, MembersTree, StartTree, no_start, start_expression, start_declaration, StmtTree, empty, expression, declaration, block, branch, while_loop, do_loop, for_loop, break, continue, return, Stmts, stmts_of, Else, else_of, StructTree, ForwardTree, FunctionTree, DeclTree, structure, forward, function, variables}
+use Rattle.qs_syntax.specs.Trees.{ExprTree, expr, ShapeTree, constant, text, name, unary, step, cast, sizeof_type, sizeof_expr, binary, assign, conditional, comma, subscript, member, call, Exprs, exprs_of, LengthsTree, DeclaratorTree, InitialiserTree, value, list, Initialisers, initialisers_of, VariableTree, DeclarationTree, ParameterTree, MembersTree, StartTree, no_start, start_expression, start_declaration, StmtTree, empty, expression, declaration, block, branch, while_loop, do_loop, for_loop, break, continue, return, Stmts, stmts_of, Else, else_of, StructTree, ForwardTree, DefinedTree, of_struct, of_base, TypedefTree, FunctionTree, DeclTree, structure, forward, typedef, function, variables}
 use Rattle.qs_syntax.specs.declared.expressions.Expr.{Expr, Expr-F, fold-Expr}
 use Rattle.qs_syntax.specs.declared.expressions.Shape.{Shape, Shape-F, fold-Shape}
 use Rattle.qs_syntax.specs.declared.declarations.Lengths.{Lengths}
@@ -17,6 +17,9 @@ use Rattle.qs_syntax.specs.declared.statements.Start.TheVariants as starts
 use Rattle.qs_syntax.specs.declared.statements.Stmt.{Stmt, Stmt-F, fold-Stmt}
 use Rattle.qs_syntax.specs.declared.units.Struct.{Struct}
 use Rattle.qs_syntax.specs.declared.units.Forward.{Forward}
+use Rattle.qs_syntax.specs.declared.units.Defined.{Defined}
+use Rattle.qs_syntax.specs.declared.units.Defined.TheVariants as defineds
+use Rattle.qs_syntax.specs.declared.units.Typedef.{Typedef}
 use Rattle.qs_syntax.specs.declared.units.Function.{Function}
 use Rattle.qs_syntax.specs.declared.units.Decl.{Decl}
 use Rattle.qs_syntax.specs.declared.units.Decl.TheVariants as decls
@@ -127,6 +130,13 @@ struct_tree s = record { node = s.node; name = s.name; members = map members_tre
 abbrev pub forward_tree : Forward → ForwardTree
 forward_tree f = record { node = f.node; name = f.name }
 
+abbrev pub defined_tree : Defined → DefinedTree
+defined_tree (defineds.Struct s) = of_struct (struct_tree s)
+defined_tree (defineds.Base b) = of_base b
+
+abbrev pub typedef_tree : Typedef → TypedefTree
+typedef_tree t = record { defined = defined_tree t.defined; names = map declarator_tree t.names.items }
+
 abbrev pub body_tree : Option (Vec Stmt Global) → Option Stmts
 body_tree = option_map (λ b. stmts_tree b.items)
 
@@ -136,5 +146,6 @@ function_tree f = record { node = f.node; result_type = f.result_type; name = f.
 abbrev pub decl_tree : Decl → DeclTree
 decl_tree (decls.Struct s) = structure (struct_tree s)
 decl_tree (decls.Forward f) = forward (forward_tree f)
+decl_tree (decls.Typedef t) = typedef (typedef_tree t)
 decl_tree (decls.Function f) = function (function_tree f)
 decl_tree (decls.Variable d) = variables (declaration_tree d)

@@ -129,14 +129,24 @@ else_of (Some s) = else_by s
 
 -- ---- what stands at file scope (6.9)
 
+-- only a struct in a typedef may lack its tag
 pub record StructTree : Type 0 where
   pub node : Node
-  pub name : List ℕ
+  pub name : Option (List ℕ)
   pub members : List MembersTree
 
 pub record ForwardTree : Type 0 where
   pub node : Node
   pub name : List ℕ
+
+-- what a typedef gives names to (6.7.8): a struct that is defined in it, or a type
+pub data DefinedTree : Type 0 where
+  of_struct : StructTree → DefinedTree
+  of_base : Base → DefinedTree
+
+pub record TypedefTree : Type 0 where
+  pub defined : DefinedTree
+  pub names : List DeclaratorTree
 
 pub record FunctionTree : Type 0 where
   pub node : Node
@@ -148,6 +158,7 @@ pub record FunctionTree : Type 0 where
 pub data DeclTree : Type 0 where
   structure : StructTree → DeclTree
   forward : ForwardTree → DeclTree
+  typedef : TypedefTree → DeclTree
   function : FunctionTree → DeclTree
   variables : DeclarationTree → DeclTree
 

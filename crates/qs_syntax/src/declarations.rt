@@ -20,8 +20,8 @@ pub struct Lengths {
     pub given: Vec<Expr>,
 }
 
-/// A name that is declared, with what stands around it (C11 6.7.6): a member, or the head of a
-/// variable.
+/// A name that is declared, with what stands around it (C11 6.7.6): a member, a type name, or the
+/// head of a variable.
 #[derive(Drop)]
 pub struct Declarator {
     /// Its node. Its token is the name's.
@@ -274,8 +274,10 @@ pub fn number_members(members: &mut Members, tokens: &mut Vec<u32>) -> Result<()
     number_declarators(&mut members.declarators, tokens)
 }
 
+/// Numbers the nodes of declarators, where `tokens` has the token of each node before them; theirs
+/// are put behind.
 #[tactic(auto, using(crate::proofs::NumberingLoops::numbering))]
-fn number_declarators(items: &mut [Declarator], tokens: &mut Vec<u32>) -> Result<(), NoMemory>
+pub fn number_declarators(items: &mut [Declarator], tokens: &mut Vec<u32>) -> Result<(), NoMemory>
     requires { HasRoom declarator_list tokens.old items.old }
     ensures tree { OnOk result (Numbers declarator_list tokens.old items.old items.new) }
     ensures end { OnOk result (Counts declarator_list tokens.old items.old tokens.new) }

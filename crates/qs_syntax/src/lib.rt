@@ -18,4 +18,4 @@ pub use nodes::Node;
 pub use statements::{Start, Stmt};
 pub use types::{Base, TypeName};
 pub use unit::{Unit, numbered};
-pub use units::{Decl, Forward, Function, Struct};
+pub use units::{Decl, Defined, Forward, Function, Struct, Typedef};

@@ -17,6 +17,8 @@ pub enum Base {
     Char,
     /// `struct` and its tag
     Struct(Name),
+    /// A type name, which a `typedef` before it declares (C11 6.7.8)
+    Named(Name),
 }
 
 impl Base {
@@ -30,6 +32,7 @@ impl Base {
             Base::Unsigned => Ok(Base::Unsigned),
             Base::Char => Ok(Base::Char),
             Base::Struct(name) => Ok(Base::Struct(name.copy(alloc)?)),
+            Base::Named(name) => Ok(Base::Named(name.copy(alloc)?)),
         }
     }
 }

@@ -1,14 +1,16 @@
 // What stands at file scope (C11 6.9): its trees, and the numbers of the nodes.
 ghost use Rattle.std.specs.Prelude.{IfOk, OnOk};
-ghost use Rattle.qs_syntax.specs.Sorts.{HasRoom, Numbers, Counts, Appends, bodies, externals};
-ghost use Rattle.qs_syntax.specs.Sorts.{functions, group_list, parameter_list, structs, units};
+ghost use Rattle.qs_syntax.specs.Sorts.{HasRoom, Numbers, Counts, Appends, bodies, defined_types};
+ghost use Rattle.qs_syntax.specs.Sorts.{externals, functions, group_list, parameter_list, structs};
+ghost use Rattle.qs_syntax.specs.Sorts.{typedefs, units};
 
 use crate::declarations::{
-    Declaration, Members, Parameter, number_declaration, number_members, number_parameter,
+    Declaration, Declarator, Members, Parameter, number_declaration, number_declarators,
+    number_members, number_parameter,
 };
 use crate::nodes::{Node, number_node};
 use crate::statements::{Stmt, number_stmts};
-use crate::types::TypeName;
+use crate::types::{Base, TypeName};
 use qs_base::{Name, NoMemory};
 
 /// A struct and its members (C11 6.7.2.1).
@@ -16,8 +18,8 @@ use qs_base::{Name, NoMemory};
 pub struct Struct {
     /// Its node. Its token is `struct`.
     pub node: Node,
-    /// The tag.
-    pub name: Name,
+    /// The tag. Only a struct in a `typedef` may lack it.
+    pub name: Option<Name>,
     /// The members, at least one group.
     pub members: Vec<Members>,
 }
@@ -46,6 +48,24 @@ pub struct Function {
     pub body: Option<Vec<Stmt>>,
 }
 
+/// What a `typedef` gives names to.
+#[derive(Drop)]
+pub enum Defined {
+    /// A struct that is defined in it.
+    Struct(Struct),
+    /// A type.
+    Base(Base),
+}
+
+/// Names for types (C11 6.7.8).
+#[derive(Drop)]
+pub struct Typedef {
+    /// What the names are for.
+    pub defined: Defined,
+    /// The names, at least one, with what stands around each.
+    pub names: Vec<Declarator>,
+}
+
 /// What stands at file scope (C11 6.9).
 #[derive(Drop)]
 pub enum Decl {
@@ -53,6 +73,8 @@ pub enum Decl {
     Struct(Struct),
     /// A struct without members.
     Forward(Forward),
+    /// Names for types.
+    Typedef(Typedef),
     /// A function, with or without a body.
     Function(Function),
     /// Variables.
@@ -124,6 +146,30 @@ fn number_function(function: &mut Function, tokens: &mut Vec<u32>) -> Result<(),
 }
 
 #[tactic(auto, using(crate::proofs::NumberingLoops::numbering))]
+fn number_defined(defined: &mut Defined, tokens: &mut Vec<u32>) -> Result<(), NoMemory>
+    requires { HasRoom defined_types tokens.old defined.old }
+    ensures tree { OnOk result (Numbers defined_types tokens.old defined.old defined.new) }
+    ensures end { OnOk result (Counts defined_types tokens.old defined.old tokens.new) }
+    ensures tokens { OnOk result (Appends defined_types tokens.old defined.old tokens.new) }
+{
+    match defined {
+        Defined::Struct(s) => number_struct(s, tokens),
+        Defined::Base(_) => Ok(()),
+    }
+}
+
+#[tactic(auto, using(crate::proofs::NumberingLoops::numbering))]
+fn number_typedef(typedef: &mut Typedef, tokens: &mut Vec<u32>) -> Result<(), NoMemory>
+    requires { HasRoom typedefs tokens.old typedef.old }
+    ensures tree { OnOk result (Numbers typedefs tokens.old typedef.old typedef.new) }
+    ensures end { OnOk result (Counts typedefs tokens.old typedef.old tokens.new) }
+    ensures tokens { OnOk result (Appends typedefs tokens.old typedef.old tokens.new) }
+{
+    number_defined(&mut typedef.defined, tokens)?;
+    number_declarators(&mut typedef.names, tokens)
+}
+
+#[tactic(auto, using(crate::proofs::NumberingLoops::numbering))]
 fn number_decl(declaration: &mut Decl, tokens: &mut Vec<u32>) -> Result<(), NoMemory>
     requires { HasRoom externals tokens.old declaration.old }
     ensures tree { OnOk result (Numbers externals tokens.old declaration.old declaration.new) }
@@ -136,6 +182,7 @@ fn number_decl(declaration: &mut Decl, tokens: &mut Vec<u32>) -> Result<(), NoMe
             f.node = number_node(f.node, tokens)?;
             Ok(())
         }
+        Decl::Typedef(t) => number_typedef(t, tokens),
         Decl::Function(f) => number_function(f, tokens),
         Decl::Variable(d) => number_declaration(d, tokens),
     }

@@ -95,7 +95,8 @@ pub fn copy_declaration(alloc: Global, from: &Declaration) -> Result<Declaration
     })
 }
 
-fn copy_name(alloc: Global, name: &Option<Name>) -> Result<Option<Name>, NoMemory>
+/// A copy of a name that may be absent.
+pub fn copy_name(alloc: Global, name: &Option<Name>) -> Result<Option<Name>, NoMemory>
     ensures { IfOk result (λ to. to ≡ name.now) }
 {
     match name {
@@ -116,16 +117,23 @@ pub fn copy_parameter(alloc: Global, from: &Parameter) -> Result<Parameter, NoMe
     })
 }
 
+/// A copy of declarators, with the same numbers and tokens of their nodes.
+pub fn copy_declarators(alloc: Global, from: &[Declarator]) -> Result<Vec<Declarator>, NoMemory>
+    ensures { IfOk result (λ to. map declarator_tree to.items ≡ map declarator_tree from.now) }
+{
+    let mut declarators = Vec::new(alloc);
+    for declarator in from {
+        declarators.push(copy_declarator(alloc, declarator)?)?;
+    }
+    Ok(declarators)
+}
+
 /// A copy of members that are declared together, with the same numbers and tokens of their nodes.
 pub fn copy_members(alloc: Global, from: &Members) -> Result<Members, NoMemory>
     ensures { IfOk result (λ to. members_tree to ≡ members_tree from.now) }
 {
-    let mut declarators = Vec::new(alloc);
-    for declarator in &from.declarators {
-        declarators.push(copy_declarator(alloc, declarator)?)?;
-    }
     Ok(Members {
         base: from.base.copy(alloc)?,
-        declarators,
+        declarators: copy_declarators(alloc, &from.declarators)?,
     })
 }

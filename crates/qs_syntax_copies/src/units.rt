@@ -1,13 +1,15 @@
 // Copies of what stands at file scope (C11 6.9).
 ghost use Rattle.std.specs.Prelude.{◌≡◌, IfOk, map};
-ghost use Rattle.qs_syntax.specs.TreeOf.{parameter_tree, struct_tree, body_tree, function_tree};
-ghost use Rattle.qs_syntax.specs.TreeOf.{decl_tree};
+ghost use Rattle.qs_syntax.specs.TreeOf.{parameter_tree, struct_tree, defined_tree, typedef_tree};
+ghost use Rattle.qs_syntax.specs.TreeOf.{body_tree, function_tree, decl_tree};
 ghost use Rattle.qs_syntax.specs.UnitTrees.{unit_tree};
 
-use crate::declarations::{copy_declaration, copy_members, copy_parameter};
+use crate::declarations::{
+    copy_declaration, copy_declarators, copy_members, copy_name, copy_parameter,
+};
 use crate::statements::copy_stmts;
 use qs_base::NoMemory;
-use qs_syntax::{Decl, Forward, Function, Parameter, Stmt, Struct, Unit};
+use qs_syntax::{Decl, Defined, Forward, Function, Parameter, Stmt, Struct, Typedef, Unit};
 use std::alloc::Global;
 
 fn copy_struct(alloc: Global, from: &Struct) -> Result<Struct, NoMemory>
@@ -19,7 +21,7 @@ fn copy_struct(alloc: Global, from: &Struct) -> Result<Struct, NoMemory>
     }
     Ok(Struct {
         node: from.node,
-        name: from.name.copy(alloc)?,
+        name: copy_name(alloc, &from.name)?,
         members,
     })
 }
@@ -55,6 +57,25 @@ fn copy_function(alloc: Global, from: &Function) -> Result<Function, NoMemory>
     })
 }
 
+fn copy_defined(alloc: Global, from: &Defined) -> Result<Defined, NoMemory>
+    ensures { IfOk result (λ to. defined_tree to ≡ defined_tree from.now) }
+{
+    match from {
+        Defined::Struct(from) => Ok(Defined::Struct(copy_struct(alloc, from)?)),
+        Defined::Base(from) => Ok(Defined::Base(from.copy(alloc)?)),
+    }
+}
+
+fn copy_typedef(alloc: Global, from: &Typedef) -> Result<Typedef, NoMemory>
+    ensures { IfOk result (λ to. typedef_tree to ≡ typedef_tree from.now) }
+{
+    let defined = copy_defined(alloc, &from.defined)?;
+    Ok(Typedef {
+        defined,
+        names: copy_declarators(alloc, &from.names)?,
+    })
+}
+
 fn copy_decl(alloc: Global, from: &Decl) -> Result<Decl, NoMemory>
     ensures { IfOk result (λ to. decl_tree to ≡ decl_tree from.now) }
 {
@@ -64,6 +85,7 @@ fn copy_decl(alloc: Global, from: &Decl) -> Result<Decl, NoMemory>
             node: from.node,
             name: from.name.copy(alloc)?,
         })),
+        Decl::Typedef(from) => Ok(Decl::Typedef(copy_typedef(alloc, from)?)),
         Decl::Function(from) => Ok(Decl::Function(copy_function(alloc, from)?)),
         Decl::Variable(from) => Ok(Decl::Variable(copy_declaration(alloc, from)?)),
     }

@@ -1,3 +1,4 @@
 pub mod Punctuators
 pub mod Operators
 pub mod WellFormed
+pub mod Marks

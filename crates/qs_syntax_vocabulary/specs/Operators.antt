@@ -181,6 +181,7 @@ access_of punctuator = find (λ access. same_punctuator (punctuator_of_access ac
 -- the number of a token
 abbrev pub number_of : Terminal → ℕ
 number_of (terminals.Name at x) = at
+number_of (terminals.TypeName at x) = at
 number_of (terminals.Keyword at k) = at
 number_of (terminals.Constant at n unsigned) = at
 number_of (terminals.Text at bytes) = at

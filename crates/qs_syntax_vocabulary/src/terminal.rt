@@ -6,8 +6,10 @@ use qs_base::{Keyword, Name};
 /// A token as the grammar sees it. The number of the token comes first.
 #[derive(Drop)]
 pub enum Terminal {
-    /// A name.
+    /// A name that is no type's.
     Name(u32, Name),
+    /// The name of a type, which a `typedef` before it declares (C11 6.7.8). The lexer knows none.
+    TypeName(u32, Name),
     /// A keyword.
     Keyword(u32, Keyword),
     /// A number or character.

@@ -16,7 +16,7 @@ pub inner_inside : (k : Known) (s : Scope) → Inside k s → Inside k (within s
 inner_inside k s h = record {
   agrees = record {
     structs = h.agrees.structs;
-    tags = h.agrees.tags;
+    bases = h.agrees.bases;
     headers = h.agrees.headers;
     locals = h.agrees.locals;
     statics = h.agrees.statics;
@@ -29,7 +29,7 @@ pub loop_inside : (k : Known) (s : Scope) → Inside k s → Inside k (within s 
 loop_inside k s h = record {
   agrees = record {
     structs = h.agrees.structs;
-    tags = h.agrees.tags;
+    bases = h.agrees.bases;
     headers = h.agrees.headers;
     locals = h.agrees.locals;
     statics = h.agrees.statics;
@@ -58,7 +58,7 @@ pub local_inside : (k : Known) (s : Scope) (x : List ℕ) (n : ℕ) (t : Option 
 local_inside k s x n t h = record {
   agrees = record {
     structs = h.agrees.structs;
-    tags = h.agrees.tags;
+    bases = h.agrees.bases;
     headers = λ y node f body e. h.agrees.headers y node f body (no_function (same_bytes x y) n node t (entity_of s.context y) (Some f) body e);
     locals = h.agrees.locals;
     statics = h.agrees.statics;

@@ -3,7 +3,7 @@ use Rattle.std.proofs.Common.{ℕ, zero, suc, ◌+◌, ◌-◌, ◌≤◌, List,
 use Rattle.qs_memory.specs.Memory.{zeros, repeated, joined}
 use Rattle.qs_types.specs.declared.extent.Extent.{Extent}
 use Rattle.qs_types.specs.Types.{TypeTree, int, unsigned, char, void, pointer, array, struct, MemberTree, Structs}
-use Rattle.qs_types.specs.Layout.{Layouts, extent_by, extents_by, extent_of, size_of, array_extent, struct_extent, struct_layout, struct_of, member_types, members_layout, layouts_within, layout_of, defined_structs}
+use Rattle.qs_types.specs.Layout.{Layouts, extent_by, extents_by, extent_of, size_of, array_extent, struct_extent, struct_layout, struct_of, member_types, members_layout, layouts_within, layout_of, defined_structs, sized_by, extent_within, size_within}
 use Rattle.qs_meaning.specs.Blanks.{Blanks, blank_by, members_blank, struct_blank, blanks_within}
 use Rattle.qs_typed_nodes.specs.Agrees.{Keeps, Grown}
 use Rattle.qs_typed_nodes.proofs.KeptAgreement.{nothing, kept, then_kept, is_kept}
@@ -47,6 +47,21 @@ size_kept : (old new : Structs) → IsLater old new → (t : TypeTree) → Keeps
 size_kept old new h t =
     then_kept (extent_of old t) (extent_of new t) (λ (e : Extent). Some e.size) (λ (e : Extent). Some e.size) (extent_kept (layout_of old) (layout_of new) (layout_kept old new h) t)
     (λ e. is_kept (Some e.size))
+
+sized_kept : (l m : Layouts) → ((k : ℕ) → Keeps (l k) (m k)) → (t : TypeTree) → Keeps (sized_by l t) (sized_by m t)
+sized_kept l m h int = λ x e. e
+sized_kept l m h unsigned = λ x e. e
+sized_kept l m h char = λ x e. e
+sized_kept l m h void = λ x e. e
+sized_kept l m h (pointer t) = λ x e. e
+sized_kept l m h (array t n) =
+    then_kept (sized_by l t) (sized_by m t) (λ e. extent_within (array_extent e n)) (λ e. extent_within (array_extent e n)) (sized_kept l m h t) (λ e. is_kept (extent_within (array_extent e n)))
+sized_kept l m h (struct k) = then_kept (l k) (m k) (λ x. extent_within (struct_extent x)) (λ x. extent_within (struct_extent x)) (h k) (λ x. is_kept (extent_within (struct_extent x)))
+
+pub size_within_kept : (old new : Structs) → IsLater old new → (t : TypeTree) → Keeps (size_within old t) (size_within new t)
+size_within_kept old new h t =
+    then_kept (sized_by (layout_of old) t) (sized_by (layout_of new) t) (λ (e : Extent). Some e.size) (λ (e : Extent). Some e.size)
+    (sized_kept (layout_of old) (layout_of new) (layout_kept old new h) t) (λ e. is_kept (Some e.size))
 
 -- ---- blanks
 

@@ -1,3 +1,4 @@
+pub mod Results
 pub mod UnitStructs
 pub mod TiedExpressions
 pub mod TiedStatements

@@ -5,20 +5,19 @@ use Rattle.qs_memory.specs.Partial.{◌>>=◌}
 use Rattle.qs_memory.specs.declared.scalar.Scalar.{Scalar}
 use Rattle.qs_base.specs.Bytes.{same_bytes}
 use Rattle.qs_syntax.specs.declared.nodes.Node.{Node}
-use Rattle.qs_syntax.specs.declared.types.Base.{Base}
 use Rattle.qs_syntax.specs.declared.types.Base.TheVariants as bases
 use Rattle.qs_syntax.specs.declared.types.TypeName.{TypeName}
 use Rattle.qs_syntax.specs.Trees.{ExprTree, expr, ShapeTree, Exprs, no_exprs, expr_and}
 use Rattle.qs_syntax.specs.Trees as trees
 use Rattle.qs_calls.specs.declared.callee.Callee.{Callee}
 use Rattle.qs_calls.specs.declared.callee.Callee.TheVariants as callees
-use Rattle.qs_types.specs.Types.{TypeTree, struct}
+use Rattle.qs_types.specs.Types.{TypeTree}
 use Rattle.qs_types.specs.Conversions.{decayed}
 use Rattle.qs_types.specs.GivenFunctions.{Signature, putchar_name, putchar_type, getchar_type}
 use Rattle.qs_types.specs.declared.referent.Referent.TheVariants as referents
 use Rattle.qs_types.specs.Layout.{and_then}
 use Rattle.qs_types.specs.Rules.{breaks_one, type_unless}
-use Rattle.qs_types.specs.Contexts.{Context, Entity, local_variable, file_variable, function, given, entity_of, tag_place, base_type, pointers, named_type}
+use Rattle.qs_types.specs.Contexts.{Context, Entity, local_variable, file_variable, function, given, entity_of, base_type, pointers, named_type, base_in}
 use Rattle.qs_types.specs.Expressions.{type_of, type_or_void, cast_judged}
 use Rattle.qs_types.specs.Referents.{referent, referent_of}
 use Rattle.qs_meaning.specs.Typed.{pointer_to, object}
@@ -26,7 +25,7 @@ use Rattle.qs_meaning.specs.Conversions.{scalar_of}
 use Rattle.qs_meaning.specs.Forms.{Form, lvalue, call, TypedExpr}
 use Rattle.qs_meaning.specs.Names.{Scope, Designator as Designated, local_lvalue, file_variable_object, text_object, entity_lvalue, name_lvalue, entity_designated, designated, function_number}
 use Rattle.qs_meaning.specs.Expressions.{text_form, name_form, arguments_of, subscript_form, member_form, step_form, unary_form, size_form, cast_form, binary_form, conditional_form, assign_form, comma_form, typed, form_of, all_typed}
-use Rattle.qs_typed_nodes.specs.Known.{Known, at_number, referent_lvalue, name_known, text_known, with_tags, named_known, named_size_known, Designator, designated_by, with_conversion, with_argument, known, form_known, type_known, arguments_known}
+use Rattle.qs_typed_nodes.specs.Known.{Known, at_number, referent_lvalue, name_known, text_known, named_known, named_size_known, Designator, designated_by, with_conversion, with_argument, known, form_known, type_known, arguments_known}
 use Rattle.qs_typed_nodes.specs.Agrees.{Keeps, NodesKnown, PartsKnown, AllKnown, Agrees, GivenAreGiven}
 use Rattle.qs_typed_nodes.proofs.KeptAgreement.{nothing, kept, kept_by, then_kept, is_kept, equal_kept}
 use Rattle.qs_typed.proofs.UnitStructs.{size_form_kept, subscript_kept, binary_kept, member_kept, assign_kept, step_kept}
@@ -50,17 +49,9 @@ text_kept k s g node = λ y e. ap (λ t. Some (lvalue (object (pointer_to (text_
 
 -- ---- types by name
 
-base_kept : (k : Known) (s : Scope) → Agrees k s → (b : Base) → Keeps (base_type s.context b) (base_type (with_tags k.tags) b)
-base_kept k s g bases.Void = λ y e. e
-base_kept k s g bases.Int = λ y e. e
-base_kept k s g bases.Unsigned = λ y e. e
-base_kept k s g bases.Char = λ y e. e
-base_kept k s g (bases.Struct tag) =
-    then_kept (tag_place s.context tag) (tag_place (with_tags k.tags) tag) (λ n. Some (struct n)) (λ n. Some (struct n)) (g.tags tag) (λ n. is_kept (Some (struct n)))
-
 named_kept : (k : Known) (s : Scope) → Agrees k s → (n : TypeName) → Keeps (named_type s.context n) (named_known k n)
 named_kept k s g n =
-    then_kept (base_type s.context n.base) (base_type (with_tags k.tags) n.base) (λ t. Some (pointers n.stars t)) (λ t. Some (pointers n.stars t)) (base_kept k s g n.base)
+    then_kept (base_type s.context n.base) (base_in k.type_names n.base) (λ t. Some (pointers n.stars t)) (λ t. Some (pointers n.stars t)) (g.bases n.base)
     (λ t. is_kept (Some (pointers n.stars t)))
 
 named_size_kept : (k : Known) (s : Scope) → Agrees k s → (n : TypeName) → Keeps (named_type s.context n >>= size_form s.context.structs) (named_size_known k n)

@@ -9,7 +9,7 @@ use Rattle.qs_syntax.specs.declared.nodes.Node.{Node}
 use Rattle.qs_syntax.specs.declared.types.Base.{Base}
 use Rattle.qs_syntax_vocabulary.specs.declared.operators.UnaryOperator.{UnaryOperator}
 use Rattle.qs_syntax_vocabulary.specs.declared.operators.UnaryOperator.TheVariants as unaries
-use Rattle.qs_syntax.specs.Trees.{ExprTree, expr, InitialiserTree, Initialisers, no_initialisers, initialiser_and, VariableTree, structure, forward, function, variables, UnitTree}
+use Rattle.qs_syntax.specs.Trees.{ExprTree, expr, InitialiserTree, Initialisers, no_initialisers, initialiser_and, VariableTree, structure, forward, function, variables, UnitTree, typedef}
 use Rattle.qs_syntax.specs.Trees as trees
 use Rattle.qs_types.specs.Types.{TypeTree, is_pointer, is_array}
 use Rattle.qs_types.specs.Contexts as contexts
@@ -19,7 +19,7 @@ use Rattle.qs_types.specs.Declarations.{variable_declared}
 use Rattle.qs_types.specs.Expressions.{is_null_constant}
 use Rattle.qs_types.specs.References.{literal_blocks}
 use Rattle.qs_types.specs.StatementRules.{after_variable, after_variables}
-use Rattle.qs_types.specs.UnitRules.{with_tag, after_struct, after_function, context_after}
+use Rattle.qs_types.specs.UnitRules.{with_tag, after_struct, after_function, context_after, after_typedef}
 use Rattle.qs_types.specs.Referents.{referent}
 use Rattle.qs_typing_findings.specs.UnitNodes.{of_declarator, of_initialiser, of_initialisers, of_option_initialiser, of_variables, of_declaration, of_declarations}
 use Rattle.qs_meaning.specs.Typed.{Function, StaticBlock, TypedProgram}
@@ -51,7 +51,7 @@ outside t = record {
   referents = t.referents;
   result = scalars.Int;
   structs = t.structs;
-  tags = t.tags;
+  type_names = t.type_names;
   headers = t.headers;
   locals = record { variables = []; placed = [] };
   statics = t.statics;
@@ -60,7 +60,7 @@ outside t = record {
 
 -- what is known of a unit at a place at file scope
 record Knows (t : Tables) (s : Scope) : Type 0 where
-  goes : GoesTo s.context (context_with t.structs t.tags)
+  goes : GoesTo s.context (context_with t.structs t.type_names)
   statics : t.statics ≡ s.statics
 
 abbrev InExpression : Tables → Scope → ExprTree → Type 0
@@ -130,7 +130,7 @@ pointer_kept t s h e k =
 integer_kept : (t : Tables) (s : Scope) → Knows t s → (type : TypeTree) (e : ExprTree)
     → Keeps (constant_of s.context e >>= λ n. Some (bytes_of (width (scalar_of type)) n)) (integer_cells_known t type e)
 integer_kept t s h type e =
-    kept (constant_of s.context e) (value_of (context_with t.structs t.tags) e) _ _ (constant_kept s.context (context_with t.structs t.tags) h.goes e)
+    kept (constant_of s.context e) (value_of (context_with t.structs t.type_names) e) _ _ (constant_kept s.context (context_with t.structs t.type_names) h.goes e)
     (λ n. is_kept (Some (bytes_of (width (scalar_of type)) n)))
 
 cells_kept : (t : Tables) (s : Scope) → Knows t s → (type : TypeTree) (e : ExprTree) → InExpression t s e → Keeps (constant_cells s type e) (constant_cells_known t type e)
@@ -199,7 +199,7 @@ abbrev behind : Scope → Base → VariableTree → Scope
 behind s base v = within s (after_variable true s.context base v)
 
 knows_behind : (t : Tables) (s : Scope) (base : Base) (v : VariableTree) → Knows t s → Knows t (behind s base v)
-knows_behind t s base v h = record { goes = record { structs = h.goes.structs; tags = h.goes.tags }; statics = h.statics }
+knows_behind t s base v h = record { goes = record { structs = h.goes.structs; bases = h.goes.bases }; statics = h.statics }
 
 variable_kept : (t : Tables) (s : Scope) (base : Base) (v : VariableTree) → Knows t s
     → Stand (outside t) (of_declarator declared_type its_type s.context (variable_declared s.context base v).type v.declarator ++ of_option_initialiser declared_type its_type (behind s base v).context v.initialiser)
@@ -260,10 +260,10 @@ variables_beside : (known : Option (List StaticBlock)) (typed now : Option (List
 variables_beside known None now o p k e h = nothing p e
 variables_beside known (Some bs) now o p k e h = ap (λ x. x >>= λ now. known >>= λ rest. Some (now ++ rest)) (k bs refl) ∙ beside known bs o p e h
 
-knows : (t : Tables) (s : Scope) (c : Context) (ds : UnitTree) → GoesTo (context_after c ds) (context_with t.structs t.tags) → t.statics ≡ s.statics → Knows t (within s c)
-knows t s c ds g e = record { goes = further c (context_after c ds) (context_with t.structs t.tags) (unit_goes c ds) g; statics = e }
+knows : (t : Tables) (s : Scope) (c : Context) (ds : UnitTree) → GoesTo (context_after c ds) (context_with t.structs t.type_names) → t.statics ≡ s.statics → Knows t (within s c)
+knows t s c ds g e = record { goes = further c (context_after c ds) (context_with t.structs t.type_names) (unit_goes c ds) g; statics = e }
 
-blocks_same : (t : Tables) (s : Scope) → t.statics ≡ s.statics → (ds : UnitTree) (c : Context) → GoesTo (context_after c ds) (context_with t.structs t.tags)
+blocks_same : (t : Tables) (s : Scope) → t.statics ≡ s.statics → (ds : UnitTree) (c : Context) → GoesTo (context_after c ds) (context_with t.structs t.type_names)
     → Stand (outside t) (of_declarations declared_type its_type c ds) (of_declarations no_referent its_referent c ds)
     → (p : TypedProgram) → declarations_typed (within s c) ds ≡ Some p → blocks_known t ds ≡ Some p.blocks
 blocks_same t s st [] c g n p e = ap (λ (p : TypedProgram). Some p.blocks) (same_Some (record { functions = []; blocks = [] }) p e)
@@ -279,6 +279,12 @@ blocks_same t s st (forward d ∷ ds) c g n p e =
     let tr = of_declarations declared_type its_type (with_tag c d.name) ds in
     let rr = of_declarations no_referent its_referent (with_tag c d.name) ds in
     alone (blocks_known t ds) (declarations_typed (within s (with_tag c d.name)) ds) [] p e (blocks_same t s st ds (with_tag c d.name) g (right (outside t) td tr rd rr n))
+blocks_same t s st (typedef d ∷ ds) c g n p e =
+    let td = of_declaration declared_type its_type c (typedef d) in
+    let rd = of_declaration no_referent its_referent c (typedef d) in
+    let tr = of_declarations declared_type its_type (after_typedef c d) ds in
+    let rr = of_declarations no_referent its_referent (after_typedef c d) ds in
+    alone (blocks_known t ds) (declarations_typed (within s (after_typedef c d)) ds) [] p e (blocks_same t s st ds (after_typedef c d) g (right (outside t) td tr rd rr n))
 blocks_same t s st (function f ∷ ds) c g n p e =
     let td = of_declaration declared_type its_type c (function f) in
     let rd = of_declaration no_referent its_referent c (function f) in

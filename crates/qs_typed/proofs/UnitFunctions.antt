@@ -92,7 +92,7 @@ pub function_at : (t : Tables) (s : Scope) (f : FunctionTree) (body : Stmts) (r 
     → FunctionAt (known_in t f body) s f body (addressed_in s.context f body) (parameters_in s.context f) (statements_locals (body_context s.context f) body)
 function_at t s f body r h e ps n = record {
   locals = placed;
-  result = result_kept s.context f r e;
+  result = result_kept s.context t.type_names (λ b x p. h.bases b x p) f r e;
   structs = grown s.context.structs t.structs h.structs;
   parameters = locals.parameters_at k (inner_scope s.context) f.parameters declared;
   declared = both_at k (parameters_in s.context f) ls (locals.parameters_locals_at k (inner_scope s.context) f.parameters declared) here;
@@ -128,5 +128,5 @@ function_at t s f body r h e ps n = record {
 
     returned : ResultIs k (body_context s.context f)
     returned u q =
-        result_is s.context f u
+        result_is s.context t.type_names (λ b x p. h.bases b x p) f u
         (sym (same_result f.parameters (parameter_types (inner_scope s.context) f.parameters) (record (inner_scope (after_function s.context f)) { result = result_type s.context f })) ∙ q)

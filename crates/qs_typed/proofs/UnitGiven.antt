@@ -4,16 +4,17 @@ use Rattle.std.specs.List.{slice_get}
 use Rattle.std.proofs.lemmas.Cmp.{nat_list_eq_equiv}
 use Rattle.qs_base.specs.Bytes.{same_bytes}
 use Rattle.qs_syntax.specs.declared.types.Base.{Base}
-use Rattle.qs_syntax.specs.Trees.{VariableTree, FunctionTree, DeclTree, structure, forward, function, variables}
+use Rattle.qs_syntax.specs.Trees.{VariableTree, FunctionTree, DeclTree, structure, forward, function, variables, DeclaratorTree, StructTree, DefinedTree, of_struct, of_base, typedef}
 use Rattle.qs_types.specs.Types.{TypeTree, MemberTree}
 use Rattle.qs_types.specs.Layout.{layout_of, sized_layout, member_types, with_members}
 use Rattle.qs_types.specs.GivenFunctions.{Signature, putchar_name, putchar_type, getchar_name, getchar_type}
-use Rattle.qs_types.specs.Contexts.{Entity, local_variable, file_variable, given, Binding, Context, start_context, lookup, entity_of, with_name, tag_place}
+use Rattle.qs_types.specs.Contexts.{Entity, local_variable, file_variable, given, Binding, Context, start_context, lookup, entity_of, with_name, tag_place, add_type, is_type_name}
 use Rattle.qs_types.specs.Contexts as contexts
-use Rattle.qs_types.specs.Declarations.{variable_declared}
+use Rattle.qs_types.specs.Declarations.{variable_declared, type_name_declared}
 use Rattle.qs_types.specs.StatementRules.{after_variable, after_variables}
-use Rattle.qs_types.specs.UnitRules.{with_tag, no_members, after_members, has_no_members, define_at, header_of, signature_by, declared_function, after_function, after_declaration}
+use Rattle.qs_types.specs.UnitRules.{with_tag, no_members, after_members, has_no_members, define_at, header_of, signature_by, declared_function, after_function, after_declaration, with_new_tag, with_option_tag, option_place, with_base_tag, after_struct, after_defined, defined_type, after_type_name, after_type_names}
 use Rattle.qs_typed_nodes.proofs.KeptAgreement.{nothing}
+use Rattle.qs_syntax.specs.declared.types.Base.TheVariants as bases
 
 abbrev pub given_type : List ℕ → Signature
 given_type x = if same_bytes x putchar_name then putchar_type else getchar_type
@@ -87,7 +88,27 @@ function_given c f h y g e = by (same_bytes f.name y) refl e
 tag_names : (c : Context) (tag : List ℕ) → GivenIn c → GivenIn (with_tag c tag)
 tag_names c tag h = by (is_some (tag_place c tag))
   where
-    by : (b : Bool) → GivenIn (if b then c else record c { structs = c.structs ++ None ∷ []; tags = c.tags ++ tag ∷ [] })
+    by : (b : Bool) → GivenIn (if b then c else with_new_tag c tag)
+    by true = h
+    by false = h
+
+option_names : (c : Context) (tag : Option (List ℕ)) → GivenIn c → GivenIn (with_option_tag c tag)
+option_names c None h = h
+option_names c (Some tag) h = tag_names c tag h
+
+base_names : (c : Context) (b : Base) → GivenIn c → GivenIn (with_base_tag c b)
+base_names c bases.Void h = h
+base_names c bases.Int h = h
+base_names c bases.Unsigned h = h
+base_names c bases.Char h = h
+base_names c (bases.Struct tag) h = tag_names c tag h
+base_names c (bases.Named x) h = h
+
+type_names_given : (c : Context) (base : Option TypeTree) (ds : List DeclaratorTree) → GivenIn c → GivenIn (after_type_names c base ds)
+type_names_given c base [] h = h
+type_names_given c base (d ∷ ds) h = type_names_given (after_type_name c base d) base ds (by (is_type_name c d.name))
+  where
+    by : (b : Bool) → GivenIn (if b then c else record c { type_names = add_type c.type_names d.name (type_name_declared c base d).type })
     by true = h
     by false = h
 
@@ -99,9 +120,17 @@ define_names c new (Some k) h = by (has_no_members (slice_get c.structs k))
     by true = h
     by false = h
 
+struct_given : (c : Context) (s : StructTree) → GivenIn c → GivenIn (after_struct c s)
+struct_given c s h =
+    define_names (with_option_tag c s.name) (after_members (with_option_tag c s.name) no_members s.members).members (option_place c s.name) (option_names c s.name h)
+
+defined_given : (c : Context) (d : DefinedTree) → GivenIn c → GivenIn (after_defined c d)
+defined_given c (of_struct s) h = struct_given c s h
+defined_given c (of_base b) h = base_names c b h
+
 pub declaration_given : (c : Context) (d : DeclTree) → GivenIn c → GivenIn (after_declaration c d)
-declaration_given c (structure s) h =
-    define_names (with_tag c s.name) (after_members (with_tag c s.name) no_members s.members).members (tag_place (with_tag c s.name) s.name) (tag_names c s.name h)
+declaration_given c (structure s) h = struct_given c s h
 declaration_given c (forward f) h = tag_names c f.name h
+declaration_given c (typedef t) h = type_names_given (after_defined c t.defined) (defined_type c t.defined) t.names (defined_given c t.defined h)
 declaration_given c (function f) h = function_given c f h
 declaration_given c (variables d) h = variables_given c d.base d.variables h

@@ -5,16 +5,16 @@ use Rattle.std.proofs.lemmas.Option.{same_Some}
 use Rattle.qs_memory.specs.Partial.{◌>>=◌}
 use Rattle.qs_base.specs.Bytes.{same_bytes}
 use Rattle.qs_syntax.specs.declared.types.Base.{Base}
-use Rattle.qs_syntax.specs.Trees.{VariableTree, StructTree, FunctionTree, Stmts, DeclTree, structure, forward, function, variables, UnitTree}
+use Rattle.qs_syntax.specs.Trees.{VariableTree, StructTree, FunctionTree, Stmts, DeclTree, structure, forward, function, variables, UnitTree, TypedefTree, typedef}
 use Rattle.qs_types.specs.Types.{TypeTree, MemberTree}
 use Rattle.qs_types.specs.Layout.{layout_of, sized_layout, member_types, with_members}
 use Rattle.qs_types.specs.GivenFunctions.{Signature}
-use Rattle.qs_types.specs.Contexts.{file_variable, Context, entity_of, with_name, tag_place, inner_scope}
+use Rattle.qs_types.specs.Contexts.{file_variable, Context, entity_of, with_name, tag_place, inner_scope, base_in, base_type}
 use Rattle.qs_types.specs.Contexts as contexts
 use Rattle.qs_types.specs.Declarations.{variable_declared}
 use Rattle.qs_types.specs.StatementRules.{after_variable, after_variables}
 use Rattle.qs_types.specs.Placed.{addressed_in, statements_locals}
-use Rattle.qs_types.specs.UnitRules.{with_tag, no_members, after_members, has_no_members, define_at, after_struct, result_type, after_function, after_declaration, body_context, function_faults, declaration_faults, declarations_faults, context_after}
+use Rattle.qs_types.specs.UnitRules.{with_tag, no_members, after_members, has_no_members, define_at, after_struct, result_type, after_function, after_declaration, body_context, function_faults, declaration_faults, declarations_faults, context_after, with_new_tag, with_option_tag, option_place, after_typedef}
 use Rattle.qs_typing_findings.specs.UnitNodes.{of_parameters, of_body, of_declaration, of_declarations}
 use Rattle.qs_meaning.specs.Typed.{Function, StaticBlock, TypedProgram}
 use Rattle.qs_meaning.specs.Conversions.{scalar_of}
@@ -23,7 +23,7 @@ use Rattle.qs_meaning.specs.TypedLaws.{IsFileScope}
 use Rattle.qs_meaning.specs.Units.{parameters_in, function_with, function_typed, file_variables_typed, no_functions, no_blocks, declarations_typed}
 use Rattle.qs_meaning.proofs.FaultlessExpressions.{none_left, none_right}
 use Rattle.qs_meaning.proofs.UnitsTyped.{header_result, declaration_known}
-use Rattle.qs_typed_nodes.specs.Known.{Header, parameters_of, with_tags}
+use Rattle.qs_typed_nodes.specs.Known.{Header, parameters_of}
 use Rattle.qs_typed_units.specs.KnownUnits.{with_header, headers_behind}
 use Rattle.qs_typed_units.specs.KnownPrograms.{Tables, known_in, body_known, option_body_known, functions_known}
 use Rattle.qs_typed.specs.UnitVariables.{function_variables, unit_variables_from, variables_of, variables_known}
@@ -40,6 +40,7 @@ use Rattle.qs_typed.proofs.UnitGiven.{GivenIn, function_given, declaration_given
 use Rattle.qs_typed.proofs.UnitLocals.{parameters_declared}
 use Rattle.qs_typed.proofs.UnitBodies.{KnownAt}
 use Rattle.qs_typed.proofs.UnitFunctions.{function_at}
+use Rattle.qs_typing_findings.proofs.LatestHeaders.{typedef_same}
 
 -- ---- headers
 
@@ -47,6 +48,7 @@ headers_kept : (types : List (Option TypeTree)) (hs : List Header) (ds : UnitTre
 headers_kept types hs [] all e n = λ x p. ap (parameters_of n) (sym (same_Some hs all e)) ∙ p
 headers_kept types hs (structure d ∷ ds) all e n = headers_kept types hs ds all e n
 headers_kept types hs (forward d ∷ ds) all e n = headers_kept types hs ds all e n
+headers_kept types hs (typedef d ∷ ds) all e n = headers_kept types hs ds all e n
 headers_kept types hs (variables d ∷ ds) all e n = headers_kept types hs ds all e n
 headers_kept types hs (function f ∷ ds) all e n = go (with_header types f hs) refl e (λ more p. headers_kept types more ds all p n)
   where
@@ -64,7 +66,7 @@ pub record UnitAt (t : Tables) (s : Scope) (c : Context) (hs : List Header) (ds 
   pub scope : IsFileScope c
   pub faultless : declarations_faults c ds ≡ []
   pub structs : IsLater (context_after c ds).structs t.structs
-  pub tags : (tag : List ℕ) → Keeps (tag_place (context_after c ds) tag) (tag_place (with_tags t.tags) tag)
+  pub bases : (b : Base) → Keeps (base_type (context_after c ds) b) (base_in t.type_names b)
   pub found : HeadersFound c hs
   pub headers : headers_behind t.types hs ds ≡ Some t.headers
   pub given : GivenIn c
@@ -76,9 +78,13 @@ pub record UnitAt (t : Tables) (s : Scope) (c : Context) (hs : List Header) (ds 
 tag_entity : (c : Context) (tag x : List ℕ) → entity_of (with_tag c tag) x ≡ entity_of c x
 tag_entity c tag x = by (is_some (tag_place c tag))
   where
-    by : (b : Bool) → entity_of (if b then c else record c { structs = c.structs ++ None ∷ []; tags = c.tags ++ tag ∷ [] }) x ≡ entity_of c x
+    by : (b : Bool) → entity_of (if b then c else with_new_tag c tag) x ≡ entity_of c x
     by true = refl
     by false = refl
+
+option_entity : (c : Context) (tag : Option (List ℕ)) (x : List ℕ) → entity_of (with_option_tag c tag) x ≡ entity_of c x
+option_entity c None x = refl
+option_entity c (Some tag) x = tag_entity c tag x
 
 define_entity : (c : Context) (new : List MemberTree) (o : Option ℕ) (x : List ℕ) → entity_of (define_at c new o) x ≡ entity_of c x
 define_entity c new None x = refl
@@ -91,7 +97,10 @@ define_entity c new (Some k) x = by (has_no_members (slice_get c.structs k))
 struct_found : (c : Context) (d : StructTree) (hs : List Header) → HeadersFound c hs → HeadersFound (after_struct c d) hs
 struct_found c d hs h x node f body e =
     h x node f body
-    (sym (define_entity (with_tag c d.name) (after_members (with_tag c d.name) no_members d.members).members (tag_place (with_tag c d.name) d.name) x ∙ tag_entity c d.name x) ∙ e)
+    (sym (define_entity (with_option_tag c d.name) (after_members (with_option_tag c d.name) no_members d.members).members (option_place c d.name) x ∙ option_entity c d.name x) ∙ e)
+
+typedef_found : (c : Context) (d : TypedefTree) (hs : List Header) → HeadersFound c hs → HeadersFound (after_typedef c d) hs
+typedef_found c d hs h x node f body e = h x node f body ((typedef_same c d).same x (contexts.function node (Some f) body) refl e)
 
 tag_found : (c : Context) (tag : List ℕ) (hs : List Header) → HeadersFound c hs → HeadersFound (with_tag c tag) hs
 tag_found c tag hs h x node f body e = h x node f body (sym (tag_entity c tag x) ∙ e)
@@ -119,7 +128,7 @@ behind t s c hs more d ds h found e = record {
   scope = (declaration_known s d c h.scope (none_left (declaration_faults c d) (declarations_faults (after_declaration c d) ds) h.faultless)).scope;
   faultless = none_right (declaration_faults c d) (declarations_faults (after_declaration c d) ds) h.faultless;
   structs = h.structs;
-  tags = h.tags;
+  bases = h.bases;
   found = found;
   headers = e;
   given = declaration_given c d h.given;
@@ -138,7 +147,7 @@ known_at t s c hs more f body ds h found e =
         members = λ k x p. h.structs.members k x (later.structs.members k x p);
         many = let a = later.structs.many in let b = h.structs.many in omega arith;
       };
-      tags = λ tag x p. h.tags tag x (later.tags tag x p);
+      bases = λ b x p. h.bases b x (later.bases b x p);
       headers = found_later (after_function c f) more t.headers (headers_kept t.types more ds t.headers e) found;
       given = function_given c f h.given;
       statics = h.statics;
@@ -160,6 +169,7 @@ abbrev pub BodiesAt : Tables → Scope → Context → UnitTree → Type 0
 BodiesAt t s c [] = Unit {0}
 BodiesAt t s c (structure d ∷ ds) = BodiesAt t s (after_struct c d) ds
 BodiesAt t s c (forward d ∷ ds) = BodiesAt t s (with_tag c d.name) ds
+BodiesAt t s c (typedef d ∷ ds) = BodiesAt t s (after_typedef c d) ds
 BodiesAt t s c (function f ∷ ds) = BodyAt t s c f f.body × BodiesAt t s (after_function c f) ds
 BodiesAt t s c (variables d ∷ ds) = BodiesAt t s (after_variables true c d.base d.variables) ds
 
@@ -203,6 +213,7 @@ functions_same t s [] c h p e = ap (λ (p : TypedProgram). Some p.functions) (sa
 functions_same t s (structure d ∷ ds) c h p e =
     alone (functions_known t ds) (declarations_typed (within s (after_struct c d)) ds) [] p e (functions_same t s ds (after_struct c d) h)
 functions_same t s (forward d ∷ ds) c h p e = alone (functions_known t ds) (declarations_typed (within s (with_tag c d.name)) ds) [] p e (functions_same t s ds (with_tag c d.name) h)
+functions_same t s (typedef d ∷ ds) c h p e = alone (functions_known t ds) (declarations_typed (within s (after_typedef c d)) ds) [] p e (functions_same t s ds (after_typedef c d) h)
 functions_same t s (variables d ∷ ds) c h p e =
     variables_alone (functions_known t ds) (file_variables_typed (within s c) d.base d.variables) (declarations_typed (within s (after_variables true c d.base d.variables)) ds) p e
     (functions_same t s ds (after_variables true c d.base d.variables) h)
@@ -223,6 +234,10 @@ bodies_at t s (forward d ∷ ds) c hs h n m =
     bodies_at t s ds (with_tag c d.name) hs (behind t s c hs hs (forward d) ds h (tag_found c d.name hs h.found) h.headers)
     (each_right (StandsIn t.types) (of_declaration declared_type its_type c (forward d)) (of_declarations declared_type its_type (with_tag c d.name) ds) n)
     (each_right (StandsIn t.referents) (of_declaration no_referent its_referent c (forward d)) (of_declarations no_referent its_referent (with_tag c d.name) ds) m)
+bodies_at t s (typedef d ∷ ds) c hs h n m =
+    bodies_at t s ds (after_typedef c d) hs (behind t s c hs hs (typedef d) ds h (typedef_found c d hs h.found) h.headers)
+    (each_right (StandsIn t.types) (of_declaration declared_type its_type c (typedef d)) (of_declarations declared_type its_type (after_typedef c d) ds) n)
+    (each_right (StandsIn t.referents) (of_declaration no_referent its_referent c (typedef d)) (of_declarations no_referent its_referent (after_typedef c d) ds) m)
 bodies_at t s (variables d ∷ ds) c hs h n m =
     let after = after_variables true c d.base d.variables in
     bodies_at t s ds after hs (behind t s c hs hs (variables d) ds h (variables_found c d.base d.variables hs h.found) h.headers)
@@ -280,5 +295,6 @@ pub variables_same : (t : Tables) (s : Scope) (ds : UnitTree) (c : Context) → 
 variables_same t s [] c h = refl
 variables_same t s (structure d ∷ ds) c h = variables_same t s ds (after_struct c d) h
 variables_same t s (forward d ∷ ds) c h = variables_same t s ds (with_tag c d.name) h
+variables_same t s (typedef d ∷ ds) c h = variables_same t s ds (after_typedef c d) h
 variables_same t s (function f ∷ ds) c h = λ i. body_variables t s c f f.body h.0 i ++ variables_same t s ds (after_function c f) h.1 i
 variables_same t s (variables d ∷ ds) c h = variables_same t s ds (after_variables true c d.base d.variables) h

@@ -9,7 +9,7 @@ use Rattle.qs_syntax.specs.Trees.{UnitTree}
 use Rattle.qs_types.specs.Layout.{struct_of, defined_structs}
 use Rattle.qs_types.specs.References.{literal_blocks}
 use Rattle.qs_types.specs.GivenFunctions.{Signature, putchar_name, putchar_type, getchar_name, getchar_type}
-use Rattle.qs_types.specs.Contexts.{given, start_context, entity_of, place_from, context_with}
+use Rattle.qs_types.specs.Contexts.{given, start_context, entity_of, base_in, context_with}
 use Rattle.qs_types.specs.Contexts as contexts
 use Rattle.qs_types.specs.Expressions.{type_of}
 use Rattle.qs_types.specs.UnitRules.{context_after}
@@ -58,7 +58,7 @@ start_at unit w t h = record {
   scope = start_known;
   faultless = w.keeps_rules;
   structs = record { members = λ k x e. ap (λ s. struct_of s k) h.structs ∙ e; many = let e = ap defined_structs h.structs in omega arith };
-  tags = λ tag x e. ap (place_from 0 tag) h.tags ∙ e;
+  bases = λ b x e. ap (λ n. base_in n b) h.type_names ∙ e;
   found = λ x node f body e. absurd (start_found x node f body e);
   headers = h.headers;
   given = start_given;
@@ -103,8 +103,8 @@ numbered_types unit n t h = stands t.types (of_unit bodies.declared_type bodies.
 pub numbered_referents : (unit : UnitTree) → IsNumberedUnit unit → (t : Tables) → AreOf t unit → Each (StandsIn t.referents) (of_unit bodies.no_referent bodies.its_referent unit)
 numbered_referents unit n t h = stands t.referents (of_unit bodies.no_referent bodies.its_referent unit) (subst (λ xs. IsByNumber no_referent referent_of unit xs) (sym h.referents) n.referents).each
 
-pub start_goes : (unit : UnitTree) (t : Tables) → AreOf t unit → GoesTo (context_after start_context unit) (context_with t.structs t.tags)
+pub start_goes : (unit : UnitTree) (t : Tables) → AreOf t unit → GoesTo (context_after start_context unit) (context_with t.structs t.type_names)
 start_goes unit t h = record {
   structs = record { members = λ k x e. ap (λ s. struct_of s k) h.structs ∙ e; many = let e = ap defined_structs h.structs in omega arith };
-  tags = λ tag x e. ap (place_from 0 tag) h.tags ∙ e;
+  bases = λ b x e. ap (λ n. base_in n b) h.type_names ∙ e;
 }

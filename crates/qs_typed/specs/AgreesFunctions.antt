@@ -25,7 +25,7 @@ LocalsAt k (l ∷ ls) = (at_number k.types l.node ≡ l.type) × LocalsAt k ls
 -- a function, whose parameters and locals these are, and the operands of `&` among them
 pub record FunctionAt (k : Known) (s : Scope) (f : FunctionTree) (body : Stmts) (addressed : List ℕ) (ps ls : List Local) : Type 0 where
   pub locals : k.locals ≡ locals_of addressed ps ls
-  pub result : (if returns_nothing f then None else Some k.result) ≡ result_scalar (result_type s.context f)
+  pub result : (if returns_nothing k.type_names f then None else Some k.result) ≡ result_scalar (result_type s.context f)
   pub structs : Grown s.context.structs k.structs
   pub parameters : ParametersAt k f.parameters (parameter_types (inner_scope s.context) f.parameters)
   pub declared : LocalsAt k (ps ++ ls)

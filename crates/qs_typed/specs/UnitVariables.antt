@@ -1,6 +1,6 @@
 -- The variables of the functions of a unit, parameters among them, by the numbers of their nodes.
 use Rattle.std.specs.Prelude.{ℕ, List, [], ◌∷◌, ◌++◌, Option, Some, None}
-use Rattle.qs_syntax.specs.Trees.{structure, forward, function, variables, FunctionTree, Stmts, DeclTree, UnitTree}
+use Rattle.qs_syntax.specs.Trees.{structure, forward, function, variables, FunctionTree, Stmts, DeclTree, UnitTree, typedef}
 use Rattle.qs_types.specs.Contexts.{Context, start_context}
 use Rattle.qs_types.specs.UnitRules.{after_declaration}
 use Rattle.qs_meaning.specs.Units.{function_locals}
@@ -14,6 +14,7 @@ function_variables c f (Some body) = (function_locals c f body).variables ∷ []
 abbrev pub declaration_variables : Context → DeclTree → List (List ℕ)
 declaration_variables c (structure d) = []
 declaration_variables c (forward d) = []
+declaration_variables c (typedef d) = []
 declaration_variables c (function f) = function_variables c f f.body
 declaration_variables c (variables d) = []
 
@@ -35,5 +36,6 @@ abbrev pub variables_known : Tables → UnitTree → List (List ℕ)
 variables_known t [] = []
 variables_known t (structure d ∷ ds) = variables_known t ds
 variables_known t (forward d ∷ ds) = variables_known t ds
+variables_known t (typedef d ∷ ds) = variables_known t ds
 variables_known t (function f ∷ ds) = variables_of t f f.body ++ variables_known t ds
 variables_known t (variables d ∷ ds) = variables_known t ds

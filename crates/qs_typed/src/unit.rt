@@ -77,7 +77,7 @@ fn tables<'a>(alloc: Global, typed: &'a TypedUnit) -> Result<Tables<'a>, NoMemor
         types,
         referents: typed.referents(),
         env: typed.env(),
-        tags: typed.tags(),
+        type_names: typed.type_names(),
         headers,
         statics: Statics { variables, texts },
         functions,

@@ -53,9 +53,9 @@ fn body_typed(
     let k = Known {
         types: t.types,
         referents: t.referents,
-        result: named_scalar(&f.result_type),
+        result: named_scalar(t.type_names, &f.result_type),
         env: t.env,
-        tags: t.tags,
+        type_names: t.type_names,
         headers: &t.headers,
         locals: &locals,
         statics: &t.statics,
@@ -94,6 +94,7 @@ fn add_declaration(
     match d {
         Decl::Struct(_) => Ok(()),
         Decl::Forward(_) => Ok(()),
+        Decl::Typedef(_) => Ok(()),
         Decl::Function(f) => add_function(alloc, t, f, all),
         Decl::Variable(_) => Ok(()),
     }
@@ -143,6 +144,7 @@ fn declaration_variables(
     match d {
         Decl::Struct(_) => Ok(()),
         Decl::Forward(_) => Ok(()),
+        Decl::Typedef(_) => Ok(()),
         Decl::Function(f) => add_variables(alloc, t, f, all),
         Decl::Variable(_) => Ok(()),
     }

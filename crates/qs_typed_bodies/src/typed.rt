@@ -72,7 +72,7 @@ fn form_of(alloc: Global, k: &Known<'_>, node: u32, shape: &Shape) -> Result<For
             let a = typed(alloc, k, a)?;
             cast_form(alloc, t, a)
         }
-        Shape::SizeofType(name) => k.named_size_form(name),
+        Shape::SizeofType(name) => k.named_size_form(alloc, name),
         Shape::SizeofExpr(a) => {
             let t = k.type_of(a)?;
             size_form(k.env, t)

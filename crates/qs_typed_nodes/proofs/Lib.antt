@@ -1,6 +1,7 @@
 pub mod NamedSizes
 pub mod Entries
 pub mod PlaceTables
+mod NamePlaces
 pub mod MemberPlaces
 pub mod Loops
 pub mod BlankTurns

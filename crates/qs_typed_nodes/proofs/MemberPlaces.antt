@@ -6,13 +6,12 @@ use Rattle.std.proofs.lemmas.Option.{slice_get-map}
 use Rattle.qs_memory.specs.Partial.{◌>>=◌}
 use Rattle.qs_base.specs.Bytes.{same_bytes}
 use Rattle.qs_types.specs.Types.{struct, MemberTree, Structs}
-use Rattle.qs_types.specs.Contexts.{place_from}
 use Rattle.qs_types.specs.InitialiserRules.{member_at}
 use Rattle.qs_types.specs.Layout.{and_then, offset_of, struct_of}
 use Rattle.qs_types.specs.StructsOf.{member_tree}
 use Rattle.qs_types.specs.TypeOf.{type_tree}
 use Rattle.qs_types.specs.declared.types.CType.{CType}
-use Rattle.qs_types.proofs.TagPlaces.{tag_position}
+use Rattle.qs_typed_nodes.proofs.NamePlaces.{place_from, name_position}
 use Rattle.qs_meaning.specs.Expressions.{member_number, member_offset}
 
 abbrev pub entry_names : List (List ℕ × CType) → List (List ℕ)
@@ -24,7 +23,7 @@ number_place k x (e ∷ es) = ap (λ r. if same_bytes e.0 x then Some k else r) 
 
 pub number_found : (x : List ℕ) (es : List (List ℕ × CType)) (i : ℕ) → position (same_bytes x) (entry_names es) ≡ Some i
     → member_number 0 x (map member_tree es) ≡ Some i
-number_found x es i e = number_place 0 x es ∙ sym (tag_position x (entry_names es)) ∙ e
+number_found x es i e = number_place 0 x es ∙ sym (name_position x (entry_names es)) ∙ e
 
 pub offset_found : (structs : Structs) (k : ℕ) (x : List ℕ) (ms : List MemberTree) (i n : ℕ) → struct_of structs k ≡ Some ms → member_number 0 x ms ≡ Some i
     → offset_of structs k i ≡ Some n → member_offset structs (struct k) x ≡ Some n

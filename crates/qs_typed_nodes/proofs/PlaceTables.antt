@@ -6,11 +6,9 @@ use Rattle.std.specs.Map.{lookup}
 use Rattle.std.specs.Prelude.{Vec}
 use Rattle.std.specs.declared.alloc.Global.{Global}
 use Rattle.qs_memory.specs.declared.scalar.Scalar.{Scalar}
-use Rattle.qs_types.proofs.TagPlaces.{tag_position}
 use Rattle.std.proofs.lemmas.Cmp.{nat_list_eq_equiv, nat_eq_equiv}
 use Rattle.qs_base.specs.Bytes.{same_bytes}
 use Rattle.qs_types.specs.Types.{TypeTree}
-use Rattle.qs_types.specs.Contexts.{place_from}
 use Rattle.qs_types.specs.Placed.{is_one_of}
 use Rattle.qs_meaning.specs.Names.{place_where, place_among, function_number}
 use Rattle.qs_typed_nodes.specs.Known.{parameters_of}
@@ -52,11 +50,6 @@ function_found f names i e =
 pub one_of : (n : ℕ) (ms : List ℕ) → list_any (nat_eq n) ms ≡ is_one_of n ms
 one_of n [] = refl
 one_of n (m ∷ ms) = λ i. nat_eq_equiv.symm n m i || one_of n ms i
-
--- ---- tags
-
-pub tag_found : (tag : List ℕ) (tags : List (List ℕ)) (i : ℕ) → position (same_bytes tag) tags ≡ Some i → place_from 0 tag tags ≡ Some i
-tag_found tag tags i e = sym (tag_position tag tags) ∙ e
 
 -- ---- headers
 

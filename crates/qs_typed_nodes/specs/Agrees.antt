@@ -9,14 +9,14 @@ use Rattle.qs_base.specs.Bytes.{same_bytes}
 use Rattle.qs_syntax.specs.declared.types.Base.{Base}
 use Rattle.qs_types.specs.Declarations.{variable_declared}
 use Rattle.qs_types.specs.StatementRules.{after_statement}
-use Rattle.qs_types.specs.Contexts.{Context, function, given, entity_of, tag_place}
+use Rattle.qs_types.specs.Contexts.{Context, function, given, entity_of, base_in, base_type}
 use Rattle.qs_types.specs.Expressions.{type_of}
 use Rattle.qs_types.specs.Referents.{referent_of}
 use Rattle.qs_meaning.specs.Conversions.{scalar_of}
 use Rattle.qs_meaning.specs.Names.{Scope, within}
 use Rattle.qs_meaning.specs.Blanks.{blank_of}
 use Rattle.qs_meaning.specs.Statements.{behind_variable, inner, loop_body, in_for}
-use Rattle.qs_typed_nodes.specs.Known.{Known, at_number, parameters_of, with_tags}
+use Rattle.qs_typed_nodes.specs.Known.{Known, at_number, parameters_of}
 
 -- what has this value has it still
 abbrev pub Keeps : {A : Type 0} → Option A → Option A → Type 0
@@ -59,7 +59,7 @@ abbrev mutual
 -- the rest of what is known
 pub record Agrees (k : Known) (s : Scope) : Type 0 where
   pub structs : Grown s.context.structs k.structs
-  pub tags : (tag : List ℕ) → Keeps (tag_place s.context tag) (tag_place (with_tags k.tags) tag)
+  pub bases : (b : Base) → Keeps (base_type s.context b) (base_in k.type_names b)
   pub headers : (x : List ℕ) (node : ℕ) (f : Signature) (body : Bool) → entity_of s.context x ≡ Some (function node (Some f) body)
       → parameters_of node k.headers ≡ Some (map scalar_of f.parameters)
   pub locals : k.locals ≡ s.locals

@@ -10,7 +10,8 @@ use Rattle.qs_memory.specs.declared.scalar.Scalar.TheVariants as scalars
 use Rattle.qs_calls.specs.declared.callee.Callee.{Callee}
 use Rattle.qs_calls.specs.declared.callee.Callee.TheVariants as callees
 use Rattle.qs_types.specs.Types.{TypeTree, Structs}
-use Rattle.qs_types.specs.Contexts.{Context, start_context, base_type, named_type}
+use Rattle.qs_types.specs.Contexts.{TypeNames, base_in}
+use Rattle.qs_types.specs.KnownTypes.{type_named}
 use Rattle.qs_syntax.specs.declared.types.Base.{Base}
 use Rattle.qs_syntax.specs.declared.types.TypeName.{TypeName}
 use Rattle.qs_types.specs.declared.referent.Referent.{Referent}
@@ -29,14 +30,14 @@ pub record Header : Type 0 where
   pub parameters : List Scalar
 
 -- by the numbers of the nodes the types of expressions and those that variables and parameters are declared with, and what names stand for;
--- the type that the function's result is converted to; the structs and their tags; the headers of functions; the locals of the function; what has a block from
+-- the type that the function's result is converted to; the structs and the names of types; the headers of functions; the locals of the function; what has a block from
 -- the beginning; the names of the functions with a body
 pub record Known : Type 0 where
   pub types : List (Option TypeTree)
   pub referents : List (Option Referent)
   pub result : Scalar
   pub structs : Structs
-  pub tags : List (List ℕ)
+  pub type_names : TypeNames
   pub headers : List Header
   pub locals : Locals
   pub statics : Statics
@@ -62,16 +63,13 @@ name_known k node = at_number k.referents node >>= referent_lvalue k >>= λ l. S
 abbrev pub text_known : Known → (node : ℕ) → Form
 text_known k node = lvalue (object (pointer_to (text_object k.statics node)))
 
--- ---- types by name; they name structs alone
-
-abbrev pub with_tags : List (List ℕ) → Context
-with_tags tags = record start_context { tags = tags }
+-- ---- types by name
 
 abbrev pub base_known : Known → Base → Option TypeTree
-base_known k base = base_type (with_tags k.tags) base
+base_known k base = base_in k.type_names base
 
 abbrev pub named_known : Known → TypeName → Option TypeTree
-named_known k name = named_type (with_tags k.tags) name
+named_known k name = type_named k.type_names name
 
 abbrev pub named_size_known : Known → TypeName → Option Form
 named_size_known k name = named_known k name >>= size_form k.structs

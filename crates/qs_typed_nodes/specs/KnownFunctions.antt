@@ -7,9 +7,8 @@ use Rattle.qs_memory.specs.Partial.{◌>>=◌}
 use Rattle.qs_memory.specs.declared.scalar.Scalar.{Scalar}
 use Rattle.qs_memory.specs.declared.scalar.Scalar.TheVariants as scalars
 use Rattle.qs_syntax.specs.declared.types.Base.{Base}
-use Rattle.qs_syntax.specs.declared.types.Base.TheVariants as bases
 use Rattle.qs_syntax.specs.declared.types.TypeName.{TypeName}
-use Rattle.qs_types.specs.Contexts.{is_void_base}
+use Rattle.qs_types.specs.Contexts.{TypeNames, base_in, is_void_type}
 use Rattle.qs_calls.specs.declared.parameter.Parameter.{Parameter}
 use Rattle.qs_types.specs.GivenFunctions.{main_name}
 use Rattle.qs_types.specs.Placed.{Local}
@@ -89,19 +88,20 @@ parameters_known k (p ∷ ps) = parameter_known k p >>= λ now. parameters_known
 
 -- ---- results of functions (6.8.6.4p3, 6.9.1p3)
 
-abbrev pub base_scalar : Base → Scalar
-base_scalar bases.Void = scalars.Int
-base_scalar bases.Int = scalars.Int
-base_scalar bases.Unsigned = scalars.Unsigned
-base_scalar bases.Char = scalars.Char
-base_scalar (bases.Struct tag) = scalars.Pointer
+-- what is no number is a pointer, as far as values go
+abbrev pub type_scalar : Option TypeTree → Scalar
+type_scalar None = scalars.Pointer
+type_scalar (Some t) = scalar_of t
+
+abbrev pub base_scalar : TypeNames → Base → Scalar
+base_scalar names base = type_scalar (base_in names base)
 
 -- the scalar type of what a type by its name is
-abbrev pub named_scalar : TypeName → Scalar
-named_scalar name = if name.stars == 0 then base_scalar name.base else scalars.Pointer
+abbrev pub named_scalar : TypeNames → TypeName → Scalar
+named_scalar names name = if name.stars == 0 then base_scalar names name.base else scalars.Pointer
 
-abbrev pub returns_nothing : FunctionTree → Bool
-returns_nothing f = is_void_base f.result_type.base && (f.result_type.stars == 0)
+abbrev pub returns_nothing : TypeNames → FunctionTree → Bool
+returns_nothing names f = is_void_type (base_in names f.result_type.base) && (f.result_type.stars == 0)
 
 -- ---- functions; the result and the places are those of the function, and the locals stand in these
 
@@ -111,7 +111,7 @@ function_known k f body =
     sizes_of k.structs (locals_at k.types k.locals.placed) >>= λ sizes. statements_known k body >>= λ statements.
     Some (record {
       name = f.name;
-      result = if returns_nothing f then None else Some k.result;
+      result = if returns_nothing k.type_names f then None else Some k.result;
       parameters = parameters;
       variables = scalars;
       blocks = sizes;

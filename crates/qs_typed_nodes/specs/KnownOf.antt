@@ -6,6 +6,7 @@ use Rattle.qs_memory.specs.declared.scalar.Scalar.{Scalar}
 use Rattle.qs_syntax.specs.TreeOf.{exprs_tree}
 use Rattle.qs_syntax.specs.declared.expressions.Expr.{Expr}
 use Rattle.qs_types.specs.EnvOf.{env_tree}
+use Rattle.qs_types.specs.TypeNamesOf.{names_tree}
 use Rattle.qs_types.specs.declared.referent.Referent.{Referent}
 use Rattle.qs_typed_nodes.specs.Known as pure
 use Rattle.qs_typed_nodes.specs.PlacesOf.{locals_tree, statics_tree}
@@ -34,7 +35,7 @@ known_tree k = record {
   referents = k.referents.now;
   result = k.result;
   structs = env_tree k.env.now;
-  tags = k.tags.now.keys;
+  type_names = names_tree k.type_names.now;
   headers = headers_tree k.headers.now.entries;
   locals = locals_tree k.locals.now;
   statics = statics_tree k.statics.now;

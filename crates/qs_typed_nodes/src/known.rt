@@ -1,7 +1,6 @@
 // What is known in a unit by the numbers of its nodes.
 ghost use Rattle.std.specs.Prelude.{◌≡◌, option_map};
 ghost use Rattle.qs_syntax.specs.TreeOf.{expr_tree};
-ghost use Rattle.qs_types.specs.Contexts.{place_from};
 ghost use Rattle.qs_types.specs.TypeOf.{type_tree};
 ghost use Rattle.qs_typed_forms.specs.FormOf.{form_tree};
 ghost use Rattle.qs_typed_nodes.specs.Known.{at_number, base_known, designated_known, name_known};
@@ -17,13 +16,13 @@ use crate::places::{
     Locals, Statics, file_variable_object, function_number, local_lvalue, text_object,
 };
 use indexmap::{IndexMap, IndexSet};
-use qs_base::{FnId, Name, NoMemory, count};
+use qs_base::{FnId, Name, NoMemory};
 use qs_calls::Callee;
 use qs_memory::Scalar;
 use qs_syntax::{Base, Expr, TypeName};
 use qs_typed_forms::{Form, size_in};
 use qs_typed_trees::{Expression, Lvalue};
-use qs_types::{CType, Env, Referent};
+use qs_types::{CType, Env, Referent, TypeNames};
 use std::alloc::Global;
 
 /// What is known.
@@ -38,8 +37,8 @@ pub struct Known<'a> {
     pub result: Scalar,
     /// the structs
     pub env: &'a Env,
-    /// their tags, in their order
-    pub tags: &'a IndexSet<Name>,
+    /// the names of types
+    pub type_names: &'a TypeNames,
     /// the scalar types of the parameters of each header, by the number of its node
     pub headers: &'a IndexMap<u32, Vec<Scalar>>,
     /// the locals of the function
@@ -71,17 +70,6 @@ pub fn referent_in(referents: &[Option<Referent>], node: u32) -> Option<Referent
     ensures { result ≡ at_number referents.now node }
 {
     *referents.get(node as usize)?
-}
-
-/// The number of the struct with this tag.
-#[tactic(auto, using(crate::proofs::PlaceTables::tag_found))]
-fn tag_number(tags: &IndexSet<Name>, tag: &Name) -> Result<u32, NoMemory>
-    ensures { Gives itself (place_from 0 tag.now (tags.now).keys) result }
-{
-    match tags.get_index_of(tag) {
-        None => Err(NoMemory),
-        Some(i) => count(i),
-    }
 }
 
 impl<'a> Known<'a> {
@@ -199,7 +187,7 @@ impl<'a> Known<'a> {
     }
 
     /// The type that a declaration begins with (C11 6.7.2).
-    fn base_type(&self, base: &Base) -> Result<CType, NoMemory>
+    fn base_type(&self, alloc: Global, base: &Base) -> Result<CType, NoMemory>
         ensures { Knows type_tree base_known self.now base.now result }
     {
         match base {
@@ -207,19 +195,23 @@ impl<'a> Known<'a> {
             Base::Int => Ok(CType::Int),
             Base::Unsigned => Ok(CType::Unsigned),
             Base::Char => Ok(CType::Char),
-            Base::Struct(tag) => {
-                let k = tag_number(self.tags, tag)?;
-                Ok(CType::Struct(k))
-            }
+            Base::Struct(tag) => match self.type_names.tag_place(tag) {
+                None => Err(NoMemory),
+                Some(k) => Ok(CType::Struct(k)),
+            },
+            Base::Named(x) => match self.type_names.type_of(x) {
+                None => Err(NoMemory),
+                Some(t) => t.copy(alloc),
+            },
         }
     }
 
     /// The size of a type by its name (C11 6.5.3.4).
     #[tactic(auto, using(crate::proofs::NamedSizes::named_size, crate::proofs::NamedSizes::pointed_size))]
-    pub fn named_size_form(&self, name: &TypeName) -> Result<Form, NoMemory>
+    pub fn named_size_form(&self, alloc: Global, name: &TypeName) -> Result<Form, NoMemory>
         ensures { Knows form_tree named_size_known self.now name.now result }
     {
-        let t = self.base_type(&name.base)?;
+        let t = self.base_type(alloc, &name.base)?;
         if name.stars > 0 {
             return Ok(sized(4));
         }

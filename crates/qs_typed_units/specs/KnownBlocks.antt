@@ -1,6 +1,6 @@
 -- What the blocks of file-scope variables hold when a run begins (C11 6.7.9), from what is known by the numbers of nodes.
 use Rattle.std.specs.Prelude.{ℕ, true, List, [], ◌∷◌, ◌++◌, Option, Some, None, if◌then◌else◌}
-use Rattle.qs_syntax.specs.Trees.{ExprTree, expr, InitialiserTree, VariableTree, structure, forward, function, variables, UnitTree}
+use Rattle.qs_syntax.specs.Trees.{ExprTree, expr, InitialiserTree, VariableTree, structure, forward, function, variables, UnitTree, typedef}
 use Rattle.qs_syntax.specs.Trees as trees
 use Rattle.qs_memory.specs.Partial.{◌>>=◌}
 use Rattle.qs_memory.specs.Values.{Pointer, null, width}
@@ -54,7 +54,7 @@ pointer_cells_known t e = pointer_constant_known t e >>= λ p. Some (parts_of p 
 
 -- 6.3.1.3
 abbrev pub integer_cells_known : Tables → TypeTree → ExprTree → Option (List Cell)
-integer_cells_known t type e = value_of (context_with t.structs t.tags) e >>= λ n. Some (bytes_of (width (scalar_of type)) n)
+integer_cells_known t type e = value_of (context_with t.structs t.type_names) e >>= λ n. Some (bytes_of (width (scalar_of type)) n)
 
 -- 6.6p7, 6.7.9p11
 abbrev pub constant_cells_known : Tables → TypeTree → ExprTree → Option (List Cell)
@@ -93,5 +93,6 @@ abbrev pub blocks_known : Tables → UnitTree → Option (List StaticBlock)
 blocks_known t [] = Some []
 blocks_known t (structure d ∷ ds) = blocks_known t ds
 blocks_known t (forward d ∷ ds) = blocks_known t ds
+blocks_known t (typedef d ∷ ds) = blocks_known t ds
 blocks_known t (function f ∷ ds) = blocks_known t ds
 blocks_known t (variables d ∷ ds) = file_variables_known t d.variables >>= λ now. blocks_known t ds >>= λ rest. Some (now ++ rest)

@@ -1,7 +1,7 @@
 -- The typed trees of the functions of a unit, from what is known by the numbers of its nodes.
 use Rattle.std.specs.Prelude.{ℕ, nat_eq, List, [], ◌∷◌, ◌++◌, Option, Some, None, if◌then◌else◌}
 use Rattle.std.specs.List.{list_any}
-use Rattle.qs_syntax.specs.Trees.{structure, forward, function, variables, FunctionTree, Stmts, UnitTree}
+use Rattle.qs_syntax.specs.Trees.{structure, forward, function, variables, FunctionTree, Stmts, UnitTree, typedef}
 use Rattle.qs_memory.specs.Partial.{◌>>=◌}
 use Rattle.qs_types.specs.Types.{TypeTree, Structs}
 use Rattle.qs_types.specs.declared.referent.Referent.{Referent}
@@ -10,13 +10,14 @@ use Rattle.qs_meaning.specs.Names.{Locals, Statics}
 use Rattle.qs_typed_units.specs.Addressed.{statements_addressed}
 use Rattle.qs_typed_nodes.specs.Known.{Known, Header}
 use Rattle.qs_typed_nodes.specs.KnownFunctions.{places_at, parameters_nodes, statements_nodes, named_scalar, function_known}
+use Rattle.qs_types.specs.Contexts.{TypeNames}
 
 -- what is known of all functions of a unit
 pub record Tables : Type 0 where
   pub types : List (Option TypeTree)
   pub referents : List (Option Referent)
   pub structs : Structs
-  pub tags : List (List ℕ)
+  pub type_names : TypeNames
   pub headers : List Header
   pub statics : Statics
   pub functions : List (List ℕ)
@@ -34,9 +35,9 @@ abbrev pub known_in : Tables → FunctionTree → Stmts → Known
 known_in t f body = record {
   types = t.types;
   referents = t.referents;
-  result = named_scalar f.result_type;
+  result = named_scalar t.type_names f.result_type;
   structs = t.structs;
-  tags = t.tags;
+  type_names = t.type_names;
   headers = t.headers;
   locals = body_places t f body;
   statics = t.statics;
@@ -55,5 +56,6 @@ abbrev pub functions_known : Tables → UnitTree → Option (List Function)
 functions_known t [] = Some []
 functions_known t (structure d ∷ ds) = functions_known t ds
 functions_known t (forward d ∷ ds) = functions_known t ds
+functions_known t (typedef d ∷ ds) = functions_known t ds
 functions_known t (function f ∷ ds) = option_body_known t f f.body >>= λ now. functions_known t ds >>= λ rest. Some (now ++ rest)
 functions_known t (variables d ∷ ds) = functions_known t ds

@@ -1,6 +1,6 @@
 -- What is known of a unit as a whole: the headers of its functions, each with the scalar types of its parameters.
 use Rattle.std.specs.Prelude.{List, [], ◌∷◌, ◌++◌, Option, Some, None}
-use Rattle.qs_syntax.specs.Trees.{structure, forward, function, variables, FunctionTree, UnitTree}
+use Rattle.qs_syntax.specs.Trees.{structure, forward, function, variables, FunctionTree, UnitTree, typedef}
 use Rattle.qs_memory.specs.Partial.{◌>>=◌}
 use Rattle.qs_memory.specs.declared.scalar.Scalar.{Scalar}
 use Rattle.qs_types.specs.Types.{TypeTree}
@@ -24,5 +24,6 @@ abbrev pub headers_behind : (types : List (Option TypeTree)) → List Header →
 headers_behind types hs [] = Some hs
 headers_behind types hs (structure d ∷ ds) = headers_behind types hs ds
 headers_behind types hs (forward d ∷ ds) = headers_behind types hs ds
+headers_behind types hs (typedef d ∷ ds) = headers_behind types hs ds
 headers_behind types hs (function f ∷ ds) = with_header types f hs >>= λ more. headers_behind types more ds
 headers_behind types hs (variables d ∷ ds) = headers_behind types hs ds

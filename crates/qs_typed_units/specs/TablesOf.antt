@@ -4,7 +4,8 @@ use Rattle.std.specs.declared.alloc.Global.{Global}
 use Rattle.qs_syntax.specs.Trees.{FunctionTree, UnitTree}
 use Rattle.qs_types.specs.Contexts.{Context, context_with}
 use Rattle.qs_types.specs.EnvOf.{env_tree}
-use Rattle.qs_types.specs.Recorded.{tags_of}
+use Rattle.qs_types.specs.TypeNamesOf.{names_tree}
+use Rattle.qs_types.specs.Recorded.{type_names_of}
 use Rattle.qs_types.specs.References.{TextBlock, literal_blocks}
 use Rattle.qs_types.specs.UnitRules.{structs_of}
 use Rattle.qs_typing_findings.specs.NodeReferents.{unit_referents}
@@ -23,15 +24,15 @@ tables_tree t = record {
   types = types_tree t.types.now;
   referents = t.referents.now;
   structs = env_tree t.env.now;
-  tags = t.tags.now.keys;
+  type_names = names_tree t.type_names.now;
   headers = headers_tree t.headers.entries;
   statics = statics_tree t.statics;
   functions = t.functions.keys;
 }
 
--- the structs and tags alone
+-- the structs and the names of types alone
 abbrev pub structs_known : CodeTables → Context
-structs_known t = context_with (tables_tree t).structs (tables_tree t).tags
+structs_known t = context_with (tables_tree t).structs (tables_tree t).type_names
 
 abbrev pub numbers : Vec ℕ Global → List ℕ
 numbers v = v.items
@@ -54,7 +55,7 @@ pub record AreOf (t : Tables) (unit : UnitTree) : Type 0 where
   pub types : t.types ≡ unit_types unit
   pub referents : t.referents ≡ unit_referents unit
   pub structs : t.structs ≡ structs_of unit
-  pub tags : t.tags ≡ tags_of unit
+  pub type_names : t.type_names ≡ type_names_of unit
   pub headers : headers_behind t.types [] unit ≡ Some t.headers
   pub variables : t.statics.variables ≡ file_variables_in unit
   pub texts : t.statics.texts ≡ text_nodes (literal_blocks unit)

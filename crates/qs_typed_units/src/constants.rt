@@ -117,7 +117,7 @@ fn pointer_cells(alloc: Global, t: &Tables<'_>, e: &Expr) -> Result<Vec<Cell>, N
 fn value(t: &Tables<'_>, e: &Expr) -> Result<u32, NoMemory>
     ensures { Gives itself (value_of (structs_known t.now) (expr_tree e.now)) result }
 {
-    match qs_types::value(t.env, t.tags, e) {
+    match qs_types::value(t.env, t.type_names, e) {
         None => Err(NoMemory),
         Some(n) => Ok(n),
     }

@@ -74,6 +74,7 @@ fn declaration_header(
     match d {
         Decl::Struct(_) => Ok(()),
         Decl::Forward(_) => Ok(()),
+        Decl::Typedef(_) => Ok(()),
         Decl::Function(f) => note_header(alloc, types, f, headers),
         Decl::Variable(_) => Ok(()),
     }

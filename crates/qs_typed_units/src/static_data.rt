@@ -131,6 +131,7 @@ fn add_declaration(
     match d {
         Decl::Struct(_) => Ok(()),
         Decl::Forward(_) => Ok(()),
+        Decl::Typedef(_) => Ok(()),
         Decl::Function(_) => Ok(()),
         Decl::Variable(d) => {
             let mut now = file_variables(alloc, t, &d.variables)?;

@@ -13,7 +13,7 @@ use qs_base::{Name, NoMemory};
 use qs_memory::Scalar;
 use qs_syntax::{Decl, Function, Variable};
 use qs_typed_nodes::Statics;
-use qs_types::{CType, Env, Referent};
+use qs_types::{CType, Env, Referent, TypeNames};
 use std::alloc::Global;
 
 /// What is known of all functions of a unit.
@@ -26,8 +26,8 @@ pub struct Tables<'a> {
     pub referents: &'a [Option<Referent>],
     /// the structs
     pub env: &'a Env,
-    /// their tags, in their order
-    pub tags: &'a IndexSet<Name>,
+    /// the names of types
+    pub type_names: &'a TypeNames,
     /// the scalar types of the parameters of each header, by the number of its node
     pub headers: IndexMap<u32, Vec<Scalar>>,
     /// what has a block from the beginning
@@ -65,6 +65,7 @@ fn declaration_functions(
     match d {
         Decl::Struct(_) => Ok(()),
         Decl::Forward(_) => Ok(()),
+        Decl::Typedef(_) => Ok(()),
         Decl::Function(f) => note_body(alloc, f, names),
         Decl::Variable(_) => Ok(()),
     }
@@ -98,6 +99,7 @@ fn declaration_variables(d: &Decl, nodes: &mut IndexSet<u32>) -> Result<(), NoMe
     match d {
         Decl::Struct(_) => Ok(()),
         Decl::Forward(_) => Ok(()),
+        Decl::Typedef(_) => Ok(()),
         Decl::Function(_) => Ok(()),
         Decl::Variable(d) => insert_variables(&d.variables, nodes),
     }

@@ -12,7 +12,7 @@ use Rattle.qs_syntax.specs.declared.types.Base.TheVariants as bases
 use Rattle.qs_syntax.specs.Trees.{ExprTree}
 use Rattle.qs_syntax.specs.Trees as trees
 use Rattle.qs_types.specs.Types.{TypeTree, int, unsigned, char}
-use Rattle.qs_types.specs.Contexts.{start_context}
+use Rattle.qs_types.specs.Contexts.{start_context, no_type_names}
 use Rattle.qs_types.specs.Expressions.{type_of}
 use Rattle.qs_types.specs.Constants.{constant_of, is_built, length_of}
 use Rattle.qs_types.proofs.RuleTrees.{e, number, x, call_f}
@@ -146,7 +146,7 @@ no_parts =
     e (trees.text []) ∷ x ∷ e (trees.unary unaries.Address x) ∷ e (trees.unary unaries.Indirect x) ∷ e (trees.step steps.IncrementAfter x) ∷ e (trees.sizeof_expr x)
     ∷ e (trees.assign assigns.Plain x i) ∷ e (trees.comma i i) ∷ e (trees.subscript x i) ∷ e (trees.member accesses.Dot x []) ∷ call_f [] ∷ cast bases.Int 1 i ∷ []
 
-not_built : map is_built no_parts ≡ replicate 12 false
+not_built : map (is_built no_type_names) no_parts ≡ replicate 12 false
 not_built = refl
 
 -- an expression is built only of what is
@@ -155,8 +155,8 @@ around a =
     minus a ∷ e (trees.unary unaries.Plus a) ∷ e (trees.unary unaries.Complement a) ∷ e (trees.unary unaries.Not a) ∷ cast bases.Int 0 a
     ∷ e (trees.binary binaries.Or i a) ∷ e (trees.binary binaries.Add a i) ∷ chosen a i i ∷ chosen i a i ∷ chosen i i a ∷ []
 
-built_around : map is_built (around i) ≡ replicate 10 true
+built_around : map (is_built no_type_names) (around i) ≡ replicate 10 true
 built_around = refl
 
-not_built_around : map is_built (around x) ≡ replicate 10 false
+not_built_around : map (is_built no_type_names) (around x) ≡ replicate 10 false
 not_built_around = refl

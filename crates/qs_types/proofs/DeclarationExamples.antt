@@ -81,11 +81,11 @@ incomplete_type_broken_2 : found (global bases.Void 1 97 one None ∷ []) ≡ fa
 incomplete_type_broken_2 = refl
 
 -- struct s {int m,m;};
-member_twice_broken : found (structure (record { node = unnumbered 0; name = 115 ∷ []; members = record { base = bases.Int; declarators = declarator 0 109 one ∷ declarator 0 109 one ∷ [] } ∷ [] }) ∷ []) ≡ fault 2 rules.MemberTwice
+member_twice_broken : found (structure (record { node = unnumbered 0; name = Some (115 ∷ []); members = record { base = bases.Int; declarators = declarator 0 109 one ∷ declarator 0 109 one ∷ [] } ∷ [] }) ∷ []) ≡ fault 2 rules.MemberTwice
 member_twice_broken = refl
 
 -- struct s {int m,n;};
-member_twice_kept : found (structure (record { node = unnumbered 0; name = 115 ∷ []; members = record { base = bases.Int; declarators = declarator 0 109 one ∷ declarator 0 110 one ∷ [] } ∷ [] }) ∷ []) ≡ []
+member_twice_kept : found (structure (record { node = unnumbered 0; name = Some (115 ∷ []); members = record { base = bases.Int; declarators = declarator 0 109 one ∷ declarator 0 110 one ∷ [] } ∷ [] }) ∷ []) ≡ []
 member_twice_kept = refl
 
 -- char a[1-1];

@@ -51,7 +51,7 @@ starred_header base stars name =
 -- a struct with one member int m of these lengths
 abbrev struct_of : (tag : ℕ) → LengthsTree → DeclTree
 struct_of tag lengths =
-    structure (record { node = unnumbered 0; name = tag ∷ []; members = record { base = bases.Int; declarators = declarator 0 109 lengths ∷ [] } ∷ [] })
+    structure (record { node = unnumbered 0; name = Some (tag ∷ []); members = record { base = bases.Int; declarators = declarator 0 109 lengths ∷ [] } ∷ [] })
 
 abbrev t_base : Base
 t_base = bases.Struct (116 ∷ [])

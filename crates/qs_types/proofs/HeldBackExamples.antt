@@ -43,7 +43,7 @@ void_has_type = refl
 -- ---- members that are too large
 
 abbrev struct_of : List DeclaratorTree → DeclTree
-struct_of ds = structure (record { node = unnumbered 0; name = 115 ∷ []; members = record { base = bases.Char; declarators = ds } ∷ [] })
+struct_of ds = structure (record { node = unnumbered 0; name = Some (115 ∷ []); members = record { base = bases.Char; declarators = ds } ∷ [] })
 
 -- struct s {char m[16777216];};
 largest_struct : found (struct_of (declarator 0 109 (many (number 16777216)) ∷ []) ∷ []) ≡ []

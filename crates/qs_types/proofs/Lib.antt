@@ -4,7 +4,7 @@ mod Layouts
 mod Extents
 mod LayoutSteps
 pub mod StructLayouts
-pub mod TagPlaces
+pub mod NameLookups
 pub mod KnownValues
 mod LayoutExamples
 pub mod RuleLaws
@@ -23,3 +23,4 @@ mod LimitExamples
 mod UnitExamples
 mod ReferenceExamples
 mod RecordedExamples
+mod TypeNameExamples

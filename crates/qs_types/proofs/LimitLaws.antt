@@ -5,7 +5,7 @@ use Rattle.std.proofs.lemmas.Bool.Decides.{nat_tests}
 use Rattle.std.specs.Option.{option_or}
 use Rattle.qs_syntax.specs.Nodes.{unit_count}
 use Rattle.qs_syntax.specs.Units.{IsRead}
-use Rattle.qs_syntax.specs.Trees.{ParameterTree, FunctionTree, Stmts, structure, forward, function, variables, UnitTree}
+use Rattle.qs_syntax.specs.Trees.{ParameterTree, FunctionTree, Stmts, structure, forward, typedef, function, variables, UnitTree}
 use Rattle.qs_types.specs.Types.{Structs}
 use Rattle.qs_types.specs.Layout.{rounded_up}
 use Rattle.qs_types.specs.Contexts.{Context, start_context}
@@ -36,6 +36,7 @@ all_longer : (names : List (List ℕ)) (ds : UnitTree) → length names ≤ leng
 all_longer names [] = omega arith
 all_longer names (structure s ∷ ds) = all_longer names ds
 all_longer names (forward f ∷ ds) = all_longer names ds
+all_longer names (typedef t ∷ ds) = all_longer names ds
 all_longer names (function f ∷ ds) = omega (arith, longer names f.name, all_longer (with_name_once names f.name) ds)
 all_longer names (variables d ∷ ds) = all_longer names ds
 
@@ -50,6 +51,7 @@ headers_past : (limit : ℕ) (names : List (List ℕ)) (ds : UnitTree) → nat_l
 headers_past limit names [] h = sym h
 headers_past limit names (structure s ∷ ds) h = headers_past limit names ds h
 headers_past limit names (forward f ∷ ds) h = headers_past limit names ds h
+headers_past limit names (typedef t ∷ ds) h = headers_past limit names ds h
 headers_past limit names (function f ∷ ds) h =
     known (is_name_in f.name names) (headers_past limit names ds h) (headers_past limit (names ++ f.name ∷ []) ds)
   where
@@ -93,6 +95,7 @@ pub parameters_past : (limit : ℕ) (unit : UnitTree) → is_some (first_past_pa
 parameters_past limit [] = grind (arith, nat_tests)
 parameters_past limit (structure s ∷ ds) = parameters_past limit ds
 parameters_past limit (forward f ∷ ds) = parameters_past limit ds
+parameters_past limit (typedef t ∷ ds) = parameters_past limit ds
 parameters_past limit (function f ∷ ds) =
     either_past (node_of_parameter (slice_get f.parameters limit)) (first_past_parameters limit ds)
     ∙ (λ i. one_past limit f.parameters i || parameters_past limit ds i)
@@ -159,6 +162,7 @@ bodies_past : (limit : ℕ) (c : Context) (ds : UnitTree) → is_some (local_pas
 bodies_past limit c [] = sym (none_past limit)
 bodies_past limit c (structure s ∷ ds) = bodies_past limit (after_declaration c (structure s)) ds
 bodies_past limit c (forward f ∷ ds) = bodies_past limit (after_declaration c (forward f)) ds
+bodies_past limit c (typedef t ∷ ds) = bodies_past limit (after_declaration c (typedef t)) ds
 bodies_past limit c (function f ∷ ds) =
     either_past (local_past limit c f f.body) (local_past_from limit (after_declaration c (function f)) ds)
     ∙ (λ i. body_past limit c f f.body i || bodies_past limit (after_declaration c (function f)) ds i)

@@ -2,7 +2,7 @@
 use Rattle.std.proofs.Common.{◌≡◌, ℕ, List, [], ◌∷◌, Option, Some, None, refl}
 use Rattle.qs_syntax_vocabulary.specs.declared.operators.UnaryOperator.TheVariants as unaries
 use Rattle.qs_syntax.specs.declared.types.Base.TheVariants as bases
-use Rattle.qs_syntax.specs.Trees.{unnumbered, stmts_of, FunctionTree, Stmts, structure, forward, function, variables, UnitTree}
+use Rattle.qs_syntax.specs.Trees.{unnumbered, stmts_of, FunctionTree, Stmts, structure, forward, typedef, function, variables, UnitTree}
 use Rattle.qs_syntax.specs.Trees as trees
 use Rattle.qs_syntax.specs.Numbering.{numbered_unit}
 use Rattle.qs_types.specs.declared.rules.Rule.TheVariants as rules
@@ -20,6 +20,7 @@ abbrev addressed : UnitTree → List ℕ
 addressed [] = []
 addressed (structure s ∷ ds) = []
 addressed (forward f ∷ ds) = []
+addressed (typedef t ∷ ds) = []
 addressed (function f ∷ ds) = addressed_by f f.body
 addressed (variables d ∷ ds) = []
 

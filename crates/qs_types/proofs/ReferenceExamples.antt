@@ -1,5 +1,5 @@
 -- Which texts are blocks.
-use Rattle.std.proofs.Common.{◌≡◌, ℕ, false, List, [], ◌∷◌, refl}
+use Rattle.std.proofs.Common.{◌≡◌, ℕ, false, List, [], ◌∷◌, Some, refl}
 use Rattle.qs_syntax_vocabulary.specs.declared.operators.BinaryOperator.TheVariants as binaries
 use Rattle.qs_syntax.specs.declared.types.Base.TheVariants as bases
 use Rattle.qs_syntax.specs.Trees.{ExprTree, unnumbered, structure}
@@ -32,7 +32,7 @@ filled_in_list = refl
 
 -- struct s {char m[2],*n;};struct s a={"x","y"};
 filled_in_struct : literal_blocks (numbered_unit (
-    structure (record { node = unnumbered 0; name = 115 ∷ []; members = record { base = bases.Char; declarators = declarator 0 109 (many (number 2)) ∷ declarator 1 110 one ∷ [] } ∷ [] })
+    structure (record { node = unnumbered 0; name = Some (115 ∷ []); members = record { base = bases.Char; declarators = declarator 0 109 (many (number 2)) ∷ declarator 1 110 one ∷ [] } ∷ [] })
     ∷ global s_base 0 97 one (listed (trees.value (text (120 ∷ [])) ∷ trees.value (text (121 ∷ [])) ∷ [])) ∷ [])) ≡ at 7 (121 ∷ []) ∷ []
 filled_in_struct = refl
 

@@ -2,7 +2,7 @@
 use Rattle.std.proofs.Common.{ℕ, true, false, List, [], ◌∷◌, Option, Some, None}
 use Rattle.qs_syntax.specs.declared.types.Base.{Base}
 use Rattle.qs_syntax.specs.declared.types.Base.TheVariants as bases
-use Rattle.qs_syntax.specs.Trees.{unnumbered, ExprTree, expr, ShapeTree, exprs_of, LengthsTree, DeclaratorTree, InitialiserTree, initialisers_of, StmtTree, stmts_of, DeclTree, structure, forward, function, variables, UnitTree}
+use Rattle.qs_syntax.specs.Trees.{unnumbered, ExprTree, expr, ShapeTree, exprs_of, LengthsTree, DeclaratorTree, InitialiserTree, initialisers_of, StmtTree, stmts_of, DeclTree, of_struct, of_base, structure, forward, typedef, function, variables, UnitTree}
 use Rattle.qs_syntax.specs.Trees as trees
 use Rattle.qs_syntax.specs.Numbering.{numbered_unit}
 use Rattle.qs_types.specs.declared.rules.Rule.{Rule}
@@ -66,11 +66,29 @@ s_base = bases.Struct (115 ∷ [])
 
 -- struct s {int m;};
 abbrev pub struct_s : DeclTree
-struct_s = structure (record { node = unnumbered 0; name = 115 ∷ []; members = record { base = bases.Int; declarators = declarator 0 109 one ∷ [] } ∷ [] })
+struct_s = structure (record { node = unnumbered 0; name = Some (115 ∷ []); members = record { base = bases.Int; declarators = declarator 0 109 one ∷ [] } ∷ [] })
 
 -- struct s;
 abbrev pub forward_s : DeclTree
 forward_s = forward (record { node = unnumbered 0; name = 115 ∷ [] })
+
+-- typedef BASE NAME;
+abbrev pub defines : Base → ℕ → ℕ → LengthsTree → DeclTree
+defines base stars name lengths = typedef (record { defined = of_base base; names = declarator stars name lengths ∷ [] })
+
+-- typedef struct TAG {int m;} NAME;
+abbrev pub defines_struct : Option (List ℕ) → ℕ → DeclTree
+defines_struct tag name = typedef (record {
+  defined = of_struct (record { node = unnumbered 0; name = tag; members = record { base = bases.Int; declarators = declarator 0 109 one ∷ [] } ∷ [] });
+  names = declarator 0 name one ∷ [];
+})
+
+-- the type names T and U
+abbrev pub t_base : Base
+t_base = bases.Named (84 ∷ [])
+
+abbrev pub u_base : Base
+u_base = bases.Named (85 ∷ [])
 
 abbrev pub parameter : Base → ℕ → Option (List ℕ) → trees.ParameterTree
 parameter base stars name = record { node = unnumbered 0; type_name = record { base = base; stars = stars }; name = name; lengths = one }

@@ -99,7 +99,7 @@ putchar_no_variable = refl
 abbrev padded : ℕ → UnitTree
 padded n = structure (record {
   node = unnumbered 0;
-  name = 115 ∷ [];
+  name = Some (115 ∷ []);
   members =
       record { base = bases.Char; declarators = declarator 0 109 one ∷ [] } ∷ record { base = bases.Int; declarators = declarator 0 110 one ∷ [] }
       ∷ record { base = bases.Char; declarators = declarator 0 111 (many (number n)) ∷ [] } ∷ [];

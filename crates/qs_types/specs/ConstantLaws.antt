@@ -20,4 +20,4 @@ Typed (Some t) u = Integer t u
 -- an expression that is built as a constant expression has an integer type, if it has one, and `unsigned` exactly where
 -- its operands say so
 abbrev pub ConstantsHaveTypes : Type 0
-ConstantsHaveTypes = (c : Context) (e : ExprTree) → is_built e ≡ true → Typed (type_of c e) (is_unsigned e)
+ConstantsHaveTypes = (c : Context) (e : ExprTree) → is_built c.type_names e ≡ true → Typed (type_of c e) (is_unsigned c.type_names e)

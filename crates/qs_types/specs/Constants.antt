@@ -6,63 +6,54 @@ use Rattle.qs_syntax_vocabulary.specs.declared.operators.UnaryOperator.TheVarian
 use Rattle.qs_syntax_vocabulary.specs.declared.operators.BinaryOperator.{BinaryOperator}
 use Rattle.qs_syntax_vocabulary.specs.declared.operators.BinaryOperator.TheVariants as binaries
 use Rattle.qs_syntax.specs.declared.types.Base.{Base}
-use Rattle.qs_syntax.specs.declared.types.Base.TheVariants as bases
 use Rattle.qs_syntax.specs.declared.types.TypeName.{TypeName}
 use Rattle.qs_syntax.specs.Trees.{ExprTree, expr, ShapeTree}
 use Rattle.qs_syntax.specs.Trees as trees
 use Rattle.qs_types.specs.Types.{TypeTree, int, unsigned, char, void, pointer, array, struct, same_type, is_integer}
-use Rattle.qs_types.specs.Layout.{and_then, size_of}
-use Rattle.qs_types.specs.Contexts.{Context, named_type}
+use Rattle.qs_types.specs.Layout.{and_then, size_within}
+use Rattle.qs_types.specs.Contexts.{TypeNames, Context, base_in, named_type, is_type_in}
 use Rattle.qs_types.specs.Expressions.{type_of}
 
 -- ---- names of integer types
 
-abbrev pub is_integer_base : Base → Bool
-is_integer_base bases.Void = false
-is_integer_base bases.Int = true
-is_integer_base bases.Unsigned = true
-is_integer_base bases.Char = true
-is_integer_base (bases.Struct tag) = false
+abbrev pub is_integer_base : TypeNames → Base → Bool
+is_integer_base names base = is_type_in is_integer (base_in names base)
 
-abbrev pub is_integer_name : TypeName → Bool
-is_integer_name n = n.stars == 0 && is_integer_base n.base
+abbrev pub is_integer_name : TypeNames → TypeName → Bool
+is_integer_name names n = n.stars == 0 && is_integer_base names n.base
 
 -- ---- what they are built of: literals, `sizeof` of a type name, casts to integer types, and operators other than assignment, step, comma, `&`, `*` and calls
 
 abbrev mutual
-  pub is_built : ExprTree → Bool
-  is_built (expr node shape) = is_built_shape shape
+  pub is_built : TypeNames → ExprTree → Bool
+  is_built names (expr node shape) = is_built_shape names shape
 
-  pub is_built_shape : ShapeTree → Bool
-  is_built_shape (trees.constant n u) = true
-  is_built_shape (trees.text bytes) = false
-  is_built_shape (trees.name x) = false
-  is_built_shape (trees.unary unaries.Address a) = false
-  is_built_shape (trees.unary unaries.Indirect a) = false
-  is_built_shape (trees.unary unaries.Plus a) = is_built a
-  is_built_shape (trees.unary unaries.Minus a) = is_built a
-  is_built_shape (trees.unary unaries.Complement a) = is_built a
-  is_built_shape (trees.unary unaries.Not a) = is_built a
-  is_built_shape (trees.step operator a) = false
-  is_built_shape (trees.cast n a) = is_integer_name n && is_built a
-  is_built_shape (trees.sizeof_type n) = true
-  is_built_shape (trees.sizeof_expr a) = false
-  is_built_shape (trees.binary operator a b) = is_built a && is_built b
-  is_built_shape (trees.assign operator a b) = false
-  is_built_shape (trees.conditional d a b) = is_built d && (is_built a && is_built b)
-  is_built_shape (trees.comma a b) = false
-  is_built_shape (trees.subscript a b) = false
-  is_built_shape (trees.member access a x) = false
-  is_built_shape (trees.call f es) = false
+  pub is_built_shape : TypeNames → ShapeTree → Bool
+  is_built_shape names (trees.constant n u) = true
+  is_built_shape names (trees.text bytes) = false
+  is_built_shape names (trees.name x) = false
+  is_built_shape names (trees.unary unaries.Address a) = false
+  is_built_shape names (trees.unary unaries.Indirect a) = false
+  is_built_shape names (trees.unary unaries.Plus a) = is_built names a
+  is_built_shape names (trees.unary unaries.Minus a) = is_built names a
+  is_built_shape names (trees.unary unaries.Complement a) = is_built names a
+  is_built_shape names (trees.unary unaries.Not a) = is_built names a
+  is_built_shape names (trees.step operator a) = false
+  is_built_shape names (trees.cast n a) = is_integer_name names n && is_built names a
+  is_built_shape names (trees.sizeof_type n) = true
+  is_built_shape names (trees.sizeof_expr a) = false
+  is_built_shape names (trees.binary operator a b) = is_built names a && is_built names b
+  is_built_shape names (trees.assign operator a b) = false
+  is_built_shape names (trees.conditional d a b) = is_built names d && (is_built names a && is_built names b)
+  is_built_shape names (trees.comma a b) = false
+  is_built_shape names (trees.subscript a b) = false
+  is_built_shape names (trees.member access a x) = false
+  is_built_shape names (trees.call f es) = false
 
 -- ---- whether their type is unsigned
 
-abbrev pub is_unsigned_base : Base → Bool
-is_unsigned_base bases.Void = false
-is_unsigned_base bases.Int = false
-is_unsigned_base bases.Unsigned = true
-is_unsigned_base bases.Char = false
-is_unsigned_base (bases.Struct tag) = false
+abbrev pub is_unsigned_base : TypeNames → Base → Bool
+is_unsigned_base names base = is_type_in (λ t. same_type t unsigned) (base_in names base)
 
 -- 6.3.1.8, 6.5.7p3, 6.5.8p6, 6.5.9p3, 6.5.13p3, 6.5.14p3: by the operands of an operator
 abbrev pub is_unsigned_by : BinaryOperator → (p q : Bool) → Bool
@@ -87,30 +78,30 @@ is_unsigned_by binaries.Or p q = false
 
 -- of what is built so, the type is `unsigned` exactly here
 abbrev mutual
-  pub is_unsigned : ExprTree → Bool
-  is_unsigned (expr node shape) = is_unsigned_shape shape
+  pub is_unsigned : TypeNames → ExprTree → Bool
+  is_unsigned names (expr node shape) = is_unsigned_shape names shape
 
-  pub is_unsigned_shape : ShapeTree → Bool
-  is_unsigned_shape (trees.constant n u) = u
-  is_unsigned_shape (trees.text bytes) = false
-  is_unsigned_shape (trees.name x) = false
-  is_unsigned_shape (trees.unary unaries.Address a) = false
-  is_unsigned_shape (trees.unary unaries.Indirect a) = false
-  is_unsigned_shape (trees.unary unaries.Plus a) = is_unsigned a
-  is_unsigned_shape (trees.unary unaries.Minus a) = is_unsigned a
-  is_unsigned_shape (trees.unary unaries.Complement a) = is_unsigned a
-  is_unsigned_shape (trees.unary unaries.Not a) = false
-  is_unsigned_shape (trees.step operator a) = false
-  is_unsigned_shape (trees.cast n a) = is_unsigned_base n.base
-  is_unsigned_shape (trees.sizeof_type n) = true
-  is_unsigned_shape (trees.sizeof_expr a) = true
-  is_unsigned_shape (trees.binary operator a b) = is_unsigned_by operator (is_unsigned a) (is_unsigned b)
-  is_unsigned_shape (trees.assign operator a b) = false
-  is_unsigned_shape (trees.conditional d a b) = is_unsigned a || is_unsigned b
-  is_unsigned_shape (trees.comma a b) = false
-  is_unsigned_shape (trees.subscript a b) = false
-  is_unsigned_shape (trees.member access a x) = false
-  is_unsigned_shape (trees.call f es) = false
+  pub is_unsigned_shape : TypeNames → ShapeTree → Bool
+  is_unsigned_shape names (trees.constant n u) = u
+  is_unsigned_shape names (trees.text bytes) = false
+  is_unsigned_shape names (trees.name x) = false
+  is_unsigned_shape names (trees.unary unaries.Address a) = false
+  is_unsigned_shape names (trees.unary unaries.Indirect a) = false
+  is_unsigned_shape names (trees.unary unaries.Plus a) = is_unsigned names a
+  is_unsigned_shape names (trees.unary unaries.Minus a) = is_unsigned names a
+  is_unsigned_shape names (trees.unary unaries.Complement a) = is_unsigned names a
+  is_unsigned_shape names (trees.unary unaries.Not a) = false
+  is_unsigned_shape names (trees.step operator a) = false
+  is_unsigned_shape names (trees.cast n a) = is_unsigned_base names n.base
+  is_unsigned_shape names (trees.sizeof_type n) = true
+  is_unsigned_shape names (trees.sizeof_expr a) = true
+  is_unsigned_shape names (trees.binary operator a b) = is_unsigned_by operator (is_unsigned names a) (is_unsigned names b)
+  is_unsigned_shape names (trees.assign operator a b) = false
+  is_unsigned_shape names (trees.conditional d a b) = is_unsigned names a || is_unsigned names b
+  is_unsigned_shape names (trees.comma a b) = false
+  is_unsigned_shape names (trees.subscript a b) = false
+  is_unsigned_shape names (trees.member access a x) = false
+  is_unsigned_shape names (trees.call f es) = false
 
 -- ---- conversion to an integer type (6.3.1.3)
 
@@ -196,11 +187,11 @@ abbrev mutual
   shape_value c (trees.unary operator a) = and_then (value_of c a) (unary_value operator)
   shape_value c (trees.step operator a) = None
   shape_value c (trees.cast n a) = and_then (named_type c n) (λ t. and_then (value_of c a) (λ x. Some (converted t x)))
-  shape_value c (trees.sizeof_type n) = and_then (named_type c n) (size_of c.structs)
+  shape_value c (trees.sizeof_type n) = and_then (named_type c n) (size_within c.structs)
   shape_value c (trees.sizeof_expr a) = None
   shape_value c (trees.binary operator a b) =
       and_then (value_of c a) (λ x. if decides operator x then Some (truth (is_true x)) else
-      and_then (value_of c b) (combined operator (is_unsigned a) (is_unsigned b) x))
+      and_then (value_of c b) (combined operator (is_unsigned c.type_names a) (is_unsigned c.type_names b) x))
   shape_value c (trees.assign operator a b) = None
   shape_value c (trees.conditional d a b) = and_then (value_of c d) (λ x. if is_true x then value_of c a else value_of c b)
   shape_value c (trees.comma a b) = None
@@ -210,7 +201,7 @@ abbrev mutual
 
 -- the value of a constant expression of an integer type
 abbrev pub constant_of : Context → ExprTree → Option ℕ
-constant_of c e = and_then (type_of c e) (λ t. if is_integer t && is_built e then value_of c e else None)
+constant_of c e = and_then (type_of c e) (λ t. if is_integer t && is_built c.type_names e then value_of c e else None)
 
 -- 6.7.6.2p1: a length is at least 1; an int from 2 ^ 31 on is below 0
 abbrev pub length_within : TypeTree → ℕ → Option ℕ

@@ -1,10 +1,10 @@
 -- What names stand for (C11 6.2.1, 6.2.3), and what is known at a place of a unit.
-use Rattle.std.specs.Prelude.{ℕ, zero, suc, ◌+◌, Bool, true, false, List, [], ◌∷◌, ◌++◌, Option, Some, None, is_some, if◌then◌else◌}
+use Rattle.std.specs.Prelude.{ℕ, zero, suc, ◌+◌, Bool, true, false, ◌&&◌, ◌||◌, List, [], ◌∷◌, ◌++◌, Option, Some, None, is_some, if◌then◌else◌}
 use Rattle.qs_base.specs.Bytes.{same_bytes}
 use Rattle.qs_syntax.specs.declared.types.Base.{Base}
 use Rattle.qs_syntax.specs.declared.types.Base.TheVariants as bases
 use Rattle.qs_syntax.specs.declared.types.TypeName.{TypeName}
-use Rattle.qs_types.specs.Types.{TypeTree, int, unsigned, char, void, pointer, struct, Structs}
+use Rattle.qs_types.specs.Types.{TypeTree, int, unsigned, char, void, pointer, struct, is_void, Structs}
 use Rattle.qs_types.specs.Layout.{and_then}
 use Rattle.qs_types.specs.GivenFunctions.{Signature, putchar_name, putchar_type, getchar_name, getchar_type}
 
@@ -21,11 +21,36 @@ pub record Binding : Type 0 where
   pub name : List ℕ
   pub entity : Entity
 
--- the structs and their tags, in the order of their first declarations; the names of the innermost scope and those of the scopes
+-- 6.7.2.3: a tag, and the number of its struct
+pub record Tag : Type 0 where
+  pub name : List ℕ
+  pub place : ℕ
+
+-- 6.7.8: a name that a `typedef` declares, and its type; none where the declaration breaks a rule on types
+pub record NamedType : Type 0 where
+  pub name : List ℕ
+  pub type : Option TypeTree
+
+-- the names of types: tags and the names of typedefs, each in the order of their first declarations
+pub record TypeNames : Type 0 where
+  pub tags : List Tag
+  pub types : List NamedType
+
+abbrev pub no_type_names : TypeNames
+no_type_names = record { tags = []; types = [] }
+
+-- one more tag, and one more type name
+abbrev pub add_tag : TypeNames → List ℕ → (place : ℕ) → TypeNames
+add_tag names tag place = record names { tags = names.tags ++ record { name = tag; place = place } ∷ [] }
+
+abbrev pub add_type : TypeNames → List ℕ → Option TypeTree → TypeNames
+add_type names x t = record names { types = names.types ++ record { name = x; type = t } ∷ [] }
+
+-- the structs, in the order of their first declarations, and the names of types; the names of the innermost scope and those of the scopes
 -- around it, the latest first; the result of the function, where it has a type; whether a loop is around the place
 pub record Context : Type 0 where
   pub structs : Structs
-  pub tags : List (List ℕ)
+  pub type_names : TypeNames
   pub inner : List Binding
   pub outer : List Binding
   pub result : Option TypeTree
@@ -39,11 +64,11 @@ given_functions =
 
 -- what is known before a unit
 abbrev pub start_context : Context
-start_context = record { structs = []; tags = []; inner = given_functions; outer = []; result = None; in_loop = false }
+start_context = record { structs = []; type_names = no_type_names; inner = given_functions; outer = []; result = None; in_loop = false }
 
--- what constant expressions and names of types speak of: these structs with these tags
-abbrev pub context_with : Structs → (tags : List (List ℕ)) → Context
-context_with structs tags = record start_context { structs = structs; tags = tags }
+-- what constant expressions speak of: these structs and these names of types
+abbrev pub context_with : Structs → TypeNames → Context
+context_with structs names = record start_context { structs = structs; type_names = names }
 
 abbrev pub lookup : List ℕ → List Binding → Option Entity
 lookup x [] = None
@@ -69,34 +94,71 @@ inside_loop context = record context { in_loop = true }
 
 -- ---- types by name (6.7.2, 6.7.7)
 
-abbrev pub place_from : ℕ → List ℕ → List (List ℕ) → Option ℕ
-place_from k tag [] = None
-place_from k tag (t ∷ ts) = if same_bytes t tag then Some k else place_from (k + 1) tag ts
+abbrev pub place_of : List ℕ → List Tag → Option ℕ
+place_of tag [] = None
+place_of tag (t ∷ ts) = if same_bytes t.name tag then Some t.place else place_of tag ts
 
 abbrev pub tag_place : Context → List ℕ → Option ℕ
-tag_place context tag = place_from 0 tag context.tags
+tag_place context tag = place_of tag context.type_names.tags
+
+-- what is declared under a type name
+abbrev pub named_in : List ℕ → List NamedType → Option (Option TypeTree)
+named_in x [] = None
+named_in x (n ∷ ns) = if same_bytes n.name x then Some n.type else named_in x ns
+
+-- the type that it stands for
+abbrev pub type_in : List ℕ → TypeNames → Option TypeTree
+type_in x names = and_then (named_in x names.types) (λ t. t)
+
+abbrev pub type_under : Context → List ℕ → Option (Option TypeTree)
+type_under context x = named_in x context.type_names.types
+
+abbrev pub is_type_name : Context → List ℕ → Bool
+is_type_name context x = is_some (type_under context x)
+
+-- 6.2.1p4, 6.2.3: in the scope of the file a name is no type name and nothing else too
+abbrev pub is_taken : (at_file_scope : Bool) → Context → List ℕ → Bool
+is_taken at_file_scope context x = (at_file_scope && is_type_name context x) || is_declared_here context x
 
 abbrev pub pointers : ℕ → TypeTree → TypeTree
 pointers zero t = t
 pointers (suc stars) t = pointer (pointers stars t)
 
--- None where the tag isn't declared
+-- None where the tag isn't declared, or the type name has no type
+abbrev pub base_in : TypeNames → Base → Option TypeTree
+base_in names bases.Void = Some void
+base_in names bases.Int = Some int
+base_in names bases.Unsigned = Some unsigned
+base_in names bases.Char = Some char
+base_in names (bases.Struct tag) = and_then (place_of tag names.tags) (λ k. Some (struct k))
+base_in names (bases.Named x) = type_in x names
+
 abbrev pub base_type : Context → Base → Option TypeTree
-base_type context bases.Void = Some void
-base_type context bases.Int = Some int
-base_type context bases.Unsigned = Some unsigned
-base_type context bases.Char = Some char
-base_type context (bases.Struct tag) = and_then (tag_place context tag) (λ k. Some (struct k))
+base_type context base = base_in context.type_names base
+
+-- a type with stars behind it
+abbrev pub starred : Option TypeTree → ℕ → Option TypeTree
+starred base stars = and_then base (λ t. Some (pointers stars t))
 
 abbrev pub starred_type : Context → Base → ℕ → Option TypeTree
-starred_type context base stars = and_then (base_type context base) (λ t. Some (pointers stars t))
+starred_type context base stars = starred (base_type context base) stars
 
 abbrev pub named_type : Context → TypeName → Option TypeTree
 named_type context n = starred_type context n.base n.stars
 
+-- no type name stands for `void`
 abbrev pub is_void_base : Base → Bool
 is_void_base bases.Void = true
 is_void_base bases.Int = false
 is_void_base bases.Unsigned = false
 is_void_base bases.Char = false
 is_void_base (bases.Struct tag) = false
+is_void_base (bases.Named x) = false
+
+-- a type that there is passes a test
+abbrev pub is_type_in : (TypeTree → Bool) → Option TypeTree → Bool
+is_type_in test None = false
+is_type_in test (Some t) = test t
+
+abbrev pub is_void_type : Option TypeTree → Bool
+is_void_type t = is_type_in is_void t

@@ -5,9 +5,10 @@ use Rattle.qs_syntax.specs.Trees.{ExprTree, expr, LengthsTree, DeclaratorTree, I
 use Rattle.qs_syntax.specs.Trees as trees
 use Rattle.qs_types.specs.Types.{TypeTree, void, pointer, array}
 use Rattle.qs_types.specs.Layout.{and_then, is_complete, is_sized}
+use Rattle.qs_types.specs.Conversions.{decayed}
 use Rattle.qs_types.specs.declared.rules.Rule.TheVariants as rules
 use Rattle.qs_types.specs.Rules.{Test, test, keeps, breaks_one, type_unless, Fault}
-use Rattle.qs_types.specs.Contexts.{Context, base_type, starred_type, is_void_base}
+use Rattle.qs_types.specs.Contexts.{Context, base_type, starred, is_void_type}
 use Rattle.qs_types.specs.Expressions.{type_of, type_or_void}
 use Rattle.qs_types.specs.Constants.{length_of}
 use Rattle.qs_types.specs.ExpressionFaults.{used, expr_faults}
@@ -44,12 +45,11 @@ declared_by tests t = record { tests = tests; type = type_unless tests t }
 abbrev pub undeclared : Declared
 undeclared = record { tests = []; type = None }
 
--- the tag is known, `void` is not the base, and the type of the elements is complete
-abbrev pub element_tests : Context → Base → ℕ → List Test
+-- a declaration begins with this type, its base; the base is known, it isn't `void`, and the type of the elements is complete
+abbrev pub element_tests : Context → (base : Option TypeTree) → ℕ → List Test
 element_tests c base stars =
-    keeps rules.UnknownTag (is_some (base_type c base))
-    ++ test rules.IncompleteType
-    (is_void_base base || (is_some (base_type c base) && not (is_complete c.structs (type_or_void (starred_type c base stars)))))
+    keeps rules.UnknownTag (is_some base)
+    ++ test rules.IncompleteType (is_void_type base || (is_some base && not (is_complete c.structs (type_or_void (starred base stars)))))
 
 -- the lengths with the first, where the brackets are empty, from elsewhere
 abbrev pub whole_lengths : LengthsTree → (first : Option ℕ) → Option (List ℕ) → Option (List ℕ)
@@ -60,8 +60,8 @@ abbrev pub object_by : (element : TypeTree) → Option (List ℕ) → TypeTree
 object_by element None = void
 object_by element (Some ns) = arrays element ns
 
-abbrev pub object_type : Context → Base → ℕ → Option (List ℕ) → TypeTree
-object_type c base stars ns = object_by (type_or_void (starred_type c base stars)) ns
+abbrev pub object_type : (base : Option TypeTree) → ℕ → Option (List ℕ) → TypeTree
+object_type base stars ns = object_by (type_or_void (starred base stars)) ns
 
 abbrev pub size_tests : Context → List Test → TypeTree → List Test
 size_tests c before t = test rules.LargeType (not (breaks_one before) && not (is_sized c.structs t))
@@ -69,14 +69,21 @@ size_tests c before t = test rules.LargeType (not (breaks_one before) && not (is
 abbrev pub with_size_tests : Context → List Test → TypeTree → Declared
 with_size_tests c before t = declared_by (before ++ size_tests c before t) t
 
--- a variable or a member, where its lengths are these
-abbrev pub object_declared : Context → Base → ℕ → Option (List ℕ) → Declared
-object_declared c base stars ns =
-    with_size_tests c (element_tests c base stars ++ keeps rules.ArrayLength (is_some ns)) (object_type c base stars ns)
+-- an object with this base, where its lengths are these
+abbrev pub object_over : Context → (base : Option TypeTree) → ℕ → Option (List ℕ) → Declared
+object_over c base stars ns =
+    with_size_tests c (element_tests c base stars ++ keeps rules.ArrayLength (is_some ns)) (object_type base stars ns)
 
+abbrev pub object_declared : Context → Base → ℕ → Option (List ℕ) → Declared
+object_declared c base stars ns = object_over c (base_type c base) stars ns
+
+abbrev pub declared_over : Context → (base : Option TypeTree) → DeclaratorTree → (first : Option ℕ) → Declared
+declared_over c base d first =
+    if all_typed c d.lengths.given then object_over c base d.stars (whole_lengths d.lengths first (lengths_of c d.lengths.given)) else undeclared
+
+-- a variable or a member
 abbrev pub declared : Context → Base → DeclaratorTree → (first : Option ℕ) → Declared
-declared c base d first =
-    if all_typed c d.lengths.given then object_declared c base d.stars (whole_lengths d.lengths first (lengths_of c d.lengths.given)) else undeclared
+declared c base d first = declared_over c (base_type c base) d first
 
 -- ---- variables (6.7.9p22): a list or a text gives the length that the brackets don't
 
@@ -102,8 +109,9 @@ abbrev pub is_any : List ExprTree → Bool
 is_any [] = false
 is_any (e ∷ es) = true
 
-abbrev pub is_array_parameter : LengthsTree → Bool
-is_array_parameter l = l.is_open || is_any l.given
+-- whether brackets stand behind the name
+abbrev pub has_brackets : LengthsTree → Bool
+has_brackets l = l.is_open || is_any l.given
 
 abbrev pub first_in : List ExprTree → Option ExprTree
 first_in [] = None
@@ -143,14 +151,29 @@ array_parameter c p =
 abbrev pub held_parameter : Context → ParameterTree → Declared
 held_parameter c p = untested (pointed (object_declared c p.type_name.base p.type_name.stars (lengths_of c (element_lengths p.lengths))))
 
--- the tag is known, and `void` is not the base; that the type is a scalar is a rule of its own
+-- without brackets: the base is known, and it isn't `void`
+abbrev pub plain_tests : (base : Option TypeTree) → List Test
+plain_tests base = keeps rules.UnknownTag (is_some base) ++ test rules.IncompleteType (is_void_type base)
+
+abbrev pub plain_declared : (base : Option TypeTree) → ℕ → Declared
+plain_declared base stars = declared_by (plain_tests base) (type_or_void (starred base stars))
+
+-- 6.7.6.3p7: a type name may stand for an array
+abbrev pub adjusted : Declared → Declared
+adjusted d = record d { type = option_map decayed d.type }
+
+-- that the type is a scalar is a rule of its own
 abbrev pub plain_parameter : Context → ParameterTree → Declared
-plain_parameter c p =
-    declared_by (keeps rules.UnknownTag (is_some (base_type c p.type_name.base)) ++ test rules.IncompleteType (is_void_base p.type_name.base))
-    (type_or_void (starred_type c p.type_name.base p.type_name.stars))
+plain_parameter c p = adjusted (plain_declared (base_type c p.type_name.base) p.type_name.stars)
 
 abbrev pub parameter_declared : Context → ParameterTree → Declared
 parameter_declared c p =
-    if not (is_array_parameter p.lengths) then plain_parameter c p else
+    if not (has_brackets p.lengths) then plain_parameter c p else
     if not (all_typed c (element_lengths p.lengths)) then undeclared else
     if is_length_typed c (first_length p.lengths) then array_parameter c p else held_parameter c p
+
+-- ---- names of types (6.7.8)
+
+-- without brackets the type may be incomplete
+abbrev pub type_name_declared : Context → (base : Option TypeTree) → DeclaratorTree → Declared
+type_name_declared c base d = if has_brackets d.lengths then declared_over c base d None else plain_declared base d.stars

@@ -141,6 +141,10 @@ sized_by layouts (pointer t) = Some (scalar_extent 4)
 sized_by layouts (array t n) = and_then (sized_by layouts t) (λ element. extent_within (array_extent element n))
 sized_by layouts (struct k) = and_then (layouts k) (λ l. extent_within (struct_extent l))
 
+-- the size of a type that is within the limit
+abbrev pub size_within : Structs → TypeTree → Option ℕ
+size_within structs t = and_then (sized_by (layout_of structs) t) (λ e. Some e.size)
+
 abbrev pub all_sized_by : Layouts → List TypeTree → Option (List Extent)
 all_sized_by layouts [] = Some []
 all_sized_by layouts (t ∷ ts) = and_then (sized_by layouts t) (λ e. and_then (all_sized_by layouts ts) (λ es. Some (e ∷ es)))

@@ -13,6 +13,8 @@ pub mod Expressions
 pub mod Constants
 pub mod ConstantLaws
 pub mod KnownTypes
+pub mod TypeNamesOf
+pub mod NamesChanged
 pub mod ExpressionFaults
 pub mod Declarations
 pub mod InitialiserRules

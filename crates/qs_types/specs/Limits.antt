@@ -7,7 +7,7 @@ use Rattle.qs_base.specs.Parameters.{most_parameters}
 use Rattle.qs_syntax.specs.Nodes.{unit_count}
 use Rattle.qs_syntax.specs.Units.{IsRead}
 use Rattle.qs_syntax.specs.declared.types.Base.{Base}
-use Rattle.qs_syntax.specs.Trees.{VariableTree, ParameterTree, FunctionTree, Stmts, structure, forward, function, variables, UnitTree}
+use Rattle.qs_syntax.specs.Trees.{VariableTree, ParameterTree, FunctionTree, Stmts, structure, forward, typedef, function, variables, UnitTree}
 use Rattle.qs_types.specs.Types.{TypeTree, Structs}
 use Rattle.qs_types.specs.declared.extent.Extent.{Extent}
 use Rattle.qs_types.specs.Layout.{and_then, layout_of, sized_by, rounded_up}
@@ -35,6 +35,7 @@ abbrev pub names_from : (names : List (List ℕ)) → UnitTree → List (List �
 names_from names [] = names
 names_from names (structure s ∷ ds) = names_from names ds
 names_from names (forward f ∷ ds) = names_from names ds
+names_from names (typedef t ∷ ds) = names_from names ds
 names_from names (function f ∷ ds) = names_from (with_name_once names f.name) ds
 names_from names (variables d ∷ ds) = names_from names ds
 
@@ -45,6 +46,7 @@ abbrev pub header_past : (limit : ℕ) → (names : List (List ℕ)) → UnitTre
 header_past limit names [] = None
 header_past limit names (structure s ∷ ds) = header_past limit names ds
 header_past limit names (forward f ∷ ds) = header_past limit names ds
+header_past limit names (typedef t ∷ ds) = header_past limit names ds
 header_past limit names (function f ∷ ds) =
     if is_name_in f.name names then header_past limit names ds else
     if nat_lt limit (length names + 1) then Some f.node.id else header_past limit (names ++ f.name ∷ []) ds
@@ -63,6 +65,7 @@ abbrev pub parameter_count : UnitTree → ℕ
 parameter_count [] = 0
 parameter_count (structure s ∷ ds) = parameter_count ds
 parameter_count (forward f ∷ ds) = parameter_count ds
+parameter_count (typedef t ∷ ds) = parameter_count ds
 parameter_count (function f ∷ ds) = max (length f.parameters) (parameter_count ds)
 parameter_count (variables d ∷ ds) = parameter_count ds
 
@@ -77,6 +80,7 @@ abbrev pub first_past_parameters : (limit : ℕ) → UnitTree → Option ℕ
 first_past_parameters limit [] = None
 first_past_parameters limit (structure s ∷ ds) = first_past_parameters limit ds
 first_past_parameters limit (forward f ∷ ds) = first_past_parameters limit ds
+first_past_parameters limit (typedef t ∷ ds) = first_past_parameters limit ds
 first_past_parameters limit (function f ∷ ds) = option_or (parameter_past limit f) (first_past_parameters limit ds)
 first_past_parameters limit (variables d ∷ ds) = first_past_parameters limit ds
 
@@ -127,6 +131,7 @@ abbrev pub variable_blocks_from : Context → UnitTree → List Block
 variable_blocks_from c [] = []
 variable_blocks_from c (structure s ∷ ds) = variable_blocks_from (after_declaration c (structure s)) ds
 variable_blocks_from c (forward f ∷ ds) = variable_blocks_from (after_declaration c (forward f)) ds
+variable_blocks_from c (typedef t ∷ ds) = variable_blocks_from (after_declaration c (typedef t)) ds
 variable_blocks_from c (function f ∷ ds) = variable_blocks_from (after_declaration c (function f)) ds
 variable_blocks_from c (variables d ∷ ds) = variables_blocks c d.base d.variables ++ variable_blocks_from (after_declaration c (variables d)) ds
 
@@ -166,6 +171,7 @@ abbrev pub placed_from : Context → UnitTree → ℕ
 placed_from c [] = 0
 placed_from c (structure s ∷ ds) = placed_from (after_declaration c (structure s)) ds
 placed_from c (forward f ∷ ds) = placed_from (after_declaration c (forward f)) ds
+placed_from c (typedef t ∷ ds) = placed_from (after_declaration c (typedef t)) ds
 placed_from c (function f ∷ ds) = max (body_bytes c f f.body) (placed_from (after_declaration c (function f)) ds)
 placed_from c (variables d ∷ ds) = placed_from (after_declaration c (variables d)) ds
 
@@ -181,6 +187,7 @@ abbrev pub local_past_from : (limit : ℕ) → Context → UnitTree → Option �
 local_past_from limit c [] = None
 local_past_from limit c (structure s ∷ ds) = local_past_from limit (after_declaration c (structure s)) ds
 local_past_from limit c (forward f ∷ ds) = local_past_from limit (after_declaration c (forward f)) ds
+local_past_from limit c (typedef t ∷ ds) = local_past_from limit (after_declaration c (typedef t)) ds
 local_past_from limit c (function f ∷ ds) = option_or (local_past limit c f f.body) (local_past_from limit (after_declaration c (function f)) ds)
 local_past_from limit c (variables d ∷ ds) = local_past_from limit (after_declaration c (variables d)) ds
 

@@ -39,6 +39,7 @@ rule_number rules.ReturnedType = 27
 rule_number rules.OutsideLoop = 28
 rule_number rules.MisplacedValue = 29
 rule_number rules.InitialiserType = 30
+rule_number rules.RenamedType = 31
 
 -- all of them, in order
 abbrev pub all_rules : List Rule
@@ -73,6 +74,7 @@ all_rules =
     ∷ rules.OutsideLoop
     ∷ rules.MisplacedValue
     ∷ rules.InitialiserType
+    ∷ rules.RenamedType
     ∷ []
 
 abbrev pub same_rule : Rule → Rule → Bool

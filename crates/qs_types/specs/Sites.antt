@@ -1,13 +1,13 @@
 -- The expressions of a unit that are no parts of others, in the order of the text, each with what is known where it stands.
 use Rattle.std.specs.Prelude.{ℕ, ◌+◌, Bool, true, false, ◌&&◌, List, [], ◌∷◌, ◌++◌, Option, Some, None}
 use Rattle.qs_syntax.specs.declared.types.Base.{Base}
-use Rattle.qs_syntax.specs.Trees.{ExprTree, DeclaratorTree, InitialiserTree, value, list, Initialisers, no_initialisers, initialiser_and, VariableTree, ParameterTree, MembersTree, StartTree, no_start, start_expression, start_declaration, StmtTree, empty, expression, declaration, block, branch, while_loop, do_loop, for_loop, break, continue, return, Stmts, no_stmts, stmt_and, Else, no_else, else_by, FunctionTree, DeclTree, structure, forward, function, variables, UnitTree}
+use Rattle.qs_syntax.specs.Trees.{ExprTree, DeclaratorTree, InitialiserTree, value, list, Initialisers, no_initialisers, initialiser_and, VariableTree, ParameterTree, MembersTree, StartTree, no_start, start_expression, start_declaration, StmtTree, empty, expression, declaration, block, branch, while_loop, do_loop, for_loop, break, continue, return, Stmts, no_stmts, stmt_and, Else, no_else, else_by, DefinedTree, of_struct, of_base, FunctionTree, DeclTree, structure, forward, typedef, function, variables, UnitTree}
 use Rattle.qs_types.specs.Types.{TypeTree}
 use Rattle.qs_types.specs.Contexts.{Context, start_context, inner_scope, inside_loop}
 use Rattle.qs_types.specs.Declarations.{text_of, variable_declared}
 use Rattle.qs_types.specs.InitialiserRules.{option_part, holds_text}
 use Rattle.qs_types.specs.StatementRules.{after_variable, after_statement, for_context}
-use Rattle.qs_types.specs.UnitRules.{with_tag, after_parameter, body_context, after_declaration}
+use Rattle.qs_types.specs.UnitRules.{with_option_tag, after_defined, defined_type, after_type_name, after_parameter, body_context, after_declaration}
 
 -- an expression, and whether it is a text that only fills an array of file scope (6.7.9p14)
 pub record Site : Type 0 where
@@ -103,6 +103,14 @@ abbrev pub members_sites : Context → List MembersTree → List Site
 members_sites c [] = []
 members_sites c (m ∷ ms) = declarators_sites c m.declarators ++ members_sites c ms
 
+abbrev pub defined_sites : Context → DefinedTree → List Site
+defined_sites c (of_struct s) = members_sites (with_option_tag c s.name) s.members
+defined_sites c (of_base b) = []
+
+abbrev pub type_names_sites : Context → (base : Option TypeTree) → List DeclaratorTree → List Site
+type_names_sites c base [] = []
+type_names_sites c base (d ∷ ds) = declarator_sites c d ++ type_names_sites (after_type_name c base d) base ds
+
 abbrev pub parameters_sites : Context → List ParameterTree → List Site
 parameters_sites c [] = []
 parameters_sites c (p ∷ ps) = sites c p.lengths.given ++ parameters_sites (after_parameter c p) ps
@@ -113,8 +121,9 @@ body_sites c f None = []
 body_sites c f (Some ss) = statements_sites (body_context c f) ss
 
 abbrev pub declaration_sites : Context → DeclTree → List Site
-declaration_sites c (structure s) = members_sites (with_tag c s.name) s.members
+declaration_sites c (structure s) = members_sites (with_option_tag c s.name) s.members
 declaration_sites c (forward f) = []
+declaration_sites c (typedef t) = defined_sites c t.defined ++ type_names_sites (after_defined c t.defined) (defined_type c t.defined) t.names
 declaration_sites c (function f) = parameters_sites (inner_scope c) f.parameters ++ body_sites c f f.body
 declaration_sites c (variables d) = variables_sites true c d.base d.variables
 

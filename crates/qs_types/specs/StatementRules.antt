@@ -7,7 +7,7 @@ use Rattle.qs_types.specs.Types.{TypeTree, is_scalar, is_void}
 use Rattle.qs_types.specs.Conversions.{decayed}
 use Rattle.qs_types.specs.declared.rules.Rule.TheVariants as rules
 use Rattle.qs_types.specs.Rules.{Test, test, keeps, Fault, faults_of, is_any}
-use Rattle.qs_types.specs.Contexts.{Entity, local_variable, file_variable, Context, is_declared_here, with_name, inner_scope, inside_loop}
+use Rattle.qs_types.specs.Contexts.{Entity, local_variable, file_variable, Context, is_taken, with_name, inner_scope, inside_loop}
 use Rattle.qs_types.specs.Expressions.{type_of, is_assignable}
 use Rattle.qs_types.specs.Declarations.{variable_declared, lengths_faults, all_typed}
 use Rattle.qs_types.specs.InitialiserRules.{initialiser_faults, initialiser_tests}
@@ -37,13 +37,14 @@ holds_back c (Some (value e)) = not (is_some (type_of c e)) && is_any (expr_faul
 holds_back c (Some (list node is)) = false
 
 -- 6.7p3: in one scope a name is declared once
-abbrev pub again_tests : Context → VariableTree → List Test
-again_tests c v = if all_typed c v.declarator.lengths.given then test rules.DeclaredTwice (is_declared_here c v.declarator.name) else []
+abbrev pub again_tests : Bool → Context → VariableTree → List Test
+again_tests at_file_scope c v =
+    if all_typed c v.declarator.lengths.given then test rules.DeclaredTwice (is_taken at_file_scope c v.declarator.name) else []
 
 abbrev pub variable_tests : Bool → Context → Context → Base → VariableTree → List Test
 variable_tests at_file_scope c after base v =
     if holds_back after v.initialiser then [] else
-    again_tests c v ++ ((variable_declared c base v).tests ++ initialiser_tests at_file_scope after (variable_declared c base v).type v.initialiser)
+    again_tests at_file_scope c v ++ ((variable_declared c base v).tests ++ initialiser_tests at_file_scope after (variable_declared c base v).type v.initialiser)
 
 abbrev pub option_initialiser_faults : Bool → Context → Option TypeTree → Option InitialiserTree → List Fault
 option_initialiser_faults at_file_scope c t None = []

@@ -1,27 +1,46 @@
 -- Which nodes of a unit break which rules (C11 6.9).
-use Rattle.std.specs.Prelude.{◌≡◌, ℕ, ◌+◌, ◌==◌, nat_le, Bool, true, false, not, ◌&&◌, ◌||◌, List, [], ◌∷◌, ◌++◌, Option, Some, None, is_some, if◌then◌else◌}
+use Rattle.std.specs.Prelude.{◌≡◌, ℕ, ◌+◌, ◌==◌, nat_le, Bool, true, false, not, ◌&&◌, ◌||◌, List, [], ◌∷◌, ◌++◌, Option, Some, None, is_some, length, if◌then◌else◌}
 use Rattle.std.specs.List.{list_all, list_any, slice_get}
 use Rattle.qs_base.specs.Bytes.{same_bytes}
 use Rattle.qs_syntax.specs.declared.types.Base.{Base}
-use Rattle.qs_syntax.specs.Trees.{DeclaratorTree, ParameterTree, MembersTree, StructTree, FunctionTree, Stmts, DeclTree, structure, forward, function, variables, UnitTree}
-use Rattle.qs_types.specs.Types.{TypeTree, int, unsigned, MemberTree, Structs, same_type, is_scalar, is_struct}
+use Rattle.qs_syntax.specs.declared.types.Base.TheVariants as bases
+use Rattle.qs_syntax.specs.Trees.{DeclaratorTree, ParameterTree, MembersTree, StructTree, DefinedTree, of_struct, of_base, TypedefTree, FunctionTree, Stmts, DeclTree, structure, forward, typedef, function, variables, UnitTree}
+use Rattle.qs_types.specs.Types.{TypeTree, int, unsigned, struct, MemberTree, Structs, same_type, is_scalar, is_struct, is_array}
 use Rattle.qs_types.specs.declared.extent.Extent.{Extent}
 use Rattle.qs_types.specs.Layout.{and_then, member_types, rounded_up, layout_of, size_limit, sized_by, sized_layout, with_members, struct_of}
 use Rattle.qs_types.specs.declared.rules.Rule.TheVariants as rules
 use Rattle.qs_types.specs.declared.rules.Rule.{Rule}
 use Rattle.qs_types.specs.Rules.{same_rule, Test, test, keeps, Fault, faults_of}
-use Rattle.qs_types.specs.Contexts.{Entity, local_variable, file_variable, given, Context, start_context, lookup, tag_place, base_type, starred_type, is_void_base, with_name, inner_scope, is_declared_here}
+use Rattle.qs_types.specs.Contexts.{Entity, local_variable, file_variable, given, Context, add_tag, add_type, start_context, lookup, tag_place, type_under, is_type_name, base_type, starred_type, is_void_base, with_name, inner_scope, is_declared_here}
 use Rattle.qs_types.specs.Contexts as contexts
 use Rattle.qs_types.specs.GivenFunctions.{Signature, main_name}
 use Rattle.qs_types.specs.Expressions.{type_or_void, member_in}
-use Rattle.qs_types.specs.Declarations.{Declared, declared, parameter_declared, lengths_faults, all_typed}
+use Rattle.qs_types.specs.Declarations.{Declared, declared, type_name_declared, parameter_declared, lengths_faults, all_typed}
 use Rattle.qs_types.specs.StatementRules.{variables_faults, after_variables, statements_faults}
 
 -- ---- structs (6.7.2.1, 6.7.2.3)
 
+-- one more struct, behind the others
+abbrev pub with_struct : Context → Context
+with_struct c = record c { structs = c.structs ++ None ∷ [] }
+
+-- a new tag, of one more struct
+abbrev pub with_new_tag : Context → List ℕ → Context
+with_new_tag c tag = record c { structs = c.structs ++ None ∷ []; type_names = add_tag c.type_names tag (length c.structs) }
+
 -- a tag that is new is declared behind the others
 abbrev pub with_tag : Context → List ℕ → Context
-with_tag c tag = if is_some (tag_place c tag) then c else record c { structs = c.structs ++ None ∷ []; tags = c.tags ++ tag ∷ [] }
+with_tag c tag = if is_some (tag_place c tag) then c else with_new_tag c tag
+
+-- 6.7.2.1p8: a struct without a tag is a type of its own
+abbrev pub with_option_tag : Context → Option (List ℕ) → Context
+with_option_tag c None = with_struct c
+with_option_tag c (Some tag) = with_tag c tag
+
+-- the place of the struct that is declared so
+abbrev pub option_place : Context → Option (List ℕ) → Option ℕ
+option_place c None = Some (length c.structs)
+option_place c (Some tag) = tag_place (with_tag c tag) tag
 
 -- the members before a place of a struct: the names of all, those that have a type, and where the last of these ends
 pub record Before : Type 0 where
@@ -90,6 +109,10 @@ after_members c before (m ∷ ms) = after_members c (after_together c before m.b
 abbrev pub is_defined : Context → List ℕ → Bool
 is_defined c tag = is_some (and_then (tag_place c tag) (struct_of c.structs))
 
+abbrev pub is_option_defined : Context → Option (List ℕ) → Bool
+is_option_defined c None = false
+is_option_defined c (Some tag) = is_defined c tag
+
 -- a struct that is declared and has no members
 abbrev pub has_no_members : Option (Option (List MemberTree)) → Bool
 has_no_members None = false
@@ -105,7 +128,8 @@ define_at c ms (Some k) =
     else c
 
 abbrev pub after_struct : Context → StructTree → Context
-after_struct c s = define_at (with_tag c s.name) (after_members (with_tag c s.name) no_members s.members).members (tag_place (with_tag c s.name) s.name)
+after_struct c s =
+    define_at (with_option_tag c s.name) (after_members (with_option_tag c s.name) no_members s.members).members (option_place c s.name)
 
 abbrev pub member_tests : Context → Before → Base → DeclaratorTree → List Test
 member_tests c before base d =
@@ -126,7 +150,77 @@ members_faults c before (m ∷ ms) =
     together_faults c before m.base m.declarators ++ members_faults c (after_together c before m.base m.declarators) ms
 
 abbrev pub struct_faults : Context → StructTree → List Fault
-struct_faults c s = faults_of s.node.id (test rules.UnknownTag (is_defined c s.name)) ++ members_faults (with_tag c s.name) no_members s.members
+struct_faults c s =
+    faults_of s.node.id (test rules.UnknownTag (is_option_defined c s.name)) ++ members_faults (with_option_tag c s.name) no_members s.members
+
+-- ---- names of types (6.7.8)
+
+-- a `typedef` that is the first to name a tag declares it
+abbrev pub with_base_tag : Context → Base → Context
+with_base_tag c bases.Void = c
+with_base_tag c bases.Int = c
+with_base_tag c bases.Unsigned = c
+with_base_tag c bases.Char = c
+with_base_tag c (bases.Struct tag) = with_tag c tag
+with_base_tag c (bases.Named x) = c
+
+abbrev pub after_defined : Context → DefinedTree → Context
+after_defined c (of_struct s) = after_struct c s
+after_defined c (of_base b) = with_base_tag c b
+
+abbrev pub struct_at : Option ℕ → Option TypeTree
+struct_at k = and_then k (λ k. Some (struct k))
+
+-- the type that gets names
+abbrev pub defined_type : Context → DefinedTree → Option TypeTree
+defined_type c (of_struct s) = struct_at (option_place c s.name)
+defined_type c (of_base b) = base_type (with_base_tag c b) b
+
+abbrev pub defined_faults : Context → DefinedTree → List Fault
+defined_faults c (of_struct s) = struct_faults c s
+defined_faults c (of_base b) = []
+
+-- a type name keeps its first type
+abbrev pub with_type_name : Context → List ℕ → Option TypeTree → Context
+with_type_name c x t = if is_type_name c x then c else record c { type_names = add_type c.type_names x t }
+
+-- 6.2.1p7: known behind its declarator
+abbrev pub after_type_name : Context → (base : Option TypeTree) → DeclaratorTree → Context
+after_type_name c base d = with_type_name c d.name (type_name_declared c base d).type
+
+abbrev pub after_type_names : Context → (base : Option TypeTree) → List DeclaratorTree → Context
+after_type_names c base [] = c
+after_type_names c base (d ∷ ds) = after_type_names (after_type_name c base d) base ds
+
+abbrev pub after_typedef : Context → TypedefTree → Context
+after_typedef c t = after_type_names (after_defined c t.defined) (defined_type c t.defined) t.names
+
+abbrev pub is_same_type : Option TypeTree → Option TypeTree → Bool
+is_same_type None u = true
+is_same_type (Some t) None = true
+is_same_type (Some t) (Some u) = same_type t u
+
+-- 6.7p3: a type name that is declared again gets the same type, where both declarations give one
+abbrev pub is_type_kept : (before : Option (Option TypeTree)) → Option TypeTree → Bool
+is_type_kept None t = true
+is_type_kept (Some u) t = is_same_type u t
+
+abbrev pub type_name_tests : Context → (base : Option TypeTree) → DeclaratorTree → List Test
+type_name_tests c base d =
+    if all_typed c d.lengths.given
+    then test rules.DeclaredTwice (is_declared_here c d.name)
+    ++ ((type_name_declared c base d).tests ++ keeps rules.RenamedType (is_type_kept (type_under c d.name) (type_name_declared c base d).type))
+    else []
+
+abbrev pub type_name_faults : Context → (base : Option TypeTree) → DeclaratorTree → List Fault
+type_name_faults c base d = faults_of d.node.id (type_name_tests c base d) ++ lengths_faults c d.lengths.given
+
+abbrev pub type_names_faults : Context → (base : Option TypeTree) → List DeclaratorTree → List Fault
+type_names_faults c base [] = []
+type_names_faults c base (d ∷ ds) = type_name_faults c base d ++ type_names_faults (after_type_name c base d) base ds
+
+abbrev pub typedef_faults : Context → TypedefTree → List Fault
+typedef_faults c t = defined_faults c t.defined ++ type_names_faults (after_defined c t.defined) (defined_type c t.defined) t.names
 
 -- ---- the types of functions (6.7.6.3)
 
@@ -192,7 +286,7 @@ agrees_with (Some (contexts.function node r earlier)) h has_body = agree r h && 
 agrees_with (Some (given r)) h has_body = agree (Some r) h && not has_body
 
 abbrev pub may_declare : Context → FunctionTree → Bool
-may_declare c f = agrees_with (lookup f.name c.inner) (header_of c f) (is_some f.body)
+may_declare c f = not (is_type_name c f.name) && agrees_with (lookup f.name c.inner) (header_of c f) (is_some f.body)
 
 -- 5.1.2.2.1
 abbrev pub is_main_parameter : Option TypeTree → Bool
@@ -204,11 +298,14 @@ is_main_type h = may_be int h.result && list_all is_main_parameter h.parameters
 abbrev pub main_tests : FunctionTree → Header → List Test
 main_tests f h = if same_bytes f.name main_name then keeps rules.MainType (is_main_type h) else []
 
+abbrev pub is_aggregate : TypeTree → Bool
+is_aggregate t = is_struct t || is_array t
+
 -- 6.7.6.3p1, 6.9.1p3: the result is a scalar or void
 abbrev pub result_tests : Context → FunctionTree → List Test
 result_tests c f =
     keeps rules.UnknownTag (is_some (base_type c f.result_type.base))
-    ++ (test rules.IncompleteType (is_void_pointer f) ++ test rules.SignatureType (is_struct (type_or_void (result_type c f))))
+    ++ (test rules.IncompleteType (is_void_pointer f) ++ test rules.SignatureType (is_aggregate (type_or_void (result_type c f))))
 
 abbrev pub header_tests : Context → FunctionTree → List Test
 header_tests c f = keeps rules.DeclaredTwice (may_declare c f) ++ (result_tests c f ++ main_tests f (header_of c f))
@@ -274,12 +371,14 @@ function_faults c f =
 abbrev pub after_declaration : Context → DeclTree → Context
 after_declaration c (structure s) = after_struct c s
 after_declaration c (forward f) = with_tag c f.name
+after_declaration c (typedef t) = after_typedef c t
 after_declaration c (function f) = after_function c f
 after_declaration c (variables d) = after_variables true c d.base d.variables
 
 abbrev pub declaration_faults : Context → DeclTree → List Fault
 declaration_faults c (structure s) = struct_faults c s
 declaration_faults c (forward f) = []
+declaration_faults c (typedef t) = typedef_faults c t
 declaration_faults c (function f) = function_faults c f
 declaration_faults c (variables d) = variables_faults true c d.base d.variables
 

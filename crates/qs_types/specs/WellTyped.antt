@@ -1,6 +1,6 @@
 -- When a unit is well typed: no node breaks a rule, `main` has a body, and each function that is called has one, below `sizeof` too.
 use Rattle.std.specs.Prelude.{◌≡◌, ℕ, Bool, true, false, not, ◌&&◌, List, [], ◌∷◌, Option, Some, None, if◌then◌else◌}
-use Rattle.qs_syntax.specs.Trees.{structure, forward, function, variables, UnitTree}
+use Rattle.qs_syntax.specs.Trees.{structure, forward, typedef, function, variables, UnitTree}
 use Rattle.qs_types.specs.Contexts.{Entity, local_variable, file_variable, given, Context, start_context, entity_of}
 use Rattle.qs_types.specs.Contexts as contexts
 use Rattle.qs_types.specs.GivenFunctions.{main_name}
@@ -39,6 +39,7 @@ abbrev pub undefined_from : (runs : List ℕ → Bool) → (called : List (List 
 undefined_from runs called [] = None
 undefined_from runs called (structure s ∷ ds) = undefined_from runs called ds
 undefined_from runs called (forward f ∷ ds) = undefined_from runs called ds
+undefined_from runs called (typedef t ∷ ds) = undefined_from runs called ds
 undefined_from runs called (function f ∷ ds) =
     if is_name_in f.name called && not (runs f.name) then Some f.node.id else undefined_from runs called ds
 undefined_from runs called (variables d ∷ ds) = undefined_from runs called ds

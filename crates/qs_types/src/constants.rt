@@ -3,23 +3,28 @@ ghost use Rattle.std.specs.Prelude.{◌≡◌};
 ghost use Rattle.qs_syntax.specs.TreeOf.{expr_tree, shape_tree};
 ghost use Rattle.qs_types.specs.Constants as constants;
 ghost use Rattle.qs_types.specs.Constants.{shape_value, value_of};
-ghost use Rattle.qs_types.specs.Contexts.{context_with};
 ghost use Rattle.qs_types.specs.EnvOf.{env_tree};
 ghost use Rattle.qs_types.specs.Expressions as expressions;
-ghost use Rattle.qs_types.specs.KnownTypes.{base_size, converted_known, is_known_base, known_in};
+ghost use Rattle.qs_types.specs.KnownTypes.{base_size, converted_known, known_in};
 ghost use Rattle.qs_types.specs.KnownTypes.{named_size};
+ghost use Rattle.qs_types.specs.Layout.{size_within};
+ghost use Rattle.qs_types.specs.TypeNamesOf.{names_tree};
+ghost use Rattle.qs_types.specs.TypeOf.{type_tree};
 
 use crate::env::Env;
-use crate::tags::tag_place;
-use indexmap::IndexSet;
-use qs_base::{Name, add32, divs32, divu32, mul32, rems32, remu32, sll32, sra32, srl32, sub32};
+use crate::kinds;
+use crate::layout::extent_of;
+use crate::type_names::TypeNames;
+use crate::types::CType;
+use qs_base::{add32, divs32, divu32, mul32, rems32, remu32, sll32, sra32, srl32, sub32};
 use qs_syntax::{Base, Expr, Shape, TypeName};
 use qs_syntax_vocabulary::{BinaryOperator, UnaryOperator};
 
 // ---- names of integer types
 
-fn is_integer_base(base: &Base) -> bool
-    ensures { result ≡ constants.is_integer_base base.now }
+#[tactic(auto, using(crate::proofs::NameLookups::no_struct_is))]
+fn is_integer_base(names: &TypeNames, base: &Base) -> bool
+    ensures { result ≡ constants.is_integer_base (names_tree names.now) base.now }
 {
     match base {
         Base::Void => false,
@@ -27,11 +32,16 @@ fn is_integer_base(base: &Base) -> bool
         Base::Unsigned => true,
         Base::Char => true,
         Base::Struct(_) => false,
+        Base::Named(x) => match names.type_of(x) {
+            None => false,
+            Some(t) => kinds::is_integer(t),
+        },
     }
 }
 
-fn is_unsigned_base(base: &Base) -> bool
-    ensures { result ≡ constants.is_unsigned_base base.now }
+#[tactic(auto, using(crate::proofs::NameLookups::no_struct_is))]
+fn is_unsigned_base(names: &TypeNames, base: &Base) -> bool
+    ensures { result ≡ constants.is_unsigned_base (names_tree names.now) base.now }
 {
     match base {
         Base::Void => false,
@@ -39,28 +49,32 @@ fn is_unsigned_base(base: &Base) -> bool
         Base::Unsigned => true,
         Base::Char => false,
         Base::Struct(_) => false,
+        Base::Named(x) => match names.type_of(x) {
+            None => false,
+            Some(t) => kinds::is_unsigned(t),
+        },
     }
 }
 
-fn is_integer_name(name: &TypeName) -> bool
-    ensures { result ≡ constants.is_integer_name name.now }
+fn is_integer_name(names: &TypeNames, name: &TypeName) -> bool
+    ensures { result ≡ constants.is_integer_name (names_tree names.now) name.now }
 {
-    name.stars == 0 && is_integer_base(&name.base)
+    name.stars == 0 && is_integer_base(names, &name.base)
 }
 
 // ---- what they are built of
 
 /// Whether it is built as a constant expression is.
 #[cycle(is_built)]
-pub fn is_built(e: &Expr) -> bool
-    ensures { result ≡ constants.is_built (expr_tree e.now) }
+pub fn is_built(names: &TypeNames, e: &Expr) -> bool
+    ensures { result ≡ constants.is_built (names_tree names.now) (expr_tree e.now) }
 {
-    is_built_shape(&e.shape)
+    is_built_shape(names, &e.shape)
 }
 
 #[cycle(is_built)]
-fn is_built_shape(shape: &Shape) -> bool
-    ensures { result ≡ constants.is_built_shape (shape_tree shape.now) }
+fn is_built_shape(names: &TypeNames, shape: &Shape) -> bool
+    ensures { result ≡ constants.is_built_shape (names_tree names.now) (shape_tree shape.now) }
 {
     match shape {
         Shape::Constant(_, _) => true,
@@ -69,22 +83,22 @@ fn is_built_shape(shape: &Shape) -> bool
         Shape::Unary(operator, a) => match operator {
             UnaryOperator::Address => false,
             UnaryOperator::Indirect => false,
-            UnaryOperator::Plus => is_built(a),
-            UnaryOperator::Minus => is_built(a),
-            UnaryOperator::Complement => is_built(a),
-            UnaryOperator::Not => is_built(a),
+            UnaryOperator::Plus => is_built(names, a),
+            UnaryOperator::Minus => is_built(names, a),
+            UnaryOperator::Complement => is_built(names, a),
+            UnaryOperator::Not => is_built(names, a),
         },
         Shape::Step(_, _) => false,
-        Shape::Cast(name, a) => is_integer_name(name) && is_built(a),
+        Shape::Cast(name, a) => is_integer_name(names, name) && is_built(names, a),
         Shape::SizeofType(_) => true,
         Shape::SizeofExpr(_) => false,
-        Shape::Binary { left, right, .. } => is_built(left) && is_built(right),
+        Shape::Binary { left, right, .. } => is_built(names, left) && is_built(names, right),
         Shape::Assign { .. } => false,
         Shape::Conditional {
             condition,
             then,
             otherwise,
-        } => is_built(condition) && is_built(then) && is_built(otherwise),
+        } => is_built(names, condition) && is_built(names, then) && is_built(names, otherwise),
         Shape::Comma(_, _) => false,
         Shape::Subscript(_, _) => false,
         Shape::Member { .. } => false,
@@ -143,15 +157,15 @@ fn is_unsigned_by(operator: BinaryOperator, p: bool, q: bool) -> bool
 }
 
 #[cycle(is_unsigned)]
-fn is_unsigned(e: &Expr) -> bool
-    ensures { result ≡ constants.is_unsigned (expr_tree e.now) }
+fn is_unsigned(names: &TypeNames, e: &Expr) -> bool
+    ensures { result ≡ constants.is_unsigned (names_tree names.now) (expr_tree e.now) }
 {
-    is_unsigned_shape(&e.shape)
+    is_unsigned_shape(names, &e.shape)
 }
 
 #[cycle(is_unsigned)]
-fn is_unsigned_shape(shape: &Shape) -> bool
-    ensures { result ≡ constants.is_unsigned_shape (shape_tree shape.now) }
+fn is_unsigned_shape(names: &TypeNames, shape: &Shape) -> bool
+    ensures { result ≡ constants.is_unsigned_shape (names_tree names.now) (shape_tree shape.now) }
 {
     match shape {
         Shape::Constant(_, is_unsigned) => *is_unsigned,
@@ -160,26 +174,30 @@ fn is_unsigned_shape(shape: &Shape) -> bool
         Shape::Unary(operator, a) => match operator {
             UnaryOperator::Address => false,
             UnaryOperator::Indirect => false,
-            UnaryOperator::Plus => is_unsigned(a),
-            UnaryOperator::Minus => is_unsigned(a),
-            UnaryOperator::Complement => is_unsigned(a),
+            UnaryOperator::Plus => is_unsigned(names, a),
+            UnaryOperator::Minus => is_unsigned(names, a),
+            UnaryOperator::Complement => is_unsigned(names, a),
             UnaryOperator::Not => false,
         },
         Shape::Step(_, _) => false,
-        Shape::Cast(name, _) => is_unsigned_base(&name.base),
+        Shape::Cast(name, _) => is_unsigned_base(names, &name.base),
         Shape::SizeofType(_) => true,
         Shape::SizeofExpr(_) => true,
         Shape::Binary {
             operator,
             left,
             right,
-        } => is_unsigned_by(*operator, is_unsigned(left), is_unsigned(right)),
+        } => is_unsigned_by(
+            *operator,
+            is_unsigned(names, left),
+            is_unsigned(names, right),
+        ),
         Shape::Assign { .. } => false,
         Shape::Conditional {
             then,
             otherwise,
             ..
-        } => is_unsigned(then) || is_unsigned(otherwise),
+        } => is_unsigned(names, then) || is_unsigned(names, otherwise),
         Shape::Comma(_, _) => false,
         Shape::Subscript(_, _) => false,
         Shape::Member { .. } => false,
@@ -317,26 +335,27 @@ fn unary_value(operator: UnaryOperator, a: u32) -> Option<u32>
 
 // ---- type names
 
-/// Whether the type that a declaration begins with is known: a struct whose tag is declared
-/// (C11 6.7.2.3), or no struct.
-fn is_known(tags: &IndexSet<Name>, base: &Base) -> bool
-    ensures { result ≡ is_known_base tags.now.keys base.now }
+/// A value converted to this type (C11 6.3.1.3).
+fn converted_to(t: &CType, n: u32) -> u32
+    ensures { result ≡ constants.converted (type_tree t.now) n }
 {
-    match base {
-        Base::Void => true,
-        Base::Int => true,
-        Base::Unsigned => true,
-        Base::Char => true,
-        Base::Struct(tag) => tag_place(tags, tag).is_some(),
+    match t {
+        CType::Int => n,
+        CType::Unsigned => n,
+        CType::Char => n % 256,
+        CType::Void => n,
+        CType::Pointer(_) => n,
+        CType::Array(_, _) => n,
+        CType::Struct(_) => n,
     }
 }
 
 /// A value converted to the named type (C11 6.3.1.3).
 #[tactic(auto, using(crate::proofs::KnownValues::pointer_converted))]
-fn converted(tags: &IndexSet<Name>, name: &TypeName, n: u32) -> Option<u32>
-    ensures { result ≡ converted_known tags.now.keys name.now n }
+fn converted(names: &TypeNames, name: &TypeName, n: u32) -> Option<u32>
+    ensures { result ≡ converted_known (names_tree names.now) name.now n }
 {
-    if !is_known(tags, &name.base) {
+    if !names.knows(&name.base) {
         return None;
     }
     if name.stars > 0 {
@@ -348,83 +367,89 @@ fn converted(tags: &IndexSet<Name>, name: &TypeName, n: u32) -> Option<u32>
         Base::Unsigned => Some(n),
         Base::Char => Some(n % 256),
         Base::Struct(_) => Some(n),
+        Base::Named(x) => Some(converted_to(names.type_of(x)?, n)),
     }
 }
 
-fn base_size(env: &Env, tags: &IndexSet<Name>, base: &Base) -> Option<u32>
-    ensures { result ≡ base_size env.now tags.now.keys base.now }
+/// The size of a type, within the limit.
+fn type_size(env: &Env, t: &CType) -> Option<u32>
+    ensures { result ≡ size_within (env_tree env.now) (type_tree t.now) }
+{
+    Some(extent_of(env, t)?.size)
+}
+
+fn base_size(env: &Env, names: &TypeNames, base: &Base) -> Option<u32>
+    ensures { result ≡ base_size env.now (names_tree names.now) base.now }
 {
     match base {
         Base::Void => None,
         Base::Int => Some(4),
         Base::Unsigned => Some(4),
         Base::Char => Some(1),
-        Base::Struct(tag) => {
-            let k = tag_place(tags, tag)?;
-            Some(env.layout_at(k)?.size)
-        }
+        Base::Struct(tag) => type_size(env, &CType::Struct(names.tag_place(tag)?)),
+        Base::Named(x) => type_size(env, names.type_of(x)?),
     }
 }
 
 /// The size of the named type (C11 6.5.3.4).
 #[tactic(auto, using(crate::proofs::KnownValues::pointer_size))]
-fn named_size(env: &Env, tags: &IndexSet<Name>, name: &TypeName) -> Option<u32>
-    ensures { result ≡ named_size env.now tags.now.keys name.now }
+fn named_size(env: &Env, names: &TypeNames, name: &TypeName) -> Option<u32>
+    ensures { result ≡ named_size env.now (names_tree names.now) name.now }
 {
     if name.stars > 0 {
-        return if is_known(tags, &name.base) {
+        return if names.knows(&name.base) {
             Some(4)
         } else {
             None
         };
     }
-    base_size(env, tags, &name.base)
+    base_size(env, names, &name.base)
 }
 
 // ---- values
 
-/// The value, where it is defined; a part that isn't evaluated needs none. Its type names may speak
-/// of these structs, which have these tags.
+/// The value, where it is defined; a part that isn't evaluated needs none. Its types may speak
+/// of these structs and these names of types.
 #[cycle(value)]
-pub fn value(env: &Env, tags: &IndexSet<Name>, e: &Expr) -> Option<u32>
-    ensures { result ≡ value_of (context_with (env_tree env.now) tags.now.keys) (expr_tree e.now) }
+pub fn value(env: &Env, names: &TypeNames, e: &Expr) -> Option<u32>
+    ensures { result ≡ value_of (known_in env.now (names_tree names.now)) (expr_tree e.now) }
 {
-    shape_value(env, tags, &e.shape)
+    shape_value(env, names, &e.shape)
 }
 
 #[cycle(value)]
-fn shape_value(env: &Env, tags: &IndexSet<Name>, shape: &Shape) -> Option<u32>
-    ensures { result ≡ shape_value (known_in env.now tags.now.keys) (shape_tree shape.now) }
+fn shape_value(env: &Env, names: &TypeNames, shape: &Shape) -> Option<u32>
+    ensures { result ≡ shape_value (known_in env.now (names_tree names.now)) (shape_tree shape.now) }
 {
     match shape {
         Shape::Constant(n, _) => Some(*n),
         Shape::Text(_) => None,
         Shape::Name(_) => None,
-        Shape::Unary(operator, a) => unary_value(*operator, value(env, tags, a)?),
+        Shape::Unary(operator, a) => unary_value(*operator, value(env, names, a)?),
         Shape::Step(_, _) => None,
         Shape::Cast(name, a) => {
-            if !is_known(tags, &name.base) {
+            if !names.knows(&name.base) {
                 return None;
             }
-            converted(tags, name, value(env, tags, a)?)
+            converted(names, name, value(env, names, a)?)
         }
-        Shape::SizeofType(name) => named_size(env, tags, name),
+        Shape::SizeofType(name) => named_size(env, names, name),
         Shape::SizeofExpr(_) => None,
         Shape::Binary {
             operator,
             left,
             right,
         } => {
-            let x = value(env, tags, left)?;
+            let x = value(env, names, left)?;
             if decides(*operator, x) {
                 return Some(truth(is_true(x)));
             }
             combined(
                 *operator,
-                is_unsigned(left),
-                is_unsigned(right),
+                is_unsigned(names, left),
+                is_unsigned(names, right),
                 x,
-                value(env, tags, right)?,
+                value(env, names, right)?,
             )
         }
         Shape::Assign { .. } => None,
@@ -433,10 +458,10 @@ fn shape_value(env: &Env, tags: &IndexSet<Name>, shape: &Shape) -> Option<u32>
             then,
             otherwise,
         } => {
-            if is_true(value(env, tags, condition)?) {
-                value(env, tags, then)
+            if is_true(value(env, names, condition)?) {
+                value(env, names, then)
             } else {
-                value(env, tags, otherwise)
+                value(env, names, otherwise)
             }
         }
         Shape::Comma(_, _) => None,

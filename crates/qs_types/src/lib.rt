@@ -13,7 +13,7 @@ mod limits;
 mod referent;
 mod rules;
 mod structs;
-mod tags;
+mod type_names;
 mod types;
 
 pub use constants::{is_built, is_null_constant, value};
@@ -31,5 +31,5 @@ pub use limits::LimitKind;
 pub use referent::Referent;
 pub use rules::Rule;
 pub use structs::{StructLayout, StructType};
-pub use tags::tag_place;
+pub use type_names::TypeNames;
 pub use types::CType;

@@ -5,7 +5,7 @@ ghost use Rattle.qs_types.specs.Rules.{rule_number};
 /// A rule that a program keeps, in the order of their numbers.
 #[derive(Clone, Copy, Debug)]
 pub enum Rule {
-    /// In one scope a name is declared once (C11 6.7p3).
+    /// In one scope a name is declared once, a type name again only by `typedef` (C11 6.7p3).
     DeclaredTwice,
     /// A name that is used is a variable or parameter that was declared before and is in scope
     /// (6.5.1).
@@ -16,7 +16,8 @@ pub enum Rule {
     ArgumentCount,
     /// Each argument is assignable to its parameter (6.5.2.2p2).
     ArgumentType,
-    /// A struct tag was declared before or is being defined, and it is defined once (6.7.2.3).
+    /// A struct tag was declared before, is being defined, or is first named in a `typedef`, and it
+    /// is defined once (6.7.2.3).
     UnknownTag,
     /// `void` is only a result without stars; objects have complete types (6.7p7, 6.7.2.1p3,
     /// 6.5.3.4p1).
@@ -77,6 +78,8 @@ pub enum Rule {
     MisplacedValue,
     /// An initialiser fits (6.7.9).
     InitialiserType,
+    /// A type name that is declared again gets the same type (6.7p3).
+    RenamedType,
 }
 
 impl Rule {
@@ -115,6 +118,7 @@ impl Rule {
             Rule::OutsideLoop => 28,
             Rule::MisplacedValue => 29,
             Rule::InitialiserType => 30,
+            Rule::RenamedType => 31,
         }
     }
 }

@@ -1,12 +1,12 @@
 -- A walk over a function: its header, and its body.
-use Rattle.std.proofs.Common.{◌≡◌, Bool, not, List, [], ◌∷◌, Option, Some, None, is_some, option_map, refl, sym, ap, ◌∙◌}
+use Rattle.std.proofs.Common.{◌≡◌, Bool, not, ◌&&◌, List, [], ◌∷◌, Option, Some, None, is_some, option_map, refl, sym, ap, ◌∙◌}
 use Rattle.qs_syntax.specs.Trees.{ParameterTree, FunctionTree, Stmts}
-use Rattle.qs_types.specs.Types.{TypeTree, Structs, is_struct}
+use Rattle.qs_types.specs.Types.{TypeTree, Structs}
 use Rattle.qs_types.specs.declared.rules.Rule.TheVariants as rules
 use Rattle.qs_types.specs.Rules.{Test}
-use Rattle.qs_types.specs.Contexts.{Context, base_type, inner_scope, lookup}
+use Rattle.qs_types.specs.Contexts.{Context, base_type, inner_scope, is_type_name, lookup}
 use Rattle.qs_types.specs.Expressions.{type_or_void}
-use Rattle.qs_types.specs.UnitRules.{agrees_with, is_void_pointer, main_tests, after_function, header_tests, parameter_types, result_type, with_parameters}
+use Rattle.qs_types.specs.UnitRules.{agrees_with, is_aggregate, is_void_pointer, main_tests, after_function, header_tests, parameter_types, result_type, with_parameters}
 use Rattle.qs_typing_findings.specs.Functions.{items_walked}
 use Rattle.qs_typing_findings.specs.Noted.{parameters_noted}
 use Rattle.qs_typing_findings.specs.UnitWalk.{WalkTree, node_opened, node_judged, parameters_walked, body_walked, function_walked}
@@ -18,15 +18,15 @@ still_some g (Some x) = refl
 -- the tests of a header whose parts have these types
 pub tests_are : (c : Context) (f : FunctionTree) (types : List (Option TypeTree)) (to : Option TypeTree) (agrees known void structure : Bool)
     → types ≡ parameter_types (inner_scope c) f.parameters → to ≡ result_type c f
-    → agrees ≡ agrees_with (lookup f.name c.inner) (record { parameters = types; result = to }) (is_some f.body)
-    → known ≡ is_some (base_type c f.result_type.base) → void ≡ is_void_pointer f → structure ≡ is_struct (type_or_void to)
+    → agrees ≡ (not (is_type_name c f.name) && agrees_with (lookup f.name c.inner) (record { parameters = types; result = to }) (is_some f.body))
+    → known ≡ is_some (base_type c f.result_type.base) → void ≡ is_void_pointer f → structure ≡ is_aggregate (type_or_void to)
     → record { rule = rules.DeclaredTwice; breaks = not agrees } ∷ record { rule = rules.UnknownTag; breaks = not known } ∷ record { rule = rules.IncompleteType; breaks = void }
     ∷ record { rule = rules.SignatureType; breaks = structure } ∷ main_tests f (record { parameters = types; result = to })
     ≡ header_tests c f
 tests_are c f types to agrees known void structure ts t a k v s =
-    let agree : agrees ≡ agrees_with (lookup f.name c.inner) (record { parameters = parameter_types (inner_scope c) f.parameters; result = result_type c f }) (is_some f.body) =
-    a ∙ (λ i. agrees_with (lookup f.name c.inner) (record { parameters = ts i; result = t i }) (is_some f.body)) in
-    let struct : structure ≡ is_struct (type_or_void (result_type c f)) = s ∙ ap (λ o. is_struct (type_or_void o)) t in
+    let agree : agrees ≡ (not (is_type_name c f.name) && agrees_with (lookup f.name c.inner) (record { parameters = parameter_types (inner_scope c) f.parameters; result = result_type c f }) (is_some f.body)) =
+    a ∙ (λ i. not (is_type_name c f.name) && agrees_with (lookup f.name c.inner) (record { parameters = ts i; result = t i }) (is_some f.body)) in
+    let struct : structure ≡ is_aggregate (type_or_void (result_type c f)) = s ∙ ap (λ o. is_aggregate (type_or_void o)) t in
     λ i. record { rule = rules.DeclaredTwice; breaks = not (agree i) } ∷ record { rule = rules.UnknownTag; breaks = not (k i) } ∷ record { rule = rules.IncompleteType; breaks = v i }
     ∷ record { rule = rules.SignatureType; breaks = struct i } ∷ main_tests f (record { parameters = ts i; result = t i })
 

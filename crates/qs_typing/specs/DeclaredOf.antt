@@ -1,13 +1,11 @@
 -- Declared types in code, as the definitions see them.
 pub use Rattle.qs_typing_findings.specs.PartsOf.{option_type}
-use Rattle.std.specs.Prelude.{ℕ, Bool, not, ◌&&◌, ◌||◌, List, [], ◌∷◌, ◌++◌, Option, Some, Vec, is_some, map, option_map}
+use Rattle.std.specs.Prelude.{ℕ, Bool, not, ◌&&◌, ◌||◌, List, [], ◌∷◌, ◌++◌, Option, Some, Vec, map, option_map}
 use Rattle.std.specs.declared.alloc.Global.{Global}
-use Rattle.qs_syntax.specs.declared.types.Base.{Base}
 use Rattle.qs_types.specs.Types.{TypeTree, Structs}
 use Rattle.qs_types.specs.declared.types.CType.{CType}
 use Rattle.qs_types.specs.declared.rules.Rule.TheVariants as rules
 use Rattle.qs_types.specs.Rules.{Test, keeps, test, breaks_one}
-use Rattle.qs_types.specs.Contexts.{Context, base_type, is_void_base}
 use Rattle.qs_types.specs.Declarations as declarations
 use Rattle.qs_types.specs.Layout.{and_then, is_complete, is_sized}
 use Rattle.qs_types.specs.TypeOf.{type_tree}
@@ -34,8 +32,8 @@ abbrev pub all_lengths : Option (List ℕ) → Option (List ℕ) → Option (Lis
 all_lengths ns ms = and_then ns (λ ns. and_then ms (λ ms. Some (ns ++ ms)))
 
 -- `void`, or a type that isn't complete, of elements of an object with a known base
-abbrev pub is_incomplete : Context → Base → (element : TypeTree) → Bool
-is_incomplete c base element = is_void_base base || (is_some (base_type c base) && not (is_complete c.structs element))
+abbrev pub is_incomplete : Structs → (is_void known : Bool) → (element : TypeTree) → Bool
+is_incomplete structs is_void known element = is_void || (known && not (is_complete structs element))
 
 -- the tests on the elements and the lengths of an object
 abbrev pub object_tests : (known incomplete has_lengths : Bool) → List Test

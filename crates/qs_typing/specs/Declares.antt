@@ -17,7 +17,7 @@ use Rattle.qs_types.specs.UnitRules as rules
 use Rattle.qs_typing_findings.specs.declared.context.Context.{Context}
 use Rattle.qs_typing.specs.declared.declared_types.Declared.{Declared}
 use Rattle.qs_typing_findings.specs.ContextOf.{context_tree}
-use Rattle.qs_typing.specs.DeclaredOf.{declared_tree, numbers, sized_by_tests}
+use Rattle.qs_typing.specs.DeclaredOf.{declared_tree, numbers, option_type, sized_by_tests}
 
 -- the type of an object of these lengths
 abbrev pub IsObjectType : (element : CType) → Option (Vec ℕ Global) → CType → Type 0
@@ -32,8 +32,19 @@ abbrev pub IsSizedByTests : Env → (known incomplete has_lengths : Bool) → CT
 IsSizedByTests structs known incomplete has_lengths t d =
     declared_tree d ≡ sized_by_tests (env_tree structs) known incomplete has_lengths (type_tree t)
 
-abbrev pub IsObject : Context → Base → (stars : ℕ) → Option (Vec ℕ Global) → Declared → Type 0
-IsObject c base stars lengths d = declared_tree d ≡ declarations.object_declared (context_tree c) base stars (numbers lengths)
+-- an object, where the declaration begins with this type
+abbrev pub IsObject : Context → (base : Option CType) → (stars : ℕ) → Option (Vec ℕ Global) → Declared → Type 0
+IsObject c base stars lengths d = declared_tree d ≡ declarations.object_over (context_tree c) (option_type base) stars (numbers lengths)
+
+-- what has no brackets
+abbrev pub IsPlain : (base : Option CType) → (stars : ℕ) → Declared → Type 0
+IsPlain base stars d = declared_tree d ≡ declarations.plain_declared (option_type base) stars
+
+abbrev pub IsDeclaredOver : Context → (base : Option CType) → Declarator → (first : Option ℕ) → Declared → Type 0
+IsDeclaredOver c base d first r = declared_tree r ≡ declarations.declared_over (context_tree c) (option_type base) (declarator_tree d) first
+
+abbrev pub IsTypeName : Context → (base : Option CType) → Declarator → Declared → Type 0
+IsTypeName c base d r = declared_tree r ≡ declarations.type_name_declared (context_tree c) (option_type base) (declarator_tree d)
 
 -- a declarator, where its first length may be given elsewhere
 abbrev pub IsDeclared : Context → Base → Declarator → (first : Option ℕ) → Declared → Type 0

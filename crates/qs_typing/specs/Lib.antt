@@ -5,6 +5,7 @@ pub mod Initialisers
 pub mod VariableWalks
 pub mod MembersOf
 pub mod StructWalks
+pub mod TypeNameWalks
 pub mod FunctionWalks
 pub mod StatementWalks
 pub mod DeclarationWalks

@@ -56,6 +56,9 @@ WalksMembers c earlier ms before after =
 abbrev pub DefinesAt : Option ℕ → List (List ℕ × CType) → (before after : Context) → Type 0
 DefinesAt k members before after = context_tree after ≡ rules.define_at (context_tree before) (map member_tree members) k
 
+abbrev pub IsPlace : Context → Struct → Option ℕ → Type 0
+IsPlace c s k = k ≡ rules.option_place (context_tree c) s.name
+
 abbrev pub KnowsStruct : Struct → (before after : Context) → Type 0
 KnowsStruct s before after = context_tree after ≡ rules.after_struct (context_tree before) (struct_tree s)
 

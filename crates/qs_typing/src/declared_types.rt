@@ -2,6 +2,8 @@
 ghost use Rattle.std.specs.Prelude.{◌≡◌, ◌+◌, IfOk, None, Some, length, not, option_map};
 ghost use Rattle.std.specs.Prelude.{if◌then◌else◌};
 ghost use Rattle.qs_syntax.specs.TreeOf.{expr_tree, initialiser_tree, lengths_tree, list_tree};
+ghost use Rattle.qs_types.specs.Contexts.{is_void_type};
+ghost use Rattle.qs_types.specs.Conversions.{decayed};
 ghost use Rattle.qs_types.specs.Declarations as declarations;
 ghost use Rattle.qs_types.specs.EnvOf.{env_tree};
 ghost use Rattle.qs_types.specs.Layout.{is_sized};
@@ -10,9 +12,10 @@ ghost use Rattle.qs_types.specs.TypeOf.{type_tree};
 ghost use Rattle.qs_typing_findings.specs.ContextOf.{context_tree};
 ghost use Rattle.qs_typing.specs.DeclaredOf.{declared_tree, is_incomplete, option_type};
 ghost use Rattle.qs_typing.specs.DeclaredOf.{tests_and_type};
-ghost use Rattle.qs_typing.specs.Declares.{AreWholeLengths, IsArrayParameter, IsDeclared, IsObject};
-ghost use Rattle.qs_typing.specs.Declares.{IsObjectType, IsParameter, IsPlainParameter, IsPointer};
-ghost use Rattle.qs_typing.specs.Declares.{IsSizedByTests, IsVariable};
+ghost use Rattle.qs_typing.specs.Declares.{AreWholeLengths, IsArrayParameter, IsDeclared};
+ghost use Rattle.qs_typing.specs.Declares.{IsDeclaredOver, IsObject, IsObjectType, IsParameter};
+ghost use Rattle.qs_typing.specs.Declares.{IsPlain, IsPlainParameter, IsPointer, IsSizedByTests};
+ghost use Rattle.qs_typing.specs.Declares.{IsTypeName, IsVariable};
 ghost use Rattle.qs_typing.specs.LengthsOf.{AreTyped, AreValued, ElementsAreTyped};
 ghost use Rattle.qs_typing.specs.LengthsOf.{ElementsAreValued, is_length, is_length_typed};
 
@@ -22,8 +25,8 @@ use qs_syntax::{
     Base, Declarator, Expr, Initialiser, InitialiserList, Lengths, Parameter, Shape, TypeName,
     Variable,
 };
-use qs_types::{CType, Env, Rule, extent_of, is_complete};
-use qs_typing_findings::{Context, Test, is_void_base, keeps, type_or_void, violates};
+use qs_types::{CType, Env, Rule, extent_of, is_complete, is_void};
+use qs_typing_findings::{Context, Test, copied, decayed, keeps, starred, type_or_void, violates};
 use std::alloc::Global;
 
 /// The tests of a node that declares a type, and the type where it breaks none of their rules.
@@ -63,11 +66,22 @@ fn object_type(alloc: Global, element: CType, lengths: &Option<Vec<u32>>) -> Res
     }
 }
 
-/// Whether objects may not have elements of this type, which has this base (C11 6.7p7, 6.7.6.2p1).
-fn is_incomplete(c: &Context, base: &Base, element: &CType) -> bool
-    ensures { result ≡ is_incomplete (context_tree c.now) base.now (type_tree element.now) }
+/// Whether a declaration begins with `void`.
+fn is_void_type(base: &Option<CType>) -> bool
+    ensures { result ≡ is_void_type (option_type base.now) }
 {
-    is_void_base(base) || c.base_type(base).is_some() && !is_complete(c.structs(), element)
+    match base {
+        None => false,
+        Some(t) => is_void(t),
+    }
+}
+
+/// Whether objects may not have elements of this type, by whether its base is `void`, and known
+/// (C11 6.7p7, 6.7.6.2p1).
+fn is_incomplete(structs: &Env, is_void: bool, known: bool, element: &CType) -> bool
+    ensures { result ≡ is_incomplete (env_tree structs.now) is_void known (type_tree element.now) }
+{
+    is_void || known && !is_complete(structs, element)
 }
 
 fn is_large(structs: &Env, t: &CType) -> bool
@@ -107,22 +121,40 @@ fn with_size_tests(
     )
 }
 
-/// What declares a variable or a member of these lengths.
-fn object_declared(
+/// What declares an object of these lengths, where the declaration begins with this type.
+fn object_over(
     alloc: Global,
     c: &Context,
-    base: &Base,
+    base: Option<CType>,
     stars: u32,
     lengths: Option<Vec<u32>>,
 ) -> Result<Declared, NoMemory>
-    ensures { IfOk result (IsObject c.now base.now stars lengths) }
+    ensures { IfOk result (IsObject c.now base stars lengths) }
 {
-    let known = c.base_type(base).is_some();
-    let element = type_or_void(c.starred_type(alloc, base, stars)?);
-    let incomplete = is_incomplete(c, base, &element);
+    let known = base.is_some();
+    let is_void = is_void_type(&base);
+    let element = type_or_void(starred(alloc, base, stars)?);
+    let incomplete = is_incomplete(c.structs(), is_void, known, &element);
     let has_lengths = lengths.is_some();
     let t = object_type(alloc, element, &lengths)?;
     with_size_tests(alloc, c.structs(), known, incomplete, has_lengths, t)
+}
+
+/// What a declarator without brackets declares, where that may be any type but `void`.
+fn plain_declared(alloc: Global, base: Option<CType>, stars: u32) -> Result<Declared, NoMemory>
+    ensures { IfOk result (IsPlain base stars) }
+{
+    let known = base.is_some();
+    let is_void = is_void_type(&base);
+    let t = type_or_void(starred(alloc, base, stars)?);
+    with_tests(
+        alloc,
+        &[
+            keeps(Rule::UnknownTag, known),
+            violates(Rule::IncompleteType, is_void),
+        ],
+        if known && !is_void { Some(t) } else { None },
+    )
 }
 
 // ---- variables and members
@@ -152,7 +184,28 @@ fn whole_lengths(
     }
 }
 
-/// What a declarator declares, where its lengths are these.
+/// What a declarator declares, where its lengths are these, and the declaration begins with this
+/// type.
+fn declared_over(
+    alloc: Global,
+    c: &Context,
+    base: Option<CType>,
+    d: &Declarator,
+    first: Option<u32>,
+    lengths: ArrayLengths,
+) -> Result<Declared, NoMemory>
+    requires typed { AreTyped c.now d.now.lengths.given.items lengths }
+    requires values { AreValued c.now d.now.lengths.given.items lengths }
+    ensures { IfOk result (IsDeclaredOver c.now base d.now first) }
+{
+    if !lengths.all_typed {
+        return Ok(undeclared(alloc));
+    }
+    let ns = whole_lengths(&d.lengths, first, lengths.values)?;
+    object_over(alloc, c, base, d.stars, ns)
+}
+
+/// What a variable or a member declares, where its lengths are these.
 pub fn declarator_declared(
     alloc: Global,
     c: &Context,
@@ -165,11 +218,33 @@ pub fn declarator_declared(
     requires values { AreValued c.now d.now.lengths.given.items lengths }
     ensures { IfOk result (IsDeclared c.now base.now d.now first) }
 {
-    if !lengths.all_typed {
-        return Ok(undeclared(alloc));
+    let base = c.base_type(alloc, base)?;
+    declared_over(alloc, c, base, d, first, lengths)
+}
+
+fn has_brackets(l: &Lengths) -> bool
+    ensures { result ≡ declarations.has_brackets (lengths_tree l.now) }
+{
+    l.is_open || !l.given.is_empty()
+}
+
+/// What a type name declares (C11 6.7.8), where its lengths are these.
+pub fn type_name_declared(
+    alloc: Global,
+    c: &Context,
+    base: &Option<CType>,
+    d: &Declarator,
+    lengths: ArrayLengths,
+) -> Result<Declared, NoMemory>
+    requires typed { AreTyped c.now d.now.lengths.given.items lengths }
+    requires values { AreValued c.now d.now.lengths.given.items lengths }
+    ensures { IfOk result (IsTypeName c.now base.now d.now) }
+{
+    let base = copied(alloc, base)?;
+    if has_brackets(&d.lengths) {
+        return declared_over(alloc, c, base, d, None, lengths);
     }
-    let ns = whole_lengths(&d.lengths, first, lengths.values)?;
-    object_declared(alloc, c, base, d.stars, ns)
+    plain_declared(alloc, base, d.stars)
 }
 
 /// The bytes of a text.
@@ -253,12 +328,6 @@ pub fn variable_declared(
 
 // ---- parameters (6.7.6.3)
 
-fn is_array_parameter(l: &Lengths) -> bool
-    ensures { result ≡ declarations.is_array_parameter (lengths_tree l.now) }
-{
-    l.is_open || !l.given.is_empty()
-}
-
 fn pointer_to(alloc: Global, t: Option<CType>) -> Result<Option<CType>, NoMemory>
     ensures { IfOk result (λ r. option_type r ≡ option_map pointer (option_type t)) }
 {
@@ -277,7 +346,8 @@ fn pointer_declared(
 ) -> Result<Declared, NoMemory>
     ensures { IfOk result (IsPointer c.now name.now lengths) }
 {
-    let elements = object_declared(alloc, c, &name.base, name.stars, lengths)?;
+    let base = c.base_type(alloc, &name.base)?;
+    let elements = object_over(alloc, c, base, name.stars, lengths)?;
     Ok(Declared {
         tests: elements.tests,
         of: pointer_to(alloc, elements.of)?,
@@ -313,20 +383,23 @@ fn array_parameter(
     })
 }
 
+/// A type name may stand for an array, and so a parameter without brackets may be a pointer (C11
+/// 6.7.6.3p7).
+fn adjusted(t: Option<CType>) -> Option<CType>
+    ensures { option_type result ≡ option_map decayed (option_type t) }
+{
+    Some(decayed(t?))
+}
+
 fn plain_parameter(alloc: Global, c: &Context, p: &Parameter) -> Result<Declared, NoMemory>
     ensures { IfOk result (IsPlainParameter c.now p.now) }
 {
-    let known = c.base_type(&p.type_name.base).is_some();
-    let is_void = is_void_base(&p.type_name.base);
-    let t = type_or_void(c.named_type(alloc, &p.type_name)?);
-    with_tests(
-        alloc,
-        &[
-            keeps(Rule::UnknownTag, known),
-            violates(Rule::IncompleteType, is_void),
-        ],
-        if known && !is_void { Some(t) } else { None },
-    )
+    let base = c.base_type(alloc, &p.type_name.base)?;
+    let Declared { tests, of } = plain_declared(alloc, base, p.type_name.stars)?;
+    Ok(Declared {
+        tests,
+        of: adjusted(of),
+    })
 }
 
 /// What a parameter declares, where its lengths are these.
@@ -342,7 +415,7 @@ pub fn parameter_declared(
     requires values { ElementsAreValued c.now p.now.lengths lengths.rest }
     ensures { IfOk result (IsParameter c.now p.now) }
 {
-    if !is_array_parameter(&p.lengths) {
+    if !has_brackets(&p.lengths) {
         return plain_parameter(alloc, c, p);
     }
     if !lengths.rest.all_typed {

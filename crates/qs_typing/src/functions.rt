@@ -1,9 +1,8 @@
 // Functions (C11 6.7.6.3, 6.9.1).
-ghost use Rattle.std.specs.Prelude.{◌≡◌, Some, IfOk, OnOk, map, option_map};
+ghost use Rattle.std.specs.Prelude.{◌≡◌, Some, IfOk, OnOk, ◌&&◌, map, not, option_map};
 ghost use Rattle.std.specs.List.{list_all};
 ghost use Rattle.qs_syntax.specs.TreeOf.{function_tree};
 ghost use Rattle.qs_types.specs.Expressions.{type_or_void};
-ghost use Rattle.qs_types.specs.Types.{is_struct};
 ghost use Rattle.qs_types.specs.TypeOf.{type_tree};
 ghost use Rattle.qs_types.specs.UnitRules as rules;
 ghost use Rattle.qs_typing_findings.specs.ContextOf.{context_tree};
@@ -27,7 +26,7 @@ use crate::lengths::walk_parameter_lengths;
 use crate::statements::walk_statements;
 use qs_base::{Name, NoMemory};
 use qs_syntax::{Function, Parameter, Stmt};
-use qs_types::{CType, Env, Rule, is_scalar, is_struct};
+use qs_types::{CType, Env, Rule, is_array, is_scalar, is_struct};
 use qs_typing_findings::{
     Context, Entity, Local, Signature, Test, Walk, copied, is_void_base, keeps, local_of, violates,
 };
@@ -260,13 +259,21 @@ fn is_main_type(types: &[Option<CType>], to: &Option<CType>) -> bool
     may_be(&CType::Int, to) && are_main_parameters(types)
 }
 
-fn is_struct_result(t: &Option<CType>) -> bool
-    ensures { result ≡ is_struct (type_or_void (option_type t.now)) }
+fn is_aggregate_result(t: &Option<CType>) -> bool
+    ensures { result ≡ rules.is_aggregate (type_or_void (option_type t.now)) }
 {
     match t {
         None => false,
-        Some(t) => is_struct(t),
+        Some(t) => is_struct(t) || is_array(t),
     }
+}
+
+/// Whether a header may declare its name, by whether that is a type name, and whether the header
+/// agrees with what was declared before.
+fn may_declare(is_type_name: bool, agrees: bool) -> bool
+    ensures { result ≡ not is_type_name && agrees }
+{
+    !is_type_name && agrees
 }
 
 /// The test of a header of `main` (C11 5.1.2.2.1).
@@ -306,12 +313,13 @@ fn header_tests(
     ensures { IfOk result (λ ts. AreHeaderTests c.now f.now ts.items) }
 {
     let agrees = agrees_with(c.find_here(&f.name), types, to, f.body.is_some());
-    let known = c.base_type(&f.result_type.base).is_some();
+    let may_declare = may_declare(c.is_type_name(&f.name), agrees);
+    let known = c.knows_base(&f.result_type.base);
     let tests = [
-        keeps(Rule::DeclaredTwice, agrees),
+        keeps(Rule::DeclaredTwice, may_declare),
         keeps(Rule::UnknownTag, known),
         violates(Rule::IncompleteType, is_void_pointer(f)),
-        violates(Rule::SignatureType, is_struct_result(to)),
+        violates(Rule::SignatureType, is_aggregate_result(to)),
     ];
     with_test(alloc, &tests, main_test(f, types, to))
 }

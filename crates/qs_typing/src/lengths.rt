@@ -32,8 +32,8 @@ pub fn constant(c: &Context, e: &Expr, t: &CType) -> Option<u32>
     requires { Some (type_tree t.now) ≡ type_of (context_tree c.now) (expr_tree e.now) }
     ensures { result ≡ constant_of (context_tree c.now) (expr_tree e.now) }
 {
-    if is_integer(t) && is_built(e) {
-        value(c.structs(), c.tags(), e)
+    if is_integer(t) && is_built(c.type_names(), e) {
+        value(c.structs(), c.type_names(), e)
     } else {
         None
     }

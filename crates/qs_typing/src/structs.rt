@@ -9,7 +9,7 @@ ghost use Rattle.qs_typing.specs.DeclaredOf.{option_type};
 ghost use Rattle.qs_typing.specs.Declares.{IsMember};
 ghost use Rattle.qs_typing.specs.LengthsOf.{AreTyped, AreValued};
 ghost use Rattle.qs_typing.specs.StructWalks.{AddsDeclared, AddsGroup, AddsMembers, AreMemberTests};
-ghost use Rattle.qs_typing.specs.StructWalks.{DefinesAt, KnowsStruct, WalksGroup, WalksMember};
+ghost use Rattle.qs_typing.specs.StructWalks.{DefinesAt, IsPlace, KnowsStruct, WalksGroup, WalksMember};
 ghost use Rattle.qs_typing.specs.StructWalks.{WalksMembers, WalksStruct};
 
 use crate::declared_types::{Declared, declarator_declared};
@@ -178,22 +178,33 @@ fn define_at(
     }
 }
 
-/// Walks over a struct, which is known to its members, and defined behind them.
+fn is_option_defined(c: &Context, tag: &Option<Name>) -> bool
+    ensures { result ≡ rules.is_option_defined (context_tree c.now) tag.now }
+{
+    match tag {
+        None => false,
+        Some(tag) => is_defined(c, tag),
+    }
+}
+
+/// Walks over a struct, which is known to its members, and defined behind them, and tells its
+/// place.
 pub fn walk_struct(
     alloc: Global,
     c: &mut Context,
     s: &Struct,
     walk: &mut Walk,
-) -> Result<(), NoMemory>
+) -> Result<Option<u32>, NoMemory>
+    ensures place { IfOk result (IsPlace c.old s.now) }
     ensures context { OnOk result (KnowsStruct s.now c.old c.new) }
     ensures walked { OnOk result (WalksStruct c.old s.now walk.old walk.new) }
 {
     walk.open()?;
-    let defined = is_defined(c, &s.name);
+    let defined = is_option_defined(c, &s.name);
     walk.judge(s.node, &[violates(Rule::UnknownTag, defined)]);
-    c.with_tag(s.name.copy(alloc)?)?;
+    let place = c.declare_struct(alloc, &s.name)?;
     let mut before = MembersBefore::new(alloc);
     walk_members(alloc, c, &mut before, &s.members, walk)?;
-    let place = c.tag_place(&s.name);
-    define_at(alloc, c, before.members, place)
+    define_at(alloc, c, before.members, place)?;
+    Ok(place)
 }

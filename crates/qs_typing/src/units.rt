@@ -5,6 +5,7 @@ ghost use Rattle.qs_typing.specs.DeclarationWalks.{WalksDeclaration, WalksDeclar
 
 use crate::functions::walk_function;
 use crate::structs::walk_struct;
+use crate::type_names::walk_typedef;
 use crate::variables::walk_variables;
 use qs_base::NoMemory;
 use qs_syntax::Decl;
@@ -22,11 +23,15 @@ fn walk_declaration(
     ensures walked { OnOk result (WalksDeclaration c.old d.now walk.old walk.new) }
 {
     match d {
-        Decl::Struct(s) => walk_struct(alloc, c, s, walk),
+        Decl::Struct(s) => {
+            walk_struct(alloc, c, s, walk)?;
+            Ok(())
+        }
         Decl::Forward(f) => {
             walk.open()?;
             c.with_tag(f.name.copy(alloc)?)
         }
+        Decl::Typedef(t) => walk_typedef(alloc, c, t, walk),
         Decl::Function(f) => walk_function(alloc, c, f, walk),
         Decl::Variable(d) => walk_variables(alloc, true, c, &d.base, &d.variables, walk),
     }

@@ -184,7 +184,7 @@ pub fn walk_variable(
     let (declared, all_typed) = walk_declarator(alloc, c, base, v, walk)?;
     let node = v.declarator.node;
     walk.note_variable(at_file_scope, c, node, &declared.of)?;
-    let is_again = c.is_declared_here(&v.declarator.name);
+    let is_again = c.is_taken(at_file_scope, &v.declarator.name);
     let again = if all_typed { Some(is_again) } else { None };
     declare(alloc, at_file_scope, c, base, v, &declared.of)?;
     let initialised = walk_option_initialiser(

@@ -3,7 +3,7 @@ use Rattle.std.proofs.Common.{◌≡◌, ℕ, ◌+◌, Bool, true, false, ◌&&�
 use Rattle.std.proofs.lemmas.Grind.{flat_map-append}
 use Rattle.qs_syntax.specs.declared.types.Base.{Base}
 use Rattle.qs_syntax.specs.declared.nodes.Node.{Node}
-use Rattle.qs_syntax.specs.Trees.{ExprTree, DeclaratorTree, InitialiserTree, value, list, Initialisers, no_initialisers, initialiser_and, VariableTree, ParameterTree, MembersTree, StartTree, no_start, start_expression, start_declaration, StmtTree, empty, expression, declaration, block, branch, while_loop, do_loop, for_loop, break, continue, return, Stmts, no_stmts, stmt_and, Else, no_else, else_by, StructTree, FunctionTree, DeclTree, structure, forward, function, variables, UnitTree}
+use Rattle.qs_syntax.specs.Trees.{ExprTree, DeclaratorTree, InitialiserTree, value, list, Initialisers, no_initialisers, initialiser_and, VariableTree, ParameterTree, MembersTree, StartTree, no_start, start_expression, start_declaration, StmtTree, empty, expression, declaration, block, branch, while_loop, do_loop, for_loop, break, continue, return, Stmts, no_stmts, stmt_and, Else, no_else, else_by, StructTree, DefinedTree, of_struct, of_base, FunctionTree, DeclTree, structure, forward, typedef, function, variables, UnitTree}
 use Rattle.qs_types.specs.Types.{TypeTree}
 use Rattle.qs_types.specs.declared.rules.Rule.TheVariants as rules
 use Rattle.qs_types.specs.Rules.{Test, test, Fault, faults_of}
@@ -14,15 +14,15 @@ use Rattle.qs_types.specs.InitialiserRules.{option_part, initialiser_faults, ele
 use Rattle.qs_types.specs.StatementRules as statements
 use Rattle.qs_types.specs.StatementRules.{after_variable, after_statement, for_context, condition_faults, start_faults, statement_faults, statements_faults, else_faults, variable_faults, variables_faults, option_initialiser_faults, option_used, option_discarded}
 use Rattle.qs_types.specs.UnitRules as units
-use Rattle.qs_types.specs.UnitRules.{with_tag, is_defined, Before, no_members, after_member, after_together, after_parameter, after_declaration, body_context, member_faults, together_faults, members_faults, struct_faults, parameters_faults, body_faults, function_faults, declaration_faults, declarations_faults, faults_in}
+use Rattle.qs_types.specs.UnitRules.{with_option_tag, is_option_defined, after_defined, defined_type, defined_faults, after_type_name, type_names_faults, Before, no_members, after_member, after_together, after_parameter, after_declaration, body_context, member_faults, together_faults, members_faults, struct_faults, parameters_faults, body_faults, function_faults, declaration_faults, declarations_faults, faults_in}
 use Rattle.qs_types.specs.Placed.{addressed}
 use Rattle.qs_types.specs.References.{expr_calls, site_texts, literal_blocks}
-use Rattle.qs_types.specs.Sites.{Site, site, sites, option_sites, may_hold, declarator_sites, declarators_sites, initialiser_sites, elements_sites, option_initialiser_sites, variable_sites, variables_sites, start_sites, statement_sites, statements_sites, else_sites, members_sites, parameters_sites, body_sites, declaration_sites, declarations_sites, unit_sites}
+use Rattle.qs_types.specs.Sites.{Site, site, sites, option_sites, may_hold, declarator_sites, declarators_sites, initialiser_sites, elements_sites, option_initialiser_sites, variable_sites, variables_sites, start_sites, statement_sites, statements_sites, else_sites, members_sites, defined_sites, type_names_sites, parameters_sites, body_sites, declaration_sites, declarations_sites, unit_sites}
 use Rattle.qs_typing_findings.specs.Findings.{least_with}
-use Rattle.qs_typing_findings.specs.NodeTypes.{NodeTypes, expr_types, option_types, lengths_types, declarator_types, declarators_types, initialiser_types, initialisers_types, option_initialiser_types, variables_types, start_types, statement_types, statements_types, else_types, members_types, parameters_types, body_types, declaration_types, declarations_types, unit_types}
+use Rattle.qs_typing_findings.specs.NodeTypes.{NodeTypes, expr_types, option_types, lengths_types, declarator_types, declarators_types, initialiser_types, initialisers_types, option_initialiser_types, variables_types, start_types, statement_types, statements_types, else_types, members_types, defined_types, type_names_types, parameters_types, body_types, declaration_types, declarations_types, unit_types}
 use Rattle.qs_typing_findings.specs.Noted.{parameters_noted}
 use Rattle.qs_typing_findings.specs.UnitWalk as walks
-use Rattle.qs_typing_findings.specs.UnitWalk.{WalkTree, node_opened, object_opened, declarator_walked, node_judged, site_walked, expr_walked, option_walked, lengths_walked, initialiser_walked, elements_walked, option_initialiser_walked, variable_walk_noted, variable_walked, variables_walked, start_walked, condition_walked, statement_walked, statements_walked, else_walked, member_walked, together_walked, members_walked, struct_walked, parameters_walked, body_walked, function_walked, declaration_walked, declarations_walked, unit_walked, start_walk}
+use Rattle.qs_typing_findings.specs.UnitWalk.{WalkTree, node_opened, object_opened, declarator_walked, node_judged, site_walked, expr_walked, option_walked, lengths_walked, initialiser_walked, elements_walked, option_initialiser_walked, variable_walk_noted, variable_walked, variables_walked, start_walked, condition_walked, statement_walked, statements_walked, else_walked, member_walked, together_walked, members_walked, struct_walked, type_names_walked, defined_walked, parameters_walked, body_walked, function_walked, declaration_walked, declarations_walked, unit_walked, start_walk}
 use Rattle.qs_typing_findings.proofs.LeastFaults.{least_swaps, least_with-append}
 
 abbrev pub site_addressed : Site → List ℕ
@@ -234,8 +234,20 @@ members_add : (c : Context) (before : Before) (ms : List MembersTree) → Adds (
 members_add c before [] = nothing_adds
 members_add c before (m ∷ ms) = then_adds (together_add c before m.base m.declarators) (members_add c (after_together c before m.base m.declarators) ms)
 
-struct_adds : (c : Context) (s : StructTree) → Adds (struct_walked c s) (struct_faults c s) (members_sites (with_tag c s.name) s.members) (None ∷ members_types (with_tag c s.name) s.members)
-struct_adds c s = then_adds (judged_only c s.node (test rules.UnknownTag (is_defined c s.name))) (members_add (with_tag c s.name) no_members s.members)
+struct_adds : (c : Context) (s : StructTree)
+    → Adds (struct_walked c s) (struct_faults c s) (members_sites (with_option_tag c s.name) s.members) (None ∷ members_types (with_option_tag c s.name) s.members)
+struct_adds c s = then_adds (judged_only c s.node (test rules.UnknownTag (is_option_defined c s.name))) (members_add (with_option_tag c s.name) no_members s.members)
+
+-- ---- names of types
+
+type_names_add : (c : Context) (base : Option TypeTree) (ds : List DeclaratorTree) → Adds (type_names_walked c base ds) (type_names_faults c base ds) (type_names_sites c base ds) (type_names_types c base ds)
+type_names_add c base [] = nothing_adds
+type_names_add c base (d ∷ ds) =
+    then_adds (judged_adds d.node (units.type_name_tests c base d) (then_adds opened_adds (lengths_add c d.lengths.given))) (type_names_add (after_type_name c base d) base ds)
+
+defined_adds : (c : Context) (d : DefinedTree) → Adds (defined_walked c d) (defined_faults c d) (defined_sites c d) (defined_types c d)
+defined_adds c (of_struct s) = struct_adds c s
+defined_adds c (of_base b) = nothing_adds
 
 -- ---- functions
 
@@ -264,6 +276,7 @@ function_adds c f =
 declaration_adds : (c : Context) (d : DeclTree) → Adds (declaration_walked c d) (declaration_faults c d) (declaration_sites c d) (declaration_types c d)
 declaration_adds c (structure s) = struct_adds c s
 declaration_adds c (forward f) = opened_adds
+declaration_adds c (typedef t) = then_adds (defined_adds c t.defined) (type_names_add (after_defined c t.defined) (defined_type c t.defined) t.names)
 declaration_adds c (function f) = function_adds c f
 declaration_adds c (variables d) = variables_add true c d.base d.variables
 

@@ -4,7 +4,7 @@ use Rattle.std.proofs.lemmas.List.{drop_at}
 use Rattle.std.specs.Option.{option_or}
 use Rattle.qs_syntax.specs.declared.types.Base.{Base}
 use Rattle.qs_syntax.specs.declared.nodes.Node.{Node}
-use Rattle.qs_syntax.specs.Trees.{ExprTree, DeclaratorTree, InitialiserTree, value, list, Initialisers, no_initialisers, initialiser_and, VariableTree, ParameterTree, MembersTree, StartTree, no_start, start_expression, start_declaration, StmtTree, empty, expression, declaration, block, branch, while_loop, do_loop, for_loop, break, continue, return, Stmts, no_stmts, stmt_and, Else, no_else, else_by, StructTree, FunctionTree, structure, forward, function, variables, UnitTree}
+use Rattle.qs_syntax.specs.Trees.{ExprTree, DeclaratorTree, InitialiserTree, value, list, Initialisers, no_initialisers, initialiser_and, VariableTree, ParameterTree, MembersTree, StartTree, no_start, start_expression, start_declaration, StmtTree, empty, expression, declaration, block, branch, while_loop, do_loop, for_loop, break, continue, return, Stmts, no_stmts, stmt_and, Else, no_else, else_by, StructTree, DefinedTree, of_struct, of_base, TypedefTree, FunctionTree, structure, forward, typedef, function, variables, UnitTree}
 use Rattle.qs_types.specs.Types.{TypeTree, Structs}
 use Rattle.qs_types.specs.declared.rules.Rule.TheVariants as rules
 use Rattle.qs_types.specs.Rules.{Test, test}
@@ -14,12 +14,12 @@ use Rattle.qs_types.specs.ExpressionFaults.{Position, used, discarded, whole}
 use Rattle.qs_types.specs.Declarations.{variable_declared, parameter_declared}
 use Rattle.qs_types.specs.InitialiserRules.{option_part}
 use Rattle.qs_types.specs.StatementRules.{after_variable, variable_tests, condition_tests, for_tests, loop_tests, return_tests, after_statement, for_context}
-use Rattle.qs_types.specs.UnitRules.{with_tag, is_defined, member_tests, parameter_tests, header_tests, result_type, Before, no_members, after_member, after_together, after_parameter, after_function, after_declaration, parameter_types, with_parameter, with_parameters, body_context}
+use Rattle.qs_types.specs.UnitRules.{with_option_tag, is_option_defined, member_tests, after_defined, defined_type, after_type_name, type_name_tests, parameter_tests, header_tests, result_type, Before, no_members, after_member, after_together, after_parameter, after_function, after_declaration, parameter_types, with_parameter, with_parameters, body_context}
 use Rattle.qs_types.specs.Placed.{Local, addressed_in, is_placed, locals_in, parameters_locals, variables_locals, start_locals, statement_locals, statements_locals, else_locals}
 use Rattle.qs_types.specs.Limits.{Block, type_size, variables_blocks, variable_blocks_from, local_block, local_past, local_past_from, local_limit, block_past}
 use Rattle.qs_types.specs.Sites.{may_hold}
 use Rattle.qs_typing_findings.specs.Noted.{LocalTree, local_tree, parameters_noted, is_block, local_past_by}
-use Rattle.qs_typing_findings.specs.UnitWalk.{WalkTree, node_opened, object_opened, declarator_walked, node_judged, option_list_tests, site_walked, option_walked, lengths_walked, initialiser_walked, elements_walked, option_initialiser_walked, variable_walk_noted, variable_walked, variables_walked, start_walked, condition_walked, statement_walked, statements_walked, else_walked, member_walked, together_walked, members_walked, struct_walked, parameters_walked, with_body_begun, body_walked, function_walked, declarations_walked, unit_walked, start_walk}
+use Rattle.qs_typing_findings.specs.UnitWalk.{WalkTree, node_opened, object_opened, declarator_walked, node_judged, option_list_tests, site_walked, option_walked, lengths_walked, initialiser_walked, elements_walked, option_initialiser_walked, variable_walk_noted, variable_walked, variables_walked, start_walked, condition_walked, statement_walked, statements_walked, else_walked, member_walked, together_walked, members_walked, struct_walked, type_names_walked, defined_walked, typedef_walked, parameters_walked, with_body_begun, body_walked, function_walked, declarations_walked, unit_walked, start_walk}
 use Rattle.qs_typing_findings.proofs.AddedFindings.{statements_add}
 use Rattle.qs_typing_findings.proofs.ScopeEnds.{statement_inner, start_inner}
 
@@ -191,7 +191,19 @@ members_kept c before [] = nothing_kept
 members_kept c before (m ∷ ms) = then_blocks (together_kept c before m.base m.declarators) (members_kept c (after_together c before m.base m.declarators) ms)
 
 struct_kept : (c : Context) (s : StructTree) → Keeps (struct_walked c s)
-struct_kept c s = then_blocks (judged_kept s.node (test rules.UnknownTag (is_defined c s.name)) opened_kept) (members_kept (with_tag c s.name) no_members s.members)
+struct_kept c s = then_blocks (judged_kept s.node (test rules.UnknownTag (is_option_defined c s.name)) opened_kept) (members_kept (with_option_tag c s.name) no_members s.members)
+
+type_names_kept : (c : Context) (base : Option TypeTree) (ds : List DeclaratorTree) → Keeps (type_names_walked c base ds)
+type_names_kept c base [] = nothing_kept
+type_names_kept c base (d ∷ ds) =
+    then_blocks (judged_kept d.node (type_name_tests c base d) (then_blocks opened_kept (lengths_kept c d.lengths.given))) (type_names_kept (after_type_name c base d) base ds)
+
+defined_kept : (c : Context) (d : DefinedTree) → Keeps (defined_walked c d)
+defined_kept c (of_struct s) = struct_kept c s
+defined_kept c (of_base b) = nothing_kept
+
+typedef_kept : (c : Context) (t : TypedefTree) → Keeps (typedef_walked c t)
+typedef_kept c t = then_blocks (defined_kept c t.defined) (type_names_kept (after_defined c t.defined) (defined_type c t.defined) t.names)
 
 parameters_kept : (c : Context) (has_body : Bool) (ps : List ParameterTree) → Keeps (parameters_walked c has_body ps)
 parameters_kept c has_body [] = nothing_kept
@@ -296,6 +308,7 @@ declarations_past : (c : Context) (ds : UnitTree) → AddsPast (declarations_wal
 declarations_past c [] = past_of nothing_kept
 declarations_past c (structure s ∷ ds) = then_past (past_of (struct_kept c s)) (declarations_past (after_declaration c (structure s)) ds)
 declarations_past c (forward f ∷ ds) = then_past (past_of opened_kept) (declarations_past (after_declaration c (forward f)) ds)
+declarations_past c (typedef t ∷ ds) = then_past (past_of (typedef_kept c t)) (declarations_past (after_declaration c (typedef t)) ds)
 declarations_past c (function f ∷ ds) = then_past (function_past c f) (declarations_past (after_declaration c (function f)) ds)
 declarations_past c (variables d ∷ ds) = then_past (past_of (globals_add c d.base d.variables)) (declarations_past (after_declaration c (variables d)) ds)
 

@@ -2,15 +2,16 @@
 use Rattle.std.proofs.Common.{◌≡◌, ℕ, Bool, true, false, List, [], ◌∷◌, ◌++◌, Option, Some, None, is_some, refl, sym, ap, ◌∙◌, subst, append_assoc, append-nil, slice_get, if◌then◌else◌}
 use Rattle.std.proofs.lemmas.Option.{same_Some}
 use Rattle.qs_syntax.specs.declared.types.Base.{Base}
+use Rattle.qs_syntax.specs.declared.types.Base.TheVariants as bases
 use Rattle.qs_base.specs.Bytes.{same_bytes}
-use Rattle.qs_syntax.specs.Trees.{VariableTree, ParameterTree, StructTree, FunctionTree, structure, forward, function, variables, UnitTree}
+use Rattle.qs_syntax.specs.Trees.{VariableTree, ParameterTree, DeclaratorTree, StructTree, DefinedTree, of_struct, of_base, TypedefTree, FunctionTree, structure, forward, typedef, function, variables, UnitTree}
 use Rattle.qs_types.specs.Types.{TypeTree, MemberTree}
 use Rattle.qs_types.specs.GivenFunctions.{Signature, putchar_name, putchar_type, getchar_name, getchar_type}
-use Rattle.qs_types.specs.Contexts.{Entity, Binding, local_variable, file_variable, given, Context, entity_of, lookup, start_context, tag_place, with_name, inner_scope}
+use Rattle.qs_types.specs.Contexts.{Entity, Binding, local_variable, file_variable, given, Context, add_type, entity_of, lookup, start_context, tag_place, is_type_name, with_name, inner_scope}
 use Rattle.qs_types.specs.Contexts as contexts
-use Rattle.qs_types.specs.Declarations.{variable_declared}
+use Rattle.qs_types.specs.Declarations.{variable_declared, type_name_declared}
 use Rattle.qs_types.specs.StatementRules.{after_variable, after_variables, entity_at}
-use Rattle.qs_types.specs.UnitRules.{with_tag, no_members, after_members, has_no_members, define_at, after_struct, declared_function, after_function, context_after, header_of, signature_by, result_type, parameter_types, with_parameter, with_parameters, body_context}
+use Rattle.qs_types.specs.UnitRules.{with_new_tag, with_tag, with_option_tag, option_place, with_base_tag, after_defined, defined_type, with_type_name, after_type_name, after_type_names, after_typedef, no_members, after_members, has_no_members, define_at, after_struct, declared_function, after_function, context_after, header_of, signature_by, result_type, parameter_types, with_parameter, with_parameters, body_context}
 use Rattle.qs_base.proofs.ByteLaws.{bytes_exact}
 use Rattle.qs_typing_findings.specs.LatestHeaders.{FunctionHeader, header_at, headers_from, unit_headers, latest_or, latest, IsLatest, AreLatest, given_type, AreGiven}
 
@@ -101,9 +102,32 @@ variables_same at_file_scope c base (v ∷ vs) =
 tag_names : (c : Context) (tag x : List ℕ) → entity_of (with_tag c tag) x ≡ entity_of c x
 tag_names c tag x = by (is_some (tag_place c tag))
   where
-    by : (b : Bool) → entity_of (if b then c else record c { structs = c.structs ++ None ∷ []; tags = c.tags ++ tag ∷ [] }) x ≡ entity_of c x
+    by : (b : Bool) → entity_of (if b then c else with_new_tag c tag) x ≡ entity_of c x
     by true = refl
     by false = refl
+
+option_names : (c : Context) (tag : Option (List ℕ)) (x : List ℕ) → entity_of (with_option_tag c tag) x ≡ entity_of c x
+option_names c None x = refl
+option_names c (Some tag) x = tag_names c tag x
+
+base_names : (c : Context) (b : Base) (x : List ℕ) → entity_of (with_base_tag c b) x ≡ entity_of c x
+base_names c bases.Void x = refl
+base_names c bases.Int x = refl
+base_names c bases.Unsigned x = refl
+base_names c bases.Char x = refl
+base_names c (bases.Struct tag) x = tag_names c tag x
+base_names c (bases.Named n) x = refl
+
+type_name_names : (c : Context) (n : List ℕ) (t : Option TypeTree) (x : List ℕ) → entity_of (with_type_name c n t) x ≡ entity_of c x
+type_name_names c n t x = by (is_type_name c n)
+  where
+    by : (b : Bool) → entity_of (if b then c else record c { type_names = add_type c.type_names n t }) x ≡ entity_of c x
+    by true = refl
+    by false = refl
+
+type_names_names : (c : Context) (base : Option TypeTree) (ds : List DeclaratorTree) (x : List ℕ) → entity_of (after_type_names c base ds) x ≡ entity_of c x
+type_names_names c base [] x = refl
+type_names_names c base (d ∷ ds) x = type_names_names (after_type_name c base d) base ds x ∙ type_name_names c d.name (type_name_declared c base d).type x
 
 define_names : (c : Context) (ms : List MemberTree) (o : Option ℕ) (x : List ℕ) → entity_of (define_at c ms o) x ≡ entity_of c x
 define_names c ms None x = refl
@@ -116,10 +140,21 @@ define_names c ms (Some k) x = by (has_no_members (slice_get c.structs k)) _
 same_by : (c d : Context) → ((x : List ℕ) → entity_of d x ≡ entity_of c x) → SameFunctions c d
 same_by c d e = record { same = λ x f called p. sym (e x) ∙ p }
 
+struct_entities : (c : Context) (s : StructTree) (x : List ℕ) → entity_of (after_struct c s) x ≡ entity_of c x
+struct_entities c s x =
+    define_names (with_option_tag c s.name) (after_members (with_option_tag c s.name) no_members s.members).members (option_place c s.name) x ∙ option_names c s.name x
+
 struct_same : (c : Context) (s : StructTree) → SameFunctions c (after_struct c s)
 struct_same c s =
     same_by c (after_struct c s)
-    (λ x. define_names (with_tag c s.name) (after_members (with_tag c s.name) no_members s.members).members (tag_place (with_tag c s.name) s.name) x ∙ tag_names c s.name x)
+    (struct_entities c s)
+
+defined_entities : (c : Context) (d : DefinedTree) (x : List ℕ) → entity_of (after_defined c d) x ≡ entity_of c x
+defined_entities c (of_struct s) x = struct_entities c s x
+defined_entities c (of_base b) x = base_names c b x
+
+pub typedef_same : (c : Context) (t : TypedefTree) → SameFunctions c (after_typedef c t)
+typedef_same c t = same_by c (after_typedef c t) (λ x. type_names_names (after_defined c t.defined) (defined_type c t.defined) t.names x ∙ defined_entities c t.defined x)
 
 -- ---- units
 
@@ -128,6 +163,7 @@ declarations_latest c [] hs l = subst (AreLatest c) (sym (append-nil hs)) l
 declarations_latest c (structure s ∷ ds) hs l = declarations_latest (after_struct c s) ds hs (same_latest c (after_struct c s) hs (struct_same c s) l)
 declarations_latest c (forward f ∷ ds) hs l =
     declarations_latest (with_tag c f.name) ds hs (same_latest c (with_tag c f.name) hs (same_by c (with_tag c f.name) (tag_names c f.name)) l)
+declarations_latest c (typedef t ∷ ds) hs l = declarations_latest (after_typedef c t) ds hs (same_latest c (after_typedef c t) hs (typedef_same c t) l)
 declarations_latest c (function f ∷ ds) hs l =
     subst (AreLatest (context_after (after_function c f) ds)) (append_assoc hs (header_at c f ∷ []) (headers_from (after_function c f) ds))
     (declarations_latest (after_function c f) ds (hs ++ header_at c f ∷ []) (function_latest c f hs l))
@@ -216,6 +252,7 @@ declarations_given c [] g = g
 declarations_given c (structure s ∷ ds) g = declarations_given (after_struct c s) ds (same_given c (after_struct c s) (struct_same c s) g)
 declarations_given c (forward f ∷ ds) g =
     declarations_given (with_tag c f.name) ds (same_given c (with_tag c f.name) (same_by c (with_tag c f.name) (tag_names c f.name)) g)
+declarations_given c (typedef t ∷ ds) g = declarations_given (after_typedef c t) ds (same_given c (after_typedef c t) (typedef_same c t) g)
 declarations_given c (function f ∷ ds) g = declarations_given (after_function c f) ds (function_given c f g)
 declarations_given c (variables d ∷ ds) g =
     declarations_given (after_variables true c d.base d.variables) ds (same_given c (after_variables true c d.base d.variables) (variables_same true c d.base d.variables) g)

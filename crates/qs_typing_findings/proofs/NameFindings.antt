@@ -2,7 +2,7 @@
 use Rattle.std.proofs.Common.{◌≡◌, ℕ, ◌+◌, Bool, true, false, ◌&&◌, List, [], ◌∷◌, ◌++◌, Option, Some, None, is_some, refl, sym, ap, ◌∙◌, append_assoc, append-nil}
 use Rattle.qs_syntax.specs.declared.types.Base.{Base}
 use Rattle.qs_syntax.specs.declared.nodes.Node.{Node}
-use Rattle.qs_syntax.specs.Trees.{ExprTree, DeclaratorTree, InitialiserTree, value, list, Initialisers, no_initialisers, initialiser_and, VariableTree, ParameterTree, MembersTree, StartTree, no_start, start_expression, start_declaration, StmtTree, empty, expression, declaration, block, branch, while_loop, do_loop, for_loop, break, continue, return, Stmts, no_stmts, stmt_and, Else, no_else, else_by, FunctionTree, DeclTree, structure, forward, function, variables, UnitTree}
+use Rattle.qs_syntax.specs.Trees.{ExprTree, DeclaratorTree, InitialiserTree, value, list, Initialisers, no_initialisers, initialiser_and, VariableTree, ParameterTree, MembersTree, StartTree, no_start, start_expression, start_declaration, StmtTree, empty, expression, declaration, block, branch, while_loop, do_loop, for_loop, break, continue, return, Stmts, no_stmts, stmt_and, Else, no_else, else_by, StructTree, DefinedTree, of_struct, of_base, FunctionTree, DeclTree, structure, forward, typedef, function, variables, UnitTree}
 use Rattle.qs_types.specs.Types.{TypeTree}
 use Rattle.qs_types.specs.declared.rules.Rule.TheVariants as rules
 use Rattle.qs_types.specs.Rules.{Test, test}
@@ -14,16 +14,16 @@ use Rattle.qs_types.specs.InitialiserRules.{option_part}
 use Rattle.qs_types.specs.StatementRules as statements
 use Rattle.qs_types.specs.StatementRules.{after_variable, after_statement, for_context}
 use Rattle.qs_types.specs.UnitRules as units
-use Rattle.qs_types.specs.UnitRules.{with_tag, is_defined, Before, no_members, after_member, after_together, after_parameter, after_declaration, body_context, parameter_types}
+use Rattle.qs_types.specs.UnitRules.{with_option_tag, is_option_defined, after_defined, defined_type, after_type_name, Before, no_members, after_member, after_together, after_parameter, after_declaration, body_context, parameter_types}
 use Rattle.qs_types.specs.Sites.{may_hold}
 use Rattle.qs_types.specs.declared.referent.Referent.{Referent}
 use Rattle.qs_types.specs.Referents.{referent_of}
 use Rattle.qs_typing_findings.specs.ExprFindings.{of_nodes}
-use Rattle.qs_typing_findings.specs.UnitNodes.{of_option, of_lengths, of_declarator, of_declarators, of_initialiser, of_initialisers, of_option_initialiser, of_variables, of_start, of_statement, of_statements, of_else, of_members, of_parameters, of_body, of_declaration, of_declarations}
+use Rattle.qs_typing_findings.specs.UnitNodes.{of_option, of_lengths, of_declarator, of_declarators, of_initialiser, of_initialisers, of_option_initialiser, of_variables, of_start, of_statement, of_statements, of_else, of_members, of_defined, of_type_names, of_parameters, of_body, of_declaration, of_declarations}
 use Rattle.qs_typing_findings.specs.NodeReferents.{no_referent, unit_referents}
 use Rattle.qs_typing_findings.specs.Noted.{parameters_noted}
 use Rattle.qs_typing_findings.specs.UnitWalk as walks
-use Rattle.qs_typing_findings.specs.UnitWalk.{WalkTree, node_opened, object_opened, declarator_walked, node_judged, site_walked, expr_walked, option_walked, lengths_walked, initialiser_walked, elements_walked, option_initialiser_walked, variable_walk_noted, variable_walked, variables_walked, start_walked, condition_walked, statement_walked, statements_walked, else_walked, member_walked, together_walked, members_walked, parameters_walked, body_walked, declaration_walked, declarations_walked, unit_walked, start_walk}
+use Rattle.qs_typing_findings.specs.UnitWalk.{WalkTree, node_opened, object_opened, declarator_walked, node_judged, site_walked, expr_walked, option_walked, lengths_walked, initialiser_walked, elements_walked, option_initialiser_walked, variable_walk_noted, variable_walked, variables_walked, start_walked, condition_walked, statement_walked, statements_walked, else_walked, member_walked, together_walked, members_walked, struct_walked, type_names_walked, defined_walked, parameters_walked, body_walked, declaration_walked, declarations_walked, unit_walked, start_walk}
 
 -- a walk finds that names stand for these, behind those before
 pub record Names (f : WalkTree → WalkTree) (rs : List (Option Referent)) : Type 0 where
@@ -143,6 +143,18 @@ members_names : (c : Context) (before : Before) (ms : List MembersTree) → Name
 members_names c before [] = no_names
 members_names c before (m ∷ ms) = then_names (together_names c before m.base m.declarators) (members_names c (after_together c before m.base m.declarators) ms)
 
+struct_names : (c : Context) (s : StructTree) → Names (struct_walked c s) (None ∷ of_members no_referent referent_of (with_option_tag c s.name) s.members)
+struct_names c s = then_names (judged_names s.node (test rules.UnknownTag (is_option_defined c s.name)) opened_names) (members_names (with_option_tag c s.name) no_members s.members)
+
+type_names_names : (c : Context) (base : Option TypeTree) (ds : List DeclaratorTree) → Names (type_names_walked c base ds) (of_type_names no_referent referent_of c base ds)
+type_names_names c base [] = no_names
+type_names_names c base (d ∷ ds) =
+    then_names (judged_names d.node (units.type_name_tests c base d) (then_names opened_names (lengths_names c d.lengths.given))) (type_names_names (after_type_name c base d) base ds)
+
+defined_names : (c : Context) (d : DefinedTree) → Names (defined_walked c d) (of_defined no_referent referent_of c d)
+defined_names c (of_struct s) = struct_names c s
+defined_names c (of_base b) = no_names
+
 parameters_names : (c : Context) (has_body : Bool) (ps : List ParameterTree) → Names (parameters_walked c has_body ps) (of_parameters no_referent referent_of c ps)
 parameters_names c has_body [] = no_names
 parameters_names c has_body (p ∷ ps) =
@@ -155,8 +167,9 @@ body_names c f (Some ss) =
     record { found = λ w. a.found (walks.with_body_begun (parameters_noted c.structs f.parameters (parameter_types (inner_scope c) f.parameters)) w) }
 
 declaration_names : (c : Context) (d : DeclTree) → Names (declaration_walked c d) (of_declaration no_referent referent_of c d)
-declaration_names c (structure s) = then_names (judged_names s.node (test rules.UnknownTag (is_defined c s.name)) opened_names) (members_names (with_tag c s.name) no_members s.members)
+declaration_names c (structure s) = struct_names c s
 declaration_names c (forward f) = opened_names
+declaration_names c (typedef t) = then_names (defined_names c t.defined) (type_names_names (after_defined c t.defined) (defined_type c t.defined) t.names)
 declaration_names c (function f) =
     then_names (judged_names f.node (units.header_tests c f) (then_names opened_names (parameters_names (inner_scope c) (is_some f.body) f.parameters))) (body_names c f f.body)
 declaration_names c (variables d) = variables_names true c d.base d.variables

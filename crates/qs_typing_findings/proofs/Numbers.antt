@@ -5,15 +5,15 @@ use Rattle.std.proofs.lemmas.List.{map-append, length-map}
 use Rattle.std.proofs.lemmas.Option.{slice_get-map}
 use Rattle.qs_syntax.specs.declared.types.Base.{Base}
 use Rattle.qs_syntax.specs.declared.nodes.Node.{Node}
-use Rattle.qs_syntax.specs.Trees.{ExprTree, DeclaratorTree, InitialiserTree, value, list, Initialisers, no_initialisers, initialiser_and, VariableTree, ParameterTree, MembersTree, StartTree, no_start, start_expression, start_declaration, StmtTree, empty, expression, declaration, block, branch, while_loop, do_loop, for_loop, break, continue, return, Stmts, no_stmts, stmt_and, Else, no_else, else_by, FunctionTree, DeclTree, structure, forward, function, variables, UnitTree}
-use Rattle.qs_syntax.specs.Nodes.{all_nodes, option_nodes, expr_nodes, declarator_nodes, initialiser_nodes, initialisers_nodes, variable_nodes, parameter_nodes, members_nodes, start_nodes, stmt_nodes, stmts_nodes, else_nodes, decl_nodes, unit_nodes}
+use Rattle.qs_syntax.specs.Trees.{ExprTree, DeclaratorTree, InitialiserTree, value, list, Initialisers, no_initialisers, initialiser_and, VariableTree, ParameterTree, MembersTree, StartTree, no_start, start_expression, start_declaration, StmtTree, empty, expression, declaration, block, branch, while_loop, do_loop, for_loop, break, continue, return, Stmts, no_stmts, stmt_and, Else, no_else, else_by, DefinedTree, of_struct, of_base, FunctionTree, DeclTree, structure, forward, typedef, function, variables, UnitTree}
+use Rattle.qs_syntax.specs.Nodes.{all_nodes, option_nodes, expr_nodes, declarator_nodes, initialiser_nodes, initialisers_nodes, variable_nodes, parameter_nodes, members_nodes, start_nodes, stmt_nodes, stmts_nodes, else_nodes, defined_nodes, decl_nodes, unit_nodes}
 use Rattle.qs_types.specs.Types.{TypeTree}
 use Rattle.qs_types.specs.Contexts.{Context, start_context, inner_scope, inside_loop}
 use Rattle.qs_types.specs.Declarations.{variable_declared, parameter_declared}
 use Rattle.qs_types.specs.StatementRules.{after_variable, after_statement, for_context}
-use Rattle.qs_types.specs.UnitRules.{with_tag, after_parameter, body_context, after_declaration}
+use Rattle.qs_types.specs.UnitRules.{with_option_tag, after_defined, defined_type, after_type_name, after_parameter, body_context, after_declaration}
 use Rattle.qs_typing_findings.specs.ExprFindings.{node_of, of_nodes}
-use Rattle.qs_typing_findings.specs.UnitNodes.{of_option, of_lengths, of_declarator, of_declarators, of_initialiser, of_initialisers, of_option_initialiser, of_variables, of_start, of_statement, of_statements, of_else, of_members, of_parameters, of_body, of_declaration, of_declarations, of_unit, with_nodes}
+use Rattle.qs_typing_findings.specs.UnitNodes.{of_option, of_lengths, of_declarator, of_declarators, of_initialiser, of_initialisers, of_option_initialiser, of_variables, of_start, of_statement, of_statements, of_else, of_members, of_defined, of_type_names, of_parameters, of_body, of_declaration, of_declarations, of_unit, with_nodes}
 use Rattle.qs_typing_findings.proofs.FindingOrder.{expr_aligned, of_nodes-map}
 
 -- ---- the nodes of a unit are those of which there is something
@@ -94,6 +94,14 @@ members_nodes_of : (c : Context) (ms : List MembersTree) → all_nodes members_n
 members_nodes_of c [] = refl
 members_nodes_of c (m ∷ ms) = λ i. declarators_nodes_of c m.declarators i ++ members_nodes_of c ms i
 
+defined_nodes_of : (c : Context) (d : DefinedTree) → defined_nodes d ≡ of_defined itself own_node c d
+defined_nodes_of c (of_struct s) = ap (λ ns. s.node ∷ ns) (members_nodes_of (with_option_tag c s.name) s.members)
+defined_nodes_of c (of_base b) = refl
+
+type_names_nodes_of : (c : Context) (base : Option TypeTree) (ds : List DeclaratorTree) → all_nodes declarator_nodes ds ≡ of_type_names itself own_node c base ds
+type_names_nodes_of c base [] = refl
+type_names_nodes_of c base (d ∷ ds) = λ i. (d.node ∷ lengths_nodes_of c d.lengths.given i) ++ type_names_nodes_of (after_type_name c base d) base ds i
+
 parameters_nodes_of : (c : Context) (ps : List ParameterTree) → all_nodes parameter_nodes ps ≡ of_parameters itself own_node c ps
 parameters_nodes_of c [] = refl
 parameters_nodes_of c (p ∷ ps) = λ i. (p.node ∷ lengths_nodes_of c p.lengths.given i) ++ parameters_nodes_of (after_parameter c p) ps i
@@ -103,8 +111,9 @@ body_nodes_of c f None = refl
 body_nodes_of c f (Some ss) = statements_nodes_of (body_context c f) ss
 
 declaration_nodes_of : (c : Context) (d : DeclTree) → decl_nodes d ≡ of_declaration itself own_node c d
-declaration_nodes_of c (structure s) = ap (λ ns. s.node ∷ ns) (members_nodes_of (with_tag c s.name) s.members)
+declaration_nodes_of c (structure s) = ap (λ ns. s.node ∷ ns) (members_nodes_of (with_option_tag c s.name) s.members)
 declaration_nodes_of c (forward f) = refl
+declaration_nodes_of c (typedef t) = λ i. defined_nodes_of c t.defined i ++ type_names_nodes_of (after_defined c t.defined) (defined_type c t.defined) t.names i
 declaration_nodes_of c (function f) = λ i. f.node ∷ (parameters_nodes_of (inner_scope c) f.parameters i ++ body_nodes_of c f f.body i)
 declaration_nodes_of c (variables d) = variables_nodes_of true c d.base d.variables
 
@@ -216,6 +225,16 @@ module _ {A B : Type 0} (f : A → B) (at : Node → Option TypeTree → A) (of 
   members_map c [] = refl
   members_map c (m ∷ ms) = both (of_declarators at of c m.declarators) (of_members at of c ms) (of_declarators at_f of_f c m.declarators) (of_members at_f of_f c ms) (declarators_map c m.declarators) (members_map c ms)
 
+  defined_map : (c : Context) (d : DefinedTree) → map f (of_defined at of c d) ≡ of_defined at_f of_f c d
+  defined_map c (of_struct s) = ap (λ l. at_f s.node None ∷ l) (members_map (with_option_tag c s.name) s.members)
+  defined_map c (of_base b) = refl
+
+  type_names_map : (c : Context) (base : Option TypeTree) (ds : List DeclaratorTree) → map f (of_type_names at of c base ds) ≡ of_type_names at_f of_f c base ds
+  type_names_map c base [] = refl
+  type_names_map c base (d ∷ ds) =
+      let after = after_type_name c base d in
+      both (of_declarator at of c None d) (of_type_names at of after base ds) (of_declarator at_f of_f c None d) (of_type_names at_f of_f after base ds) (declarator_map c None d) (type_names_map after base ds)
+
   parameters_map : (c : Context) (ps : List ParameterTree) → map f (of_parameters at of c ps) ≡ of_parameters at_f of_f c ps
   parameters_map c [] = refl
   parameters_map c (p ∷ ps) =
@@ -228,8 +247,13 @@ module _ {A B : Type 0} (f : A → B) (at : Node → Option TypeTree → A) (of 
   body_map c g (Some ss) = statements_map (body_context c g) ss
 
   declaration_map : (c : Context) (d : DeclTree) → map f (of_declaration at of c d) ≡ of_declaration at_f of_f c d
-  declaration_map c (structure s) = ap (λ l. at_f s.node None ∷ l) (members_map (with_tag c s.name) s.members)
+  declaration_map c (structure s) = ap (λ l. at_f s.node None ∷ l) (members_map (with_option_tag c s.name) s.members)
   declaration_map c (forward g) = refl
+  declaration_map c (typedef t) =
+      let after = after_defined c t.defined in
+      let base = defined_type c t.defined in
+      both (of_defined at of c t.defined) (of_type_names at of after base t.names) (of_defined at_f of_f c t.defined) (of_type_names at_f of_f after base t.names)
+      (defined_map c t.defined) (type_names_map after base t.names)
   declaration_map c (function g) =
       both (at g.node None ∷ of_parameters at of (inner_scope c) g.parameters) (of_body at of c g g.body) (at_f g.node None ∷ of_parameters at_f of_f (inner_scope c) g.parameters) (of_body at_f of_f c g g.body)
       (ap (λ l. at_f g.node None ∷ l) (parameters_map (inner_scope c) g.parameters)) (body_map c g g.body)

@@ -6,7 +6,7 @@ use Rattle.std.proofs.lemmas.Cmp.{nat_list_eq_equiv, nat_eq_equiv}
 use Rattle.std.proofs.Math.Bool.{or-false, or-true, or_assoc}
 use Rattle.indexmap.specs.IndexSet.{insert_all, insert_key}
 use Rattle.qs_base.specs.Bytes.{same_bytes}
-use Rattle.qs_syntax.specs.Trees.{structure, forward, function, variables, UnitTree}
+use Rattle.qs_syntax.specs.Trees.{structure, forward, typedef, function, variables, UnitTree}
 use Rattle.qs_types.specs.Limits.{block_past, local_limit}
 use Rattle.qs_types.specs.Placed.{is_one_of}
 use Rattle.qs_types.specs.UnitRules.{is_name_in}
@@ -69,6 +69,7 @@ pub undefined_once : (runs : List ℕ → Bool) (calls : List (List ℕ)) (ds : 
 undefined_once runs calls [] = refl
 undefined_once runs calls (structure s ∷ ds) = undefined_once runs calls ds
 undefined_once runs calls (forward f ∷ ds) = undefined_once runs calls ds
+undefined_once runs calls (typedef t ∷ ds) = undefined_once runs calls ds
 undefined_once runs calls (function f ∷ ds) =
     λ i. if name_once f.name calls i && not (runs f.name) then Some f.node.id else undefined_once runs calls ds i
 undefined_once runs calls (variables d ∷ ds) = undefined_once runs calls ds

@@ -11,10 +11,10 @@ use Rattle.qs_syntax.specs.Units.{IsRead}
 use Rattle.qs_syntax.proofs.NodeLaws.{unit_length}
 use Rattle.qs_syntax.proofs.UnitLaws.{node_of_unit}
 use Rattle.qs_types.specs.Types.{TypeTree}
-use Rattle.qs_types.specs.Contexts.{Context}
+use Rattle.qs_types.specs.Contexts.{Context, TypeNames}
 use Rattle.qs_types.specs.Limits.{KeepsLimits}
 use Rattle.qs_types.proofs.LimitLaws as limits
-use Rattle.qs_types.specs.Recorded.{global_blocks, tags_of}
+use Rattle.qs_types.specs.Recorded.{global_blocks, type_names_of}
 use Rattle.qs_types.specs.References.{literal_blocks}
 use Rattle.qs_types.specs.UnitRules.{structs_of}
 use Rattle.qs_types.specs.WellTyped.{end_context}
@@ -42,8 +42,14 @@ addressed_are unit w e = ap (λ v. v.found.addressed) e ∙ unit_addresses unit
 pub structs_are : (unit : UnitTree) (c : Context) → c ≡ end_context unit → c.structs ≡ structs_of unit
 structs_are unit c e = ap (λ d. d.structs) e
 
-pub tags_are : (unit : UnitTree) (c : Context) → c ≡ end_context unit → c.tags ≡ tags_of unit
-tags_are unit c e = ap (λ d. d.tags) e
+pub tags_are : (unit : UnitTree) (c : Context) → c ≡ end_context unit → c.type_names.tags ≡ (type_names_of unit).tags
+tags_are unit c e = ap (λ d. d.type_names.tags) e
+
+pub named_are : (unit : UnitTree) (c : Context) → c ≡ end_context unit → c.type_names.types ≡ (type_names_of unit).types
+named_are unit c e = ap (λ d. d.type_names.types) e
+
+pub same_names : (n m : TypeNames) → n.tags ≡ m.tags → n.types ≡ m.types → n ≡ m
+same_names n m e f = λ i. record { tags = e i; types = f i }
 
 pub globals_are : (unit : UnitTree) (w : WalkTree) → w ≡ unit_walked unit → w.noted.globals ≡ global_blocks unit
 globals_are unit w e = ap (λ v. v.noted.globals) e ∙ unit_globals unit
@@ -52,7 +58,7 @@ pub texts_are : (unit : UnitTree) (w : WalkTree) → w ≡ unit_walked unit → 
 texts_are unit w e = ap (λ v. v.noted.texts) e ∙ unit_texts unit
 
 -- the parts of a typed unit are those of the walk over it
-pub ruleset parts_are = (types_are, referents_are, addressed_are, structs_are, tags_are, globals_are, texts_are)
+pub ruleset parts_are = (types_are, referents_are, addressed_are, structs_are, tags_are, named_are, globals_are, texts_are)
 
 -- the node at a place of a unit's list has the place for its number
 number_is : (unit : Unit) (i : ℕ) (node : Node) → slice_get (unit_nodes (unit_tree unit)) i ≡ Some node → node.id ≡ i

@@ -3,6 +3,7 @@ use Rattle.std.specs.Prelude.{ℕ, ◌-◌, Bool, Option, length, take, drop, op
 use Rattle.qs_types.specs.Types.{TypeTree, Structs}
 use Rattle.qs_types.specs.TypeOf.{type_tree}
 use Rattle.qs_types.specs.EnvOf.{env_tree}
+use Rattle.qs_types.specs.TypeNamesOf.{names_tree}
 use Rattle.qs_types.specs.Contexts as contexts
 use Rattle.qs_typing_findings.specs.ScopesOf.{inner_bindings, outer_bindings}
 use Rattle.qs_typing_findings.specs.declared.context.Context.{Context}
@@ -10,7 +11,7 @@ use Rattle.qs_typing_findings.specs.declared.context.Context.{Context}
 abbrev pub context_tree : Context → contexts.Context
 context_tree c = record {
   structs = env_tree c.structs;
-  tags = c.tags.keys;
+  type_names = names_tree c.type_names;
   inner = inner_bindings c.names;
   outer = outer_bindings c.names;
   result = option_map type_tree c.result;

@@ -3,10 +3,11 @@ use Rattle.std.specs.Prelude.{◌≡◌, ℕ, Bool, List, Option, is_some, map}
 use Rattle.std.specs.Map.{values_of}
 use Rattle.qs_syntax.specs.declared.types.Base.{Base}
 use Rattle.qs_types.specs.declared.types.CType.{CType}
-use Rattle.qs_types.specs.Contexts.{starred_type, with_name}
+use Rattle.qs_types.specs.Contexts.{base_type, starred_type, with_name}
 use Rattle.qs_types.specs.Layout.{layout_of, sized_layout, with_members}
 use Rattle.qs_types.specs.StructsOf.{member_tree}
 use Rattle.qs_types.specs.TypeOf.{type_tree}
+use Rattle.qs_types.specs.UnitRules.{with_option_tag, with_type_name}
 use Rattle.qs_typing_findings.specs.declared.context.Context.{Context}
 use Rattle.qs_typing_findings.specs.declared.entity.Entity.{Entity}
 use Rattle.qs_typing_findings.specs.ContextOf.{context_tree, with_result, with_structs}
@@ -27,6 +28,16 @@ IsSized c members done = done ≡ is_some (sized_layout (layout_of (context_tree
 abbrev pub GivesMembers : (k : ℕ) → List (List ℕ × CType) → (done : Bool) → (before after : Context) → Type 0
 GivesMembers k members done before after =
     context_tree after ≡ with_structs (context_tree before) (with_members done (context_tree before).structs k (map member_tree members))
+
+-- a struct with this tag, or without one, is declared
+abbrev pub KnowsStruct : Option (List ℕ) → (before after : Context) → Type 0
+KnowsStruct tag before after = context_tree after ≡ with_option_tag (context_tree before) tag
+
+abbrev pub KnowsTypeName : List ℕ → Option CType → (before after : Context) → Type 0
+KnowsTypeName x t before after = context_tree after ≡ with_type_name (context_tree before) x (option_type t)
+
+abbrev pub IsBase : Context → Base → Option CType → Type 0
+IsBase c base t = option_type t ≡ base_type (context_tree c) base
 
 abbrev pub IsStarred : Context → Base → (stars : ℕ) → Option CType → Type 0
 IsStarred c base stars t = option_type t ≡ starred_type (context_tree c) base stars

@@ -2,7 +2,7 @@
 -- from its end (C11 6.2.1p7), and later ones declare the same function (6.2.2p2) with a type that is compatible (6.2.7p4).
 use Rattle.std.specs.Prelude.{◌≡◌, ℕ, Bool, List, [], ◌∷◌, ◌++◌, Option, Some, None, if◌then◌else◌}
 use Rattle.qs_base.specs.Bytes.{same_bytes}
-use Rattle.qs_syntax.specs.Trees.{FunctionTree, structure, forward, function, variables, UnitTree}
+use Rattle.qs_syntax.specs.Trees.{FunctionTree, structure, forward, typedef, function, variables, UnitTree}
 use Rattle.qs_types.specs.GivenFunctions.{Signature, putchar_name, putchar_type, getchar_type}
 use Rattle.qs_types.specs.Contexts.{Context, entity_of, start_context}
 use Rattle.qs_types.specs.Contexts as contexts
@@ -22,6 +22,7 @@ abbrev pub headers_from : Context → UnitTree → List FunctionHeader
 headers_from c [] = []
 headers_from c (structure s ∷ ds) = headers_from (after_declaration c (structure s)) ds
 headers_from c (forward f ∷ ds) = headers_from (after_declaration c (forward f)) ds
+headers_from c (typedef t ∷ ds) = headers_from (after_declaration c (typedef t)) ds
 headers_from c (function f ∷ ds) = header_at c f ∷ headers_from (after_declaration c (function f)) ds
 headers_from c (variables d ∷ ds) = headers_from (after_declaration c (variables d)) ds
 

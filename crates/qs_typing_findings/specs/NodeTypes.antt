@@ -3,7 +3,7 @@
 use Rattle.std.specs.Prelude.{Bool, List, Option, map, option_map}
 use Rattle.qs_syntax.specs.declared.nodes.Node.{Node}
 use Rattle.qs_syntax.specs.declared.types.Base.{Base}
-use Rattle.qs_syntax.specs.Trees.{ExprTree, DeclaratorTree, InitialiserTree, Initialisers, VariableTree, ParameterTree, MembersTree, StartTree, StmtTree, Stmts, Else, FunctionTree, DeclTree, UnitTree}
+use Rattle.qs_syntax.specs.Trees.{ExprTree, DeclaratorTree, InitialiserTree, Initialisers, VariableTree, ParameterTree, MembersTree, StartTree, StmtTree, Stmts, Else, DefinedTree, FunctionTree, DeclTree, UnitTree}
 use Rattle.qs_types.specs.Types.{TypeTree}
 use Rattle.qs_types.specs.TypeOf.{type_tree}
 use Rattle.qs_types.specs.declared.types.CType.{CType}
@@ -11,7 +11,7 @@ use Rattle.qs_types.specs.Contexts.{Context}
 use Rattle.qs_types.specs.Expressions.{type_of}
 use Rattle.qs_typing_findings.specs.ByNumber.{IsByNumber}
 use Rattle.qs_typing_findings.specs.ExprFindings.{of_nodes}
-use Rattle.qs_typing_findings.specs.UnitNodes.{of_option, of_lengths, of_declarator, of_declarators, of_initialiser, of_initialisers, of_option_initialiser, of_variables, of_start, of_statement, of_statements, of_else, of_members, of_parameters, of_body, of_declaration, of_declarations, of_unit}
+use Rattle.qs_typing_findings.specs.UnitNodes.{of_option, of_lengths, of_declarator, of_declarators, of_initialiser, of_initialisers, of_option_initialiser, of_variables, of_start, of_statement, of_statements, of_else, of_members, of_defined, of_type_names, of_parameters, of_body, of_declaration, of_declarations, of_unit}
 
 abbrev pub NodeTypes : Type 0
 NodeTypes = List (Option TypeTree)
@@ -62,6 +62,12 @@ else_types = of_else declared_type type_of
 
 abbrev pub members_types : Context → List MembersTree → NodeTypes
 members_types = of_members declared_type type_of
+
+abbrev pub defined_types : Context → DefinedTree → NodeTypes
+defined_types = of_defined declared_type type_of
+
+abbrev pub type_names_types : Context → (base : Option TypeTree) → List DeclaratorTree → NodeTypes
+type_names_types = of_type_names declared_type type_of
 
 abbrev pub parameters_types : Context → List ParameterTree → NodeTypes
 parameters_types = of_parameters declared_type type_of

@@ -1,12 +1,13 @@
--- Types have a test of sameness that is exact, as blocks and texts have, so that an equation between them, or between lists of them, has at
--- most one proof.
-use Rattle.std.proofs.Common.{◌≡◌, Bool, true, false, ◌&&◌, ◌==◌, List, Option, refl, sym, ap, ◌∙◌}
+-- Types have a test of sameness that is exact, as names of types, blocks and texts have, so that an equation between them, or between lists
+-- of them, has at most one proof.
+use Rattle.std.proofs.Common.{◌≡◌, Bool, true, false, ◌&&◌, ◌==◌, List, Option, Some, None, refl, sym, ap, ◌∙◌}
 use Rattle.std.proofs.Props.{props}
 use Rattle.std.proofs.lemmas.Bool.Decides.{Decides-eqb}
 use Rattle.std.specs.Cmp.{first_so, second_so}
 use Rattle.std.specs.Cmp.Lexicographic.{bytes_decides}
 use mathlib.Core.HLevel.{hedberg}
 use Rattle.qs_base.specs.Bytes.{same_bytes}
+use Rattle.qs_types.specs.Contexts.{Tag, NamedType}
 use Rattle.qs_types.specs.Limits.{Block}
 use Rattle.qs_types.specs.References.{TextBlock}
 use Rattle.qs_types.specs.Types.{TypeTree, int, unsigned, char, void, pointer, array, struct, Structs, same_type}
@@ -46,6 +47,74 @@ types_prop ts us = hlevel (props, type_set)
 
 pub structs_prop : (structs others : Structs) → IsProp (structs ≡ others)
 structs_prop structs others = hlevel (props, type_set)
+
+-- ---- the same of names of types
+
+abbrev same_tag : Tag → Tag → Bool
+same_tag a b = (a.place == b.place) && same_bytes a.name b.name
+
+tag_self : (a : Tag) → same_tag a a ≡ true
+tag_self a = ap (λ b. b && same_bytes a.name a.name) ((Decides-eqb a.place a.place).1 refl) ∙ (bytes_decides a.name a.name).1 refl
+
+tag_is : (a b : Tag) → same_tag a b ≡ true → a ≡ b
+tag_is a b h =
+    let place = (Decides-eqb a.place b.place).0 (first_so (a.place == b.place) (same_bytes a.name b.name) h) in
+    let name = (bytes_decides a.name b.name).0 (second_so (a.place == b.place) (same_bytes a.name b.name) h) in
+    λ i. record { name = name i; place = place i }
+
+tag_decided : Discrete Tag
+tag_decided a b = by (same_tag a b) refl
+  where
+    by : (t : Bool) → same_tag a b ≡ t → Dec (a ≡ b)
+    by true e = yes (tag_is a b e)
+    by false e = no (λ p. let differ : true ≡ false = sym (tag_self a) ∙ ap (same_tag a) p ∙ e in absurd (cc))
+
+tag_set : IsSet Tag
+tag_set = hedberg tag_decided
+
+pub tags_prop : (ts us : List Tag) → IsProp (ts ≡ us)
+tags_prop ts us = hlevel (props, tag_set)
+
+abbrev same_option : Option TypeTree → Option TypeTree → Bool
+same_option None None = true
+same_option None (Some u) = false
+same_option (Some t) None = false
+same_option (Some t) (Some u) = same_type t u
+
+option_self : (o : Option TypeTree) → same_option o o ≡ true
+option_self None = refl
+option_self (Some t) = same_self t
+
+option_is : (o p : Option TypeTree) → same_option o p ≡ true → o ≡ p
+option_is None None h = refl
+option_is None (Some u) h = absurd (cc)
+option_is (Some t) None h = absurd (cc)
+option_is (Some t) (Some u) h = ap Some (same_is t u h)
+
+abbrev same_named : NamedType → NamedType → Bool
+same_named a b = same_option a.type b.type && same_bytes a.name b.name
+
+named_self : (a : NamedType) → same_named a a ≡ true
+named_self a = ap (λ b. b && same_bytes a.name a.name) (option_self a.type) ∙ (bytes_decides a.name a.name).1 refl
+
+named_is : (a b : NamedType) → same_named a b ≡ true → a ≡ b
+named_is a b h =
+    let type = option_is a.type b.type (first_so (same_option a.type b.type) (same_bytes a.name b.name) h) in
+    let name = (bytes_decides a.name b.name).0 (second_so (same_option a.type b.type) (same_bytes a.name b.name) h) in
+    λ i. record { name = name i; type = type i }
+
+named_decided : Discrete NamedType
+named_decided a b = by (same_named a b) refl
+  where
+    by : (t : Bool) → same_named a b ≡ t → Dec (a ≡ b)
+    by true e = yes (named_is a b e)
+    by false e = no (λ p. let differ : true ≡ false = sym (named_self a) ∙ ap (same_named a) p ∙ e in absurd (cc))
+
+named_set : IsSet NamedType
+named_set = hedberg named_decided
+
+pub named_prop : (ns ms : List NamedType) → IsProp (ns ≡ ms)
+named_prop ns ms = hlevel (props, named_set)
 
 -- ---- the same of blocks
 

@@ -3,12 +3,12 @@
 use Rattle.std.specs.Prelude.{Bool, true, false, List, [], ◌∷◌, ◌++◌, Option, Some, None}
 use Rattle.qs_syntax.specs.declared.nodes.Node.{Node}
 use Rattle.qs_syntax.specs.declared.types.Base.{Base}
-use Rattle.qs_syntax.specs.Trees.{ExprTree, DeclaratorTree, InitialiserTree, value, list, Initialisers, no_initialisers, initialiser_and, VariableTree, ParameterTree, MembersTree, StartTree, no_start, start_expression, start_declaration, StmtTree, empty, expression, declaration, block, branch, while_loop, do_loop, for_loop, break, continue, return, Stmts, no_stmts, stmt_and, Else, no_else, else_by, FunctionTree, DeclTree, structure, forward, function, variables, UnitTree}
+use Rattle.qs_syntax.specs.Trees.{ExprTree, DeclaratorTree, InitialiserTree, value, list, Initialisers, no_initialisers, initialiser_and, VariableTree, ParameterTree, MembersTree, StartTree, no_start, start_expression, start_declaration, StmtTree, empty, expression, declaration, block, branch, while_loop, do_loop, for_loop, break, continue, return, Stmts, no_stmts, stmt_and, Else, no_else, else_by, DefinedTree, of_struct, of_base, FunctionTree, DeclTree, structure, forward, typedef, function, variables, UnitTree}
 use Rattle.qs_types.specs.Types.{TypeTree}
 use Rattle.qs_types.specs.Contexts.{Context, start_context, inner_scope, inside_loop}
 use Rattle.qs_types.specs.Declarations.{variable_declared, parameter_declared}
 use Rattle.qs_types.specs.StatementRules.{after_variable, after_statement, for_context}
-use Rattle.qs_types.specs.UnitRules.{with_tag, after_parameter, body_context, after_declaration}
+use Rattle.qs_types.specs.UnitRules.{with_option_tag, after_defined, defined_type, after_type_name, after_parameter, body_context, after_declaration}
 use Rattle.qs_typing_findings.specs.ExprFindings.{node_of, of_nodes}
 
 module _ {A : Type 0} (at : Node → Option TypeTree → A) (of : Context → ExprTree → A) where
@@ -85,6 +85,14 @@ module _ {A : Type 0} (at : Node → Option TypeTree → A) (of : Context → Ex
   of_members c [] = []
   of_members c (m ∷ ms) = of_declarators c m.declarators ++ of_members c ms
 
+  abbrev pub of_defined : Context → DefinedTree → List A
+  of_defined c (of_struct s) = at s.node None ∷ of_members (with_option_tag c s.name) s.members
+  of_defined c (of_base b) = []
+
+  abbrev pub of_type_names : Context → (base : Option TypeTree) → List DeclaratorTree → List A
+  of_type_names c base [] = []
+  of_type_names c base (d ∷ ds) = of_declarator c None d ++ of_type_names (after_type_name c base d) base ds
+
   abbrev pub of_parameters : Context → List ParameterTree → List A
   of_parameters c [] = []
   of_parameters c (p ∷ ps) = (at p.node (parameter_declared c p).type ∷ of_lengths c p.lengths.given) ++ of_parameters (after_parameter c p) ps
@@ -94,8 +102,9 @@ module _ {A : Type 0} (at : Node → Option TypeTree → A) (of : Context → Ex
   of_body c f (Some ss) = of_statements (body_context c f) ss
 
   abbrev pub of_declaration : Context → DeclTree → List A
-  of_declaration c (structure s) = at s.node None ∷ of_members (with_tag c s.name) s.members
+  of_declaration c (structure s) = at s.node None ∷ of_members (with_option_tag c s.name) s.members
   of_declaration c (forward f) = at f.node None ∷ []
+  of_declaration c (typedef t) = of_defined c t.defined ++ of_type_names (after_defined c t.defined) (defined_type c t.defined) t.names
   of_declaration c (function f) = (at f.node None ∷ of_parameters (inner_scope c) f.parameters) ++ of_body c f f.body
   of_declaration c (variables d) = of_variables true c d.base d.variables
 

@@ -2,7 +2,7 @@
 use Rattle.std.specs.Prelude.{ℕ, ◌+◌, Bool, true, false, ◌&&◌, List, [], ◌∷◌, Option, Some, None, is_some, length, drop}
 use Rattle.qs_syntax.specs.declared.types.Base.{Base}
 use Rattle.qs_syntax.specs.declared.nodes.Node.{Node}
-use Rattle.qs_syntax.specs.Trees.{ExprTree, DeclaratorTree, InitialiserTree, value, list, Initialisers, no_initialisers, initialiser_and, VariableTree, ParameterTree, MembersTree, StartTree, no_start, start_expression, start_declaration, StmtTree, empty, expression, declaration, block, branch, while_loop, do_loop, for_loop, break, continue, return, Stmts, no_stmts, stmt_and, Else, no_else, else_by, StructTree, FunctionTree, DeclTree, structure, forward, function, variables, UnitTree}
+use Rattle.qs_syntax.specs.Trees.{ExprTree, DeclaratorTree, InitialiserTree, value, list, Initialisers, no_initialisers, initialiser_and, VariableTree, ParameterTree, MembersTree, StartTree, no_start, start_expression, start_declaration, StmtTree, empty, expression, declaration, block, branch, while_loop, do_loop, for_loop, break, continue, return, Stmts, no_stmts, stmt_and, Else, no_else, else_by, StructTree, DefinedTree, of_struct, of_base, TypedefTree, FunctionTree, DeclTree, structure, forward, typedef, function, variables, UnitTree}
 use Rattle.qs_types.specs.Types.{TypeTree}
 use Rattle.qs_types.specs.declared.rules.Rule.TheVariants as rules
 use Rattle.qs_types.specs.Rules.{Test, test}
@@ -12,7 +12,7 @@ use Rattle.qs_types.specs.ExpressionFaults.{Position, used, discarded, whole}
 use Rattle.qs_types.specs.Declarations.{variable_declared, parameter_declared}
 use Rattle.qs_types.specs.InitialiserRules.{option_part, list_tests}
 use Rattle.qs_types.specs.StatementRules.{after_variable, variable_tests, condition_tests, for_context, for_tests, loop_tests, return_tests, after_statement}
-use Rattle.qs_types.specs.UnitRules.{with_tag, is_defined, Before, no_members, after_member, after_together, member_tests, after_parameter, parameter_types, parameter_tests, header_tests, body_context, after_declaration}
+use Rattle.qs_types.specs.UnitRules.{with_option_tag, is_option_defined, Before, no_members, after_member, after_together, member_tests, after_defined, defined_type, after_type_name, type_name_tests, after_parameter, parameter_types, parameter_tests, header_tests, body_context, after_declaration}
 use Rattle.qs_types.specs.Sites.{may_hold}
 use Rattle.qs_typing_findings.specs.Findings.{FoundTree, nothing_found, judged_at, with_findings}
 use Rattle.qs_typing_findings.specs.ExprFindings.{expr_findings}
@@ -156,7 +156,23 @@ members_walked c before (m ∷ ms) w =
 
 abbrev pub struct_walked : Context → StructTree → WalkTree → WalkTree
 struct_walked c s w =
-    members_walked (with_tag c s.name) no_members s.members (node_judged s.node (test rules.UnknownTag (is_defined c s.name)) (node_opened w))
+    members_walked (with_option_tag c s.name) no_members s.members (node_judged s.node (test rules.UnknownTag (is_option_defined c s.name)) (node_opened w))
+
+-- ---- names of types
+
+abbrev pub type_name_walked : Context → (base : Option TypeTree) → DeclaratorTree → WalkTree → WalkTree
+type_name_walked c base d w = node_judged d.node (type_name_tests c base d) (lengths_walked c d.lengths.given (node_opened w))
+
+abbrev pub type_names_walked : Context → (base : Option TypeTree) → List DeclaratorTree → WalkTree → WalkTree
+type_names_walked c base [] w = w
+type_names_walked c base (d ∷ ds) w = type_names_walked (after_type_name c base d) base ds (type_name_walked c base d w)
+
+abbrev pub defined_walked : Context → DefinedTree → WalkTree → WalkTree
+defined_walked c (of_struct s) w = struct_walked c s w
+defined_walked c (of_base b) w = w
+
+abbrev pub typedef_walked : Context → TypedefTree → WalkTree → WalkTree
+typedef_walked c t w = type_names_walked (after_defined c t.defined) (defined_type c t.defined) t.names (defined_walked c t.defined w)
 
 -- ---- functions
 
@@ -192,6 +208,7 @@ function_walked c f w =
 abbrev pub declaration_walked : Context → DeclTree → WalkTree → WalkTree
 declaration_walked c (structure s) w = struct_walked c s w
 declaration_walked c (forward f) w = node_opened w
+declaration_walked c (typedef t) w = typedef_walked c t w
 declaration_walked c (function f) w = function_walked c f w
 declaration_walked c (variables d) w = variables_walked true c d.base d.variables w
 

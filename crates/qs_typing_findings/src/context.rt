@@ -1,23 +1,18 @@
 // What is known at a place of a unit (C11 6.2.1).
-ghost use Rattle.std.specs.Prelude.{◌≤◌, length};
-
 use crate::scopes::Scopes;
-use indexmap::IndexSet;
-use qs_base::Name;
-use qs_types::{CType, Env};
+use qs_types::{CType, Env, TypeNames};
 
 mod methods;
 
-pub use methods::is_void_base;
+pub use methods::{is_void_base, starred, struct_at};
 
-/// The structs with their tags, the names in scope, the result of the function, and whether a loop
-/// is around the place.
+/// The structs, the names of types, the other names in scope, the result of the function, and
+/// whether a loop is around the place.
 #[derive(Drop)]
 pub struct Context {
     structs: Env,
-    tags: IndexSet<Name>,
+    type_names: TypeNames,
     names: Scopes,
     result: Option<CType>,
     in_loop: bool,
-    ghost few: { length tags.keys ≤ 4294967295 },
 }

@@ -1,5 +1,5 @@
 // How structs are declared and defined.
-ghost use Rattle.std.specs.Prelude.{◌≡◌, ◌++◌, ◌∷◌, [], None, Some, IfOk, OnOk, OnErr, option_map};
+ghost use Rattle.std.specs.Prelude.{◌≡◌, ◌++◌, ◌∷◌, [], None, Some, IfOk, OnOk, OnErr, length, option_map};
 ghost use Rattle.std.specs.List.{slice_get};
 ghost use Rattle.qs_types.specs.Layout.{layout_of};
 ghost use Rattle.qs_types.specs.StructsOf.{structs_tree, layout_tree};
@@ -43,6 +43,17 @@ impl Env {
         ensures { option_map (λ l. layout_tree l.now) result ≡ layout_of (env_tree self.now) place }
     {
         self.structs.get(place)?.layout.as_ref()
+    }
+
+    /// The number that the next struct gets, if it fits.
+    #[tactic(auto, using(crate::proofs::NameLookups::as_many))]
+    pub fn next(&self) -> Result<u32, NoMemory>
+        ensures { IfOk result (λ k. k ≡ length (env_tree self.now)) }
+    {
+        if self.structs.len() > u32::MAX as usize {
+            return Err(NoMemory);
+        }
+        Ok(self.structs.len() as u32)
     }
 
     /// Declares one more struct, without members (C11 6.7.2.3).

@@ -2,8 +2,9 @@
 ghost use Rattle.std.specs.Prelude.{◌≡◌, map, option_map};
 ghost use Rattle.qs_syntax.specs.UnitTrees.{unit_tree};
 ghost use Rattle.qs_types.specs.EnvOf.{env_tree};
-ghost use Rattle.qs_types.specs.Recorded.{global_blocks, tags_of};
+ghost use Rattle.qs_types.specs.Recorded.{global_blocks, type_names_of};
 ghost use Rattle.qs_types.specs.References.{literal_blocks};
+ghost use Rattle.qs_types.specs.TypeNamesOf.{names_tree};
 ghost use Rattle.qs_types.specs.TypeOf.{type_tree};
 ghost use Rattle.qs_types.specs.UnitRules.{structs_of};
 ghost use Rattle.qs_types.specs.WellTyped.{end_context};
@@ -22,10 +23,8 @@ use super::TypedUnit;
 use crate::context::Context;
 use crate::noted::{Block, TextBlock};
 use crate::walk::Walk;
-use indexmap::IndexSet;
-use qs_base::Name;
 use qs_syntax::Unit;
-use qs_types::{CType, Env, Referent};
+use qs_types::{CType, Env, Referent, TypeNames};
 
 impl TypedUnit {
     /// A unit that is accepted, with what was found in it and what is known behind it.
@@ -37,14 +36,14 @@ impl TypedUnit {
         ensures { typed_tree result ≡ unit_tree unit }
     {
         let Walk { found, noted } = walk;
-        let (env, tags) = c.into_structs();
+        let (env, type_names) = c.into_structs();
         TypedUnit {
             unit,
             types: found.types,
             referents: found.referents,
             addressed: found.addressed,
             env,
-            tags,
+            type_names,
             globals: noted.globals,
             texts: noted.texts,
         }
@@ -90,11 +89,13 @@ impl TypedUnit {
         &self.addressed
     }
 
-    /// The tags of the structs, each at the number of its struct (C11 6.7.2.3).
-    pub fn tags(&self) -> &IndexSet<Name>
-        ensures { result.now.keys ≡ tags_of (typed_tree self.now) }
+    /// The names of types: tags with the numbers of their structs (C11 6.7.2.3), and the names of
+    /// typedefs with their types (6.7.8).
+    #[tactic(auto, using(crate::proofs::TypedLaws::same_names))]
+    pub fn type_names(&self) -> &TypeNames
+        ensures { names_tree result.now ≡ type_names_of (typed_tree self.now) }
     {
-        &self.tags
+        &self.type_names
     }
 
     /// The variables of file scope with their sizes, in the order of their declarations.

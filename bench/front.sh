@@ -22,6 +22,7 @@ source_of() {
     parameters) printf 'void f(' && pieces $room 'int*p,' && printf 'int);' ;;
     declarators) printf 'int ' && pieces $room '*a[2],' && printf 'b;' ;;
     structs) pieces $room 'struct s{int a;char b[4],*c;};' ;;
+    typenames) printf 'typedef int a' && pieces $room ',a' && printf ';' ;;
     program) pieces $room "int find(struct e*p,int n,int k){int lo;int hi;int m;lo=0;hi=n;while(lo<hi){m=lo+(hi-lo)/2;if((p+m)->k==k)return (p+m)->v;if((p+m)->k<k)lo=m+1;else hi=m;}return -1;} " ;;
     nodes) printf 'int main(void){' && pieces 9997 ';' && printf 'return 0;}' ;;
   esac
@@ -37,7 +38,7 @@ time_of() {
 }
 
 slow=0
-for shape in comment text texts marks expressions functions initialisers parameters declarators structs program; do
+for shape in comment text texts marks expressions functions initialisers parameters declarators structs typenames program; do
   for size in 65536 262144 1048576; do
     time_of $shape $size
     case $shape.$size in

@@ -1,6 +1,6 @@
 #!/usr/bin/env bash
 # Sources that nest far past the limit, on 4 MiB of native stack: bench/nesting.sh [PROGRAM] (by default ./qsc).
-# Prints a line for each; ends with 1 where a call doesn't end with status 1 and one line.
+# Prints a line for each; ends with 1 where a call doesn't end with status 1 and one line, or the last with status 12.
 set -u
 source "$(dirname "$(readlink -f "${BASH_SOURCE[0]}")")/program.sh"
 ulimit -s 4096
@@ -43,4 +43,16 @@ done
 try 'int ' 'a,' 10000 b '' ';'
 try 'int a' '[1]' 10000 '' '' ';'
 try 'void f(' 'int,' 10000 int '' ');'
+
+# each `typedef` puts 10,000 stars in front of the one before: of more than 10,000 together no type is made
+{
+  printf 'typedef int ' && copies 10000 '*' && printf 't0;'
+  for number in $(seq 99); do
+    printf 'typedef t%d ' $((number - 1)) && copies 10000 '*' && printf 't%d;' "$number"
+  done
+} >a.c
+"$program" build a.c --out a.img >out 2>line
+status=$?
+printf '%-14s %6d levels  status %d  %s\n' typedef 1000000 $status "$(cut -c1-60 line)"
+[ $status = 12 ] || wrong=1
 exit $wrong

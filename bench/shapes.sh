@@ -1,5 +1,5 @@
-# Units of up to so many nodes, of eleven shapes, for what sources this file.
-shapes='statements locals globals uses addresses blocks structs chain members functions program'
+# Units of up to so many nodes, of twelve shapes, for what sources this file.
+shapes='statements locals globals uses addresses blocks structs chain members typenames functions program'
 
 # a piece for each number from 0 up to the count, with % for the number
 each() { awk -v count="$1" -v piece="$2" 'BEGIN { for (i = 0; i < count; i++) { p = piece; gsub(/%/, i, p); printf "%s", p } }'; }
@@ -36,6 +36,7 @@ unit_of() {
     structs) printf 'struct s0{int m;};' && each $(($2 / 3 - 100)) 'struct t%{struct s0 m;struct s0 k;};' && in_main true ;;
     chain) printf 'struct s0{int m;};' && chain $(($2 / 3 - 100)) && in_main true ;;
     members) printf 'struct s{' && each $(($2 / 6)) 'int m%;' && printf '};struct s x;' && in_main members "$2" ;;
+    typenames) each $(($2 / 2 - 100)) 'typedef int t%;t% a%;' && in_main true ;;
     functions) each 500 'void f%(void){}' && in_main calls "$2" ;;
     program) each $(($2 / 62)) 'int find%(int*p,int n,int k){int lo;int hi;int m;lo=0;hi=n;while(lo<hi){m=lo+(hi-lo)/2;if(p[m]==k)return m;if(p[m]<k)lo=m+1;else hi=m;}return -1;}' && in_main true ;;
   esac

@@ -1,24 +1,17 @@
-// C11 7.20. Types are macros, as there is no `typedef`. The types of 64 bits, int8_t, int16_t and uint16_t can't be had:
-// no type has these bits exactly. The `least` and `fast` ones are the smallest type that is wide enough.
+// C11 7.20. The types of 64 bits, int8_t, int16_t and uint16_t can't be had: no type has these bits exactly. The `least`
+// and `fast` ones are the smallest type that is wide enough.
 #ifndef QSC_STDINT_H
 #define QSC_STDINT_H
-#define uint8_t unsigned char
-#define int32_t int
-#define uint32_t unsigned
+typedef unsigned char uint8_t;
+typedef int int32_t;
+typedef unsigned uint32_t;
 
-#define int_least8_t int
-#define int_least16_t int
-#define int_least32_t int
-#define uint_least8_t unsigned char
-#define uint_least16_t unsigned
-#define uint_least32_t unsigned
+typedef int int_least8_t, int_least16_t, int_least32_t;
+typedef unsigned char uint_least8_t;
+typedef unsigned uint_least16_t, uint_least32_t;
 
-#define int_fast8_t int
-#define int_fast16_t int
-#define int_fast32_t int
-#define uint_fast8_t unsigned
-#define uint_fast16_t unsigned
-#define uint_fast32_t unsigned
+typedef int int_fast8_t, int_fast16_t, int_fast32_t;
+typedef unsigned uint_fast8_t, uint_fast16_t, uint_fast32_t;
 
 #define UINT8_MAX 255
 #define INT32_MAX 2147483647

@@ -2,7 +2,7 @@
 #include "packet.h"
 #include <stdio.h>
 
-static struct parser parser;
+static parser_t parser;
 
 static inline uint8_t crc8(uint8_t crc, uint8_t byte)
 {
@@ -12,7 +12,7 @@ static inline uint8_t crc8(uint8_t crc, uint8_t byte)
     return crc;
 }
 
-bool parser_feed(struct parser *p, uint8_t byte)
+bool parser_feed(parser_t *p, uint8_t byte)
 {
     if (p->state == WAIT_START) {
         if (byte == PACKET_START)
@@ -49,7 +49,7 @@ static void put_hex(uint8_t byte)
     putchar("0123456789abcdef"[byte & 15]);
 }
 
-static void print_packet(const struct packet *p)
+static void print_packet(const packet_t *p)
 {
     for (size_t i = 0; i < p->length; i++)
         put_hex(p->data[i]);

@@ -14,19 +14,19 @@
 #define WAIT_DATA 2
 #define WAIT_CRC 3
 
-struct packet {
+typedef struct {
   uint8_t length;
   uint8_t data[PACKET_MAX];
-};
+} packet_t;
 
-struct parser {
+typedef struct {
   int state;
   size_t at;
   uint8_t crc;
-  struct packet packet;
+  packet_t packet;
   uint32_t good, bad;
-};
+} parser_t;
 
-bool parser_feed(struct parser *p, uint8_t byte);
+bool parser_feed(parser_t *p, uint8_t byte);
 
 #endif

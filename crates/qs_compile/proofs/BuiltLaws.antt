@@ -1,5 +1,5 @@
 -- What is put together from a unit's parts is its image.
-use Rattle.std.proofs.Common.{◌≡◌, ℕ, ◌/◌, ◌%◌, ◌^◌, ◌<◌, ◌≤◌, true, List, length, Option, None, refl, sym, ap, ◌∙◌, subst, arith}
+use Rattle.std.proofs.Common.{◌≡◌, inl, inr, ℕ, ◌/◌, ◌%◌, ◌^◌, ◌<◌, ◌≤◌, true, List, length, Option, refl, sym, ap, ◌∙◌, subst, arith}
 use Rattle.std.specs.Prelude.{◌==◌, sum_by}
 use Rattle.std.specs.Option.{option_map}
 use Rattle.std.proofs.lemmas.List.{length-map}
@@ -21,22 +21,26 @@ use Rattle.qs_lower.specs.Units.{straight_function}
 use Rattle.qs_lower.proofs.UnitFits.{types_count, function_there}
 use Rattle.qs_emit_selection.specs.Limits.{first_fault}
 use Rattle.qs_emit_selection.specs.Data.{data_address}
-use Rattle.qs_emit_selection.specs.Units.{selected}
+use Rattle.qs_emit_selection.specs.Units.{selected, IsFault}
 use Rattle.qs_emit.specs.Relation.{data_end, function_at}
 use Rattle.qs_emit.specs.Images.{IsWithinLimits}
 use Rattle.qs_emit.proofs.DataBytes.{data_length}
 use Rattle.qs_emit.proofs.EmissionLaws.{data_fits, data_few}
-use Rattle.qs_compile.specs.Units.{linear, own_slots, set_of, IsWithinSizes, MainReturns}
+use Rattle.qs_tac.specs.Laws.{AreAccepted, ArePacked}
+use Rattle.qs_compile.specs.Units.{linear, set_of, IsWithinSizes, MainReturns}
 use Rattle.qs_compile.specs.Built.{IsBuiltFrom}
 use Rattle.qs_compile.specs.AgreesWithCore.{DoesAsCore}
-use Rattle.qs_compile.specs.Parts.{AreParts}
+use Rattle.qs_compile.specs.Parts.{AreParts, ArePartsOf}
 use Rattle.qs_compile.specs.Code.{IsCodeFault}
-use Rattle.qs_compile.specs.Limits.{Passes}
+use Rattle.qs_compile.specs.Limits.{IsRefused, Passes}
+use Rattle.qs_compile.specs.Faults.{fault_of}
+use Rattle.qs_emit_selection.specs.declared.fault.SelectionFault.{SelectionFault}
+use Rattle.qs_emit_selection.specs.declared.fault.SelectionFault.TheVariants as selection
 use Rattle.qs_compile.specs.declared.fault.BuildFault.{BuildFault}
 use Rattle.qs_compile.specs.declared.fault.BuildFault.TheVariants.{NoMemory, TooManyFunctions, NamesTooLong, TooManyParameters, FrameTooLarge, DataTooLarge, CodeTooLong}
 use Rattle.qs_compile.proofs.UnsignedLaws.{set_holds, set_small}
-use Rattle.qs_compile.proofs.FitLaws.{IsMain, is_main, function_found, first_memory, emittable}
-use Rattle.qs_compile.proofs.SizeLaws.{function_count, within_sizes}
+use Rattle.qs_compile.proofs.FitLaws.{IsMain, is_main, function_found, first_memory, accepted_of, emittable}
+use Rattle.qs_compile.proofs.SizeLaws.{function_count, few_parameters, small_frame}
 use Rattle.qs_compile.proofs.WellFormed.{well_formed}
 use Rattle.qs_compile.proofs.DoesAsCore.{images_do_as_core}
 
@@ -58,32 +62,35 @@ module _ (u : CoreUnitTree) (fits : unit_fits u ≡ true) where
       ∙ sym (length-map main.function.parameters (λ (p : CoreParameterTree). p.place))
       ∙ ap (λ (g : TacFunctionTree). length g.parameters) (sym main_linear)
 
-  pub main_few : first_fault (linear u) (own_slots (linear u)) ≡ None → length (main_types u) ≤ 8
-  main_few free =
+  pub main_few : (functions : List FunctionRecord) (code bytes : List ℕ) → ArePartsOf u functions code bytes → length (main_types u) ≤ 8
+  main_few functions code bytes p =
       let count = main_count in
-      let few = (emittable u fits (within_sizes u free)).parameters u.main in
+      let emitted = emittable u fits (few_parameters u p.places p.parts.free) p.places (accepted_of (linear u) p.places p.packed) (small_frame u p.places p.parts.free) in
+      let few = emitted.parameters u.main in
       omega (arith, count, few)
 
 -- ---- the image
 
--- parts that are made by linear code and places are made by its own
-pub own_parts :
-    (u : CoreUnitTree) (t : TacUnitTree) (ps : List PlacesTree) (functions : List FunctionRecord) (code bytes : List ℕ) → t ≡ linear u → ps ≡ own_slots t
-    → AreParts u t ps functions code bytes → AreParts u (linear u) (own_slots (linear u)) functions code bytes
-own_parts u t ps functions code bytes is places m =
-    subst (λ (q : TacUnitTree). AreParts u q (own_slots q) functions code bytes) is
-    (subst (λ (p : List PlacesTree). AreParts u t p functions code bytes) places m)
+-- parts that are made by linear code and places are the unit's
+pub parts_of :
+    (u : CoreUnitTree) (t : TacUnitTree) (ps : List PlacesTree) (functions : List FunctionRecord) (code bytes : List ℕ) → t ≡ linear u → ArePacked t ps
+    → AreParts u t ps functions code bytes → ArePartsOf u functions code bytes
+parts_of u t ps functions code bytes is packed m = record {
+  places = ps;
+  packed = subst (λ (q : TacUnitTree). ArePacked q ps) is packed;
+  parts = subst (λ (q : TacUnitTree). AreParts u q ps functions code bytes) is m;
+}
 
 pub record IsMade (u : CoreUnitTree) (image : Image) : Type 0 where
   pub fits : unit_fits u ≡ true
-  pub parts : AreParts u (linear u) (own_slots (linear u)) image.functions image.code image.bytes
+  pub parts : ArePartsOf u image.functions image.code image.bytes
   pub entry : image.entry ≡ code_start
   pub parameters : image.parameters ≡ length (main_types u)
   pub unsigned : image.unsigned_set ≡ set_of (main_types u)
 
 pub image_made :
     (u : CoreUnitTree) (functions : List FunctionRecord) (code bytes : List ℕ) (types : List Scalar) (count set : ℕ) → unit_fits u ≡ true
-    → AreParts u (linear u) (own_slots (linear u)) functions code bytes → types ≡ main_types u → count ≡ length types → set ≡ set_of types
+    → ArePartsOf u functions code bytes → types ≡ main_types u → count ≡ length types → set ≡ set_of types
     → IsMade u (record { entry = code_start; parameters = count; unsigned_set = set; functions = functions; code = code; bytes = bytes })
 image_made u functions code bytes types count set fits parts is long holds = record {
   fits = fits;
@@ -96,39 +103,48 @@ image_made u functions code bytes types count set fits parts is long holds = rec
 module _ (u : CoreUnitTree) (image : Image) (m : IsMade u image) where
   pub built : IsBuiltFrom u image
   built = record {
-    names = m.parts.records.names;
+    places = m.parts.places;
+    packed = m.parts.packed;
+    names = m.parts.parts.records.names;
     parameters = m.parameters;
     unsigned = λ i. ap (λ (n : ℕ). n / 2 ^ i % 2 == 1) m.unsigned ∙ set_holds (main_types u) i;
     code = record {
-      code = m.parts.assembly;
+      code = m.parts.parts.assembly;
       entry = m.entry;
       parameters = m.parameters ∙ main_count u m.fits;
       count =
-          sym (length-map image.functions (λ (f : FunctionRecord). f.name)) ∙ ap length m.parts.records.names
+          sym (length-map image.functions (λ (f : FunctionRecord). f.name)) ∙ ap length m.parts.parts.records.names
           ∙ length-map u.functions (λ (g : CoreFunctionTree). g.name) ∙ sym (function_count u);
-      addresses = m.parts.records.addresses;
-      costs = m.parts.records.costs;
-      bytes = m.parts.octets;
+      addresses = m.parts.parts.records.addresses;
+      costs = m.parts.parts.records.costs;
+      bytes = m.parts.parts.octets;
     };
   }
 
   pub within_limits : IsWithinLimits image
   within_limits = record {
-    code = m.parts.reached;
+    code = m.parts.parts.reached;
     bytes =
-        let bytes = ap length m.parts.octets ∙ data_length (data_address (linear u).data_blocks) (initial_memory u) ∙ ap data_end (first_memory u m.fits).blocks in
-        let few = data_few (linear u) (data_fits (linear u) (own_slots (linear u)) m.parts.free) in
+        let bytes = ap length m.parts.parts.octets ∙ data_length (data_address (linear u).data_blocks) (initial_memory u) ∙ ap data_end (first_memory u m.fits).blocks in
+        let few = data_few (linear u) (data_fits (linear u) m.parts.places m.parts.parts.free) in
         omega (arith, bytes, few);
   }
 
-  pub sizes : IsWithinSizes u
-  sizes = within_sizes u m.parts.free
+  pub sizes : IsWithinSizes u image
+  sizes = record {
+    parameters = few_parameters u m.parts.places m.parts.parts.free;
+    frames = λ f lt.
+        let count = function_count u in
+        let cost = m.parts.parts.records.costs f (omega (arith, lt, count)) in
+        let most = small_frame u m.parts.places m.parts.parts.free f lt in
+        omega (arith, cost, most);
+  }
 
   pub keeps_form : IsWellFormed image
   keeps_form =
-      well_formed u image m.fits sizes built within_limits m.parts.few m.parts.short
+      well_formed u image m.fits sizes built within_limits m.parts.parts.few m.parts.parts.short
       (subst (λ (n : ℕ). n < 2 ^ image.parameters) (sym m.unsigned)
-      (subst (λ (k : ℕ). set_of (main_types u) < 2 ^ k) (sym m.parameters) (set_small (main_types u)))) m.parts.words
+      (subst (λ (k : ℕ). set_of (main_types u) < 2 ^ k) (sym m.parameters) (set_small (main_types u)))) m.parts.parts.words
 
   pub does_as_core : MainReturns u → DoesAsCore u image
   does_as_core returns = images_do_as_core u image m.fits sizes returns built within_limits
@@ -136,11 +152,38 @@ module _ (u : CoreUnitTree) (image : Image) (m : IsMade u image) where
 -- ---- where there is none
 
 -- code that is too long is the unit's
-pub code_passes : (u : CoreUnitTree) (items : List Item) (fault : BuildFault) → items ≡ selected (linear u) (own_slots (linear u)) → IsCodeFault items fault → Passes u fault
-code_passes u items NoMemory is h = tt
-code_passes u items CodeTooLong is h = subst (λ (l : List Item). reached_words ≤ sum_by item_words l) is h
-code_passes u items TooManyFunctions is h = absurd h
-code_passes u items NamesTooLong is h = absurd h
-code_passes u items TooManyParameters is h = absurd h
-code_passes u items FrameTooLarge is h = absurd h
-code_passes u items DataTooLarge is h = absurd h
+pub code_passes :
+    (u : CoreUnitTree) (t : TacUnitTree) (ps : List PlacesTree) (items : List Item) (fault : BuildFault) → t ≡ linear u → AreAccepted t ps
+    → items ≡ selected t ps → IsCodeFault items fault → Passes u fault
+code_passes u t ps items NoMemory same accepted is h = tt
+code_passes u t ps items CodeTooLong same accepted is h = record {
+  places = ps;
+  accepted = subst (λ (q : TacUnitTree). AreAccepted q ps) same accepted;
+  long = subst (λ (l : List Item). reached_words ≤ sum_by item_words l) (is ∙ ap (λ (q : TacUnitTree). selected q ps) same) h;
+}
+code_passes u t ps items TooManyFunctions same accepted is h = absurd h
+code_passes u t ps items NamesTooLong same accepted is h = absurd h
+code_passes u t ps items TooManyParameters same accepted is h = absurd h
+code_passes u t ps items FrameTooLarge same accepted is h = absurd h
+code_passes u t ps items DataTooLarge same accepted is h = absurd h
+
+-- no code is selected with the unit's values in these places
+refused :
+    (u : CoreUnitTree) (t : TacUnitTree) (ps : List PlacesTree) (fault : SelectionFault) → t ≡ linear u → AreAccepted t ps
+    → IsFault t ps fault → (fault ≡ selection.NoMemory → ⊥) → IsRefused u fault
+refused u t ps fault same accepted (inl none) other = absurd (other none)
+refused u t ps fault same accepted (inr is) other = record {
+  places = ps;
+  accepted = subst (λ (q : TacUnitTree). AreAccepted q ps) same accepted;
+  is = ap (λ (q : TacUnitTree). first_fault q ps) (sym same) ∙ is;
+}
+
+-- and so is the reason why no code is selected
+pub selection_passes :
+    (u : CoreUnitTree) (t : TacUnitTree) (ps : List PlacesTree) (fault : SelectionFault) → t ≡ linear u → AreAccepted t ps
+    → IsFault t ps fault → Passes u (fault_of fault)
+selection_passes u t ps selection.NoMemory same accepted h = tt
+selection_passes u t ps selection.NoRegister same accepted h = tt
+selection_passes u t ps selection.TooManyArguments same accepted h = refused u t ps selection.TooManyArguments same accepted h (λ e. cc)
+selection_passes u t ps selection.FrameTooLarge same accepted h = refused u t ps selection.FrameTooLarge same accepted h (λ e. cc)
+selection_passes u t ps selection.DataTooLarge same accepted h = refused u t ps selection.DataTooLarge same accepted h (λ e. cc)

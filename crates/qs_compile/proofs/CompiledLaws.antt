@@ -27,12 +27,14 @@ use Rattle.qs_elaborate_limits.specs.Measures.{bytes_in_words}
 use Rattle.qs_elaborate_limits.proofs.FrameCaps.{caps_are_kept}
 use Rattle.qs_elaborate_limits.proofs.MainReturns.{main_returns}
 use Rattle.qs_tac.specs.Trees.{TacFunctionTree, TacUnitTree}
-use Rattle.qs_tac.specs.Places.{all_slots}
+use Rattle.qs_tac.specs.Places.{PlacesTree, no_places}
 use Rattle.qs_lower.specs.WordLaws.{lowered_function}
 use Rattle.qs_lower.proofs.UnitWords.{lowered_sizes_are_kept}
-use Rattle.qs_alloc.proofs.Slots.{slots_are_accepted}
 use Rattle.qs_frames.specs.Layout.{total, kept, frame_cost, layout}
-use Rattle.qs_frames.proofs.FrameLaws.{no_more_is_kept}
+use Rattle.qs_frames.proofs.FrameLaws.{frames_are_laid_out, no_more_is_kept}
+use Rattle.std.proofs.lemmas.Option.{slice_get_within}
+use Rattle.qs_emit.specs.Relation.{function_at}
+use Rattle.qs_compile.proofs.FitLaws.{function_found, accepted_of}
 use Rattle.qs_image.specs.Image.{Image, FunctionRecord}
 use Rattle.qs_machine.specs.Arguments.{words_of}
 use Rattle.qs_machine.specs.Run.{machine, least_stack_pointer}
@@ -41,11 +43,11 @@ use Rattle.std.proofs.lemmas.List.{length-map}
 use Rattle.qs_typing_findings.specs.TypedOf.{typed_tree}
 use Rattle.qs_typing_findings.specs.declared.typed_unit.TypedUnit.{TypedUnit}
 use Rattle.qs_typing_findings.proofs.TypedLaws.{is_read}
-use Rattle.qs_compile.proofs.SmallUnits.{stands, cost_is}
+use Rattle.qs_compile.proofs.SmallUnits.{stands, cost_is, accepted_at}
 use Rattle.qs_compile.specs.AgreesWithCore.{values_of, HasStack, DoesAsCore}
 use Rattle.qs_compile.specs.Built.{IsBuiltFrom}
 use Rattle.qs_compile.specs.Units.{linear, MainReturns}
-use Rattle.qs_compile.specs.Compiled.{SourceHasStack, DoesAsSource, IsCompiled, IsImageOfSource, BuiltImagesAreCompiled, UnitsPassNoSize}
+use Rattle.qs_compile.specs.Compiled.{SourceHasStack, DoesAsSource, AreCostsOfPacked, IsCompiled, IsImageOfSource, BuiltImagesAreCompiled, UnitsPassNoSize}
 use Rattle.qs_compile.proofs.UnitSizes.{words_total, passes_none}
 
 -- ---- cores
@@ -114,10 +116,10 @@ needed_in [] i f is = absurd (cc)
 needed_in (g ∷ fs) zero f is = ap needed (some_same g f is)
 needed_in (g ∷ fs) (suc i) f is = needed_in fs i f is
 
-frame_below : (g : TacFunctionTree) (bytes values : ℕ) → total g.blocks ≡ bytes → kept (all_slots g) ≤ values
-    → (layout g (all_slots g)).cost ≤ frame_size bytes values
+frame_below : (g : TacFunctionTree) (p : PlacesTree) (bytes values : ℕ) → total g.blocks ≡ bytes → kept p ≤ values
+    → (layout g p).cost ≤ frame_size bytes values
 unfolding frame_cost
-frame_below g bytes values e le = omega (arith, e, le)
+frame_below g p bytes values e le = omega (arith, e, le)
 
 module _ (unit : UnitTree) (u : CoreUnitTree) (image : Image) (read : IsRead unit) (well : WellTyped unit) (limits : IsWithinLimits unit) (is : core_of unit ≡ Some u) (built : IsBuiltFrom u image) where
   abbrev t : TacUnitTree
@@ -126,13 +128,13 @@ module _ (unit : UnitTree) (u : CoreUnitTree) (image : Image) (read : IsRead uni
   fits : unit_fits u ≡ true
   fits = core_fits unit u read well limits is
 
-  frame_needed : (i : ℕ) (f : CoreFunctionTree) → slice_get u.functions i ≡ Some f → (layout (lowered_function f) (all_slots (lowered_function f))).cost ≤ needed f
+  frame_needed : (i : ℕ) (f : CoreFunctionTree) → slice_get u.functions i ≡ Some f → (layout (lowered_function f) (slice_index_or built.places i no_places)).cost ≤ needed f
   frame_needed i f there =
       let sizes = (lowered_sizes_are_kept u fits).function i f there in
       let blocks : total (lowered_function f).blocks ≡ bytes_in_words f.blocks = ap total sizes.blocks ∙ sym (words_total f.blocks) in
-      let few = no_more_is_kept (lowered_function f) (all_slots (lowered_function f)) (slots_are_accepted (lowered_function f) (all_slots (lowered_function f)) refl) in
+      let few = no_more_is_kept (lowered_function f) (slice_index_or built.places i no_places) (accepted_at u fits built.places (accepted_of t built.places built.packed) i f there) in
       let less = sizes.values in
-      frame_below (lowered_function f) (bytes_in_words f.blocks) (values f) blocks (omega (arith, few, less))
+      frame_below (lowered_function f) (slice_index_or built.places i no_places) (bytes_in_words f.blocks) (values f) blocks (omega (arith, few, less))
 
   as_many : length (map (λ (r : FunctionRecord). r.cost) image.functions) ≡ length (map needed u.functions)
   as_many =
@@ -153,13 +155,25 @@ module _ (unit : UnitTree) (u : CoreUnitTree) (image : Image) (read : IsRead uni
       let in_image : i < length image.functions = omega (arith, less, records) in
       let cost = cost_in image.functions (record { name = []; address = 0; cost = 0 }) i in_image in
       let at = built.code.costs i (omega (arith, in_image, linear_many)) in
-      let frame = cost_is u fits i s.function s.is in
+      let frame = cost_is u fits built.places i s.function s.is in
       let below = frame_needed i s.function s.is in
       let need = needed_in u.functions i s.function s.is in
       omega (arith, cost, at, frame, below, need)
 
   capped : EachBelow (map (λ (r : FunctionRecord). r.cost) image.functions) (caps unit)
   capped = each_below_next _ (map needed u.functions) (caps unit) as_many cost_below (caps_are_kept unit u read well is)
+
+  costs_packed : AreCostsOfPacked t image
+  costs_packed = record {
+    places = built.places;
+    packed = built.packed;
+    each = λ f g there.
+        let p = slice_index_or built.places f no_places in
+        let cost = built.code.costs f (slice_get_within t.functions f g there) in
+        let same : (layout (function_at t f) p).cost ≡ (layout g p).cost = ap (λ (h : TacFunctionTree). (layout h p).cost) (function_found t.functions f g there) in
+        let bound = (frames_are_laid_out g p).bound in
+        omega (arith, cost, same, bound);
+  }
 
   returns : MainReturns u
   returns = record { returns = λ arguments input n left may ended. main_returns unit u read well limits is arguments input n left ended }
@@ -175,6 +189,7 @@ module _ (unit : UnitTree) (u : CoreUnitTree) (image : Image) (read : IsRead uni
         core_is = is;
         built = built;
         capped = capped;
+        costs_packed = costs_packed;
         does = does_as_source u h.typed image (core_follows unit u h is) d;
         emitted = d.emitted;
       }

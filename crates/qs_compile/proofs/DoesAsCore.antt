@@ -19,17 +19,17 @@ use Rattle.qs_emit.specs.Images.{AreCosts, IsWithinLimits}
 use Rattle.qs_emit.specs.Emitted.{start_run, MayStart, FollowsFrom, Emitted}
 use Rattle.qs_emit.proofs.ImageLaws.{images_follow}
 use Rattle.qs_compile.specs.Follows.{Follows}
-use Rattle.qs_compile.specs.Units.{linear, own_slots, start_of, IsWithinSizes, MainReturns}
+use Rattle.qs_compile.specs.Units.{linear, start_of, IsWithinSizes, MainReturns}
 use Rattle.qs_compile.specs.Built.{IsBuiltFrom}
 use Rattle.qs_compile.specs.AgreesWithCore.{values_of, runs_of, HasStack}
 use Rattle.qs_compile.specs.Laws.{ImagesDoAsCore}
 use Rattle.qs_compile.proofs.FollowLaws.{agreement_goes_through, accounts_go_through}
-use Rattle.qs_compile.proofs.FitLaws.{words_small, may_start, returns_integer, first_memory, emittable}
+use Rattle.qs_compile.proofs.FitLaws.{words_small, may_start, returns_integer, first_memory, built_emittable}
 
-module _ (u : CoreUnitTree) (image : Image) (fits : unit_fits u ≡ true) (sizes : IsWithinSizes u) (returns : MainReturns u) (built : IsBuiltFrom u image) (limits : IsWithinLimits image) where
+module _ (u : CoreUnitTree) (image : Image) (fits : unit_fits u ≡ true) (sizes : IsWithinSizes u image) (returns : MainReturns u) (built : IsBuiltFrom u image) (limits : IsWithinLimits image) where
   emitted : Emitted (linear u) (initial_memory u) image
   emitted =
-      images_follow (linear u) (own_slots (linear u)) (initial_memory u) image (emittable u fits sizes) (first_memory u fits)
+      images_follow (linear u) built.places (initial_memory u) image (built_emittable u image fits sizes built) (first_memory u fits)
       built.code limits
 
   module _ (costs : Costs) (args : List ℤ) (input : List ℕ) (size : ℕ) (are : AreCosts image costs) (has : HasStack u image costs args input size) where

@@ -31,16 +31,20 @@ use Rattle.qs_core.proofs.RangeLaws.{runs_leave_sound}
 use Rattle.qs_tac.specs.Trees.{InstructionTree, call, TacFunctionTree, TacUnitTree}
 use Rattle.qs_tac.specs.Fits.{takes, callee_fits, taken_fits, operand_fits, instruction_fits, function_fits, data_fits, unit_fits}
 use Rattle.qs_tac.specs.declared.operands.Operand.{Operand}
-use Rattle.qs_alloc.proofs.Slots.{all_slots_are_accepted}
+use Rattle.qs_tac.specs.Laws.{AreAccepted, ArePacked}
+use Rattle.qs_tac.specs.Places.{PlacesTree, keep_values}
+use Rattle.qs_image.specs.Image.{Image}
+use Rattle.qs_machine.specs.State.{stack_limit}
 use Rattle.qs_lower_expressions.specs.Threads.{threaded_function}
 use Rattle.qs_lower.specs.Units.{straight_function, lower_data}
 use Rattle.qs_lower.proofs.UnitFits.{lowered_fits}
 use Rattle.qs_emit_selection.specs.Laws.{HasFewArguments}
-use Rattle.qs_emit.specs.Relation.{no_function, function_at, IsEmittable}
+use Rattle.qs_emit.specs.Relation.{no_function, function_at, cost_at, IsEmittable}
 use Rattle.qs_emit.specs.Images.{data_of, IsFirstMemory}
 use Rattle.qs_emit.specs.Emitted.{IsInteger}
 use Rattle.qs_emit.proofs.EmissionLaws.{found_or_none}
-use Rattle.qs_compile.specs.Units.{linear, own_slots, IsWithinSizes, start_of, MainReturns}
+use Rattle.qs_compile.specs.Units.{linear, most_parameters, IsWithinSizes, start_of, MainReturns}
+use Rattle.qs_compile.specs.Built.{IsBuiltFrom}
 
 -- ---- functions of linear code
 
@@ -158,9 +162,9 @@ module _ (u : CoreUnitTree) (fits : core.unit_fits u ≡ true) where
     sound = (initial_memory_is_ready u [] fits (All-nil (λ (byte : ℕ). byte < 256))).sound;
   }
 
-  module _ (sizes : IsWithinSizes u) where
+  module _ (few : All (λ (c : CoreFunctionTree). length c.parameters ≤ most_parameters) u.functions) where
     parameters_few : (f : ℕ) → length (function_at t f).parameters ≤ 8
-    parameters_few f = few_parameters u.functions f sizes.parameters
+    parameters_few f = few_parameters u.functions f few
 
     passed_few : (to : Callee) (os : List Operand) → callee_fits t to os ≡ true → length os ≤ 8
     passed_few (Function k) os h = by (slice_get t.functions k.0) refl h
@@ -190,11 +194,27 @@ module _ (u : CoreUnitTree) (fits : core.unit_fits u ≡ true) where
         by (inl is) = calls_short f (function_at t f) is k i at
         by (inr none) = let nothing : None ≡ Some i = sym (ap (λ (x : TacFunctionTree). slice_get x.code k) none) ∙ at in cc
 
-    pub emittable : IsEmittable t (own_slots t)
-    emittable = record {
+    linear_count : length t.functions ≡ length u.functions
+    linear_count = length-map (map straight_function u.functions) threaded_function ∙ length-map u.functions straight_function
+
+    pub emittable : (ps : List PlacesTree) → AreAccepted t ps → ((f : ℕ) → f < length u.functions → cost_at t ps f ≤ stack_limit) → IsEmittable t ps
+    emittable ps accepted frames = record {
       fits = linear_fits;
-      places = all_slots_are_accepted t (own_slots t) refl;
-      cost = λ f lt. let same = length-map (map straight_function u.functions) threaded_function ∙ length-map u.functions straight_function in sizes.frames f (omega (arith, same, lt));
+      places = accepted;
+      cost = λ f lt. let count = linear_count in frames f (omega (arith, count, lt));
       parameters = parameters_few;
       arguments = few_arguments;
     }
+
+-- places that are packed are accepted
+pub accepted_of : (t : TacUnitTree) (ps : List PlacesTree) → ArePacked t ps → AreAccepted t ps
+accepted_of t ps packed f g is = keep_values (packed f g is).keep_values
+
+-- an image that is built from the unit has code that is emitted
+pub built_emittable : (u : CoreUnitTree) (image : Image) → core.unit_fits u ≡ true → IsWithinSizes u image → (built : IsBuiltFrom u image) → IsEmittable (linear u) built.places
+built_emittable u image fits sizes built =
+    emittable u fits sizes.parameters built.places (accepted_of (linear u) built.places built.packed) (λ f lt.
+    let count = length-map (map straight_function u.functions) threaded_function ∙ length-map u.functions straight_function in
+    let cost = built.code.costs f (omega (arith, count, lt)) in
+    let most = sizes.frames f lt in
+    omega (arith, cost, most))

@@ -1,6 +1,6 @@
 -- What a unit keeps to for which code is selected.
-use Rattle.std.proofs.Common.{◌≡◌, ℕ, zero, suc, ◌<◌, List, [], ◌∷◌, length, map, None, ◌∙◌, arith}
-use Rattle.std.specs.Prelude.{slice_index_or}
+use Rattle.std.proofs.Common.{◌≡◌, ℕ, zero, suc, ◌<◌, ◌≤◌, List, [], ◌∷◌, length, map, None, ◌∙◌, arith}
+use Rattle.std.specs.Prelude.{slice_index_or, All}
 use Rattle.std.proofs.lemmas.List.{length-map}
 use Rattle.qs_core.specs.Trees.{CoreFunctionTree, CoreParameterTree, CoreUnitTree}
 use Rattle.qs_tac.specs.Trees.{TacUnitTree}
@@ -8,9 +8,10 @@ use Rattle.qs_tac.specs.Places.{PlacesTree}
 use Rattle.qs_lower_expressions.specs.Threads.{threaded_function}
 use Rattle.qs_lower.specs.Units.{straight_function}
 use Rattle.qs_emit_selection.specs.Limits.{first_fault}
-use Rattle.qs_emit.specs.Relation.{no_function}
+use Rattle.qs_machine.specs.State.{stack_limit}
+use Rattle.qs_emit.specs.Relation.{no_function, cost_at}
 use Rattle.qs_emit.proofs.EmissionLaws.{free}
-use Rattle.qs_compile.specs.Units.{linear, own_slots, IsWithinSizes}
+use Rattle.qs_compile.specs.Units.{linear, most_parameters}
 use Rattle.qs_compile.specs.Records.{FramesFit}
 
 -- ---- selection
@@ -30,12 +31,12 @@ same_parameters (c ∷ cs) (suc f) d lt = same_parameters cs f d (omega (arith, 
 pub function_count : (u : CoreUnitTree) → length (linear u).functions ≡ length u.functions
 function_count u = length-map (map straight_function u.functions) threaded_function ∙ length-map u.functions straight_function
 
-pub within_sizes : (u : CoreUnitTree) → first_fault (linear u) (own_slots (linear u)) ≡ None → IsWithinSizes u
-within_sizes u none = record {
-  parameters = λ f d lt.
-      let count = function_count u in
-      let few = (free (linear u) (own_slots (linear u)) none f (omega (arith, lt, count))).parameters in
-      let same = same_parameters u.functions f d lt in
-      omega (arith, few, same);
-  frames = λ f lt. let count = function_count u in (free (linear u) (own_slots (linear u)) none f (omega (arith, lt, count))).cost;
-}
+pub few_parameters : (u : CoreUnitTree) (ps : List PlacesTree) → first_fault (linear u) ps ≡ None → All (λ (f : CoreFunctionTree). length f.parameters ≤ most_parameters) u.functions
+few_parameters u ps none f d lt =
+    let count = function_count u in
+    let few = (free (linear u) ps none f (omega (arith, lt, count))).parameters in
+    let same = same_parameters u.functions f d lt in
+    omega (arith, few, same)
+
+pub small_frame : (u : CoreUnitTree) (ps : List PlacesTree) → first_fault (linear u) ps ≡ None → (f : ℕ) → f < length u.functions → cost_at (linear u) ps f ≤ stack_limit
+small_frame u ps none f lt = let count = function_count u in (free (linear u) ps none f (omega (arith, lt, count))).cost

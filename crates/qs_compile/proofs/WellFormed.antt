@@ -26,17 +26,17 @@ use Rattle.qs_emit_selection.specs.Data.{data_address}
 use Rattle.qs_emit_selection.specs.Units.{selected}
 use Rattle.qs_emit.specs.Machine.{instruction_at}
 use Rattle.qs_emit.specs.Surroundings.{Surroundings}
-use Rattle.qs_emit.specs.Relation.{Setup, context, entry, place, cost_at, context_at}
+use Rattle.qs_emit.specs.Relation.{Setup, IsEmittable, context, entry, place, cost_at, context_at}
 use Rattle.qs_emit.specs.Images.{record_at, no_record, IsWithinLimits}
 use Rattle.qs_emit.specs.Emitted.{AreSurroundings}
 use Rattle.qs_emit.proofs.StartLaws.{quiet_room}
 use Rattle.qs_emit.proofs.SetUp.{set_up}
 use Rattle.qs_emit.proofs.CodePlaces.{plain_laid, has_function}
 use Rattle.qs_emit.proofs.DataBytes.{data_small}
-use Rattle.qs_compile.specs.Units.{linear, own_slots, IsWithinSizes}
+use Rattle.qs_compile.specs.Units.{linear, IsWithinSizes}
 use Rattle.qs_compile.specs.Built.{IsBuiltFrom}
 use Rattle.qs_compile.specs.Limits.{bytes_of_names}
-use Rattle.qs_compile.proofs.FitLaws.{first_memory, emittable}
+use Rattle.qs_compile.proofs.FitLaws.{first_memory, built_emittable}
 
 -- ---- names
 
@@ -99,12 +99,12 @@ some_behind front x back = let all = length-append front (x ∷ back) in omega (
 
 -- ---- the image
 
-module _ (u : CoreUnitTree) (image : Image) (fits : unit_fits u ≡ true) (sizes : IsWithinSizes u) (built : IsBuiltFrom u image) (limits : IsWithinLimits image) where
+module _ (u : CoreUnitTree) (image : Image) (fits : unit_fits u ≡ true) (sizes : IsWithinSizes u image) (built : IsBuiltFrom u image) (limits : IsWithinLimits image) where
   abbrev t : TacUnitTree
   t = linear u
 
   abbrev ps : List PlacesTree
-  ps = own_slots t
+  ps = built.places
 
   -- whatever a run finds there
   abbrev there : Surroundings
@@ -131,8 +131,11 @@ module _ (u : CoreUnitTree) (image : Image) (fits : unit_fits u ≡ true) (sizes
     data_lie = λ block lt. refl;
   }
 
+  emittable_there : IsEmittable t ps
+  emittable_there = built_emittable u image fits sizes built
+
   abbrev s : Setup
-  s = set_up t ps (initial_memory u) there (emittable u fits sizes) (first_memory u fits) built.code limits surround
+  s = set_up t ps (initial_memory u) there emittable_there (first_memory u fits) built.code limits surround
 
   as_many : length image.functions ≡ length u.functions
   as_many =
@@ -195,7 +198,7 @@ module _ (u : CoreUnitTree) (image : Image) (fits : unit_fits u ≡ true) (sizes
       let positive = cost.positive in
       let multiple = cost.multiple in
       let is = built.code.costs f lt in
-      let most = (emittable u fits sizes).cost f lt in
+      let most = emittable_there.cost f lt in
       record { k = cost_at t ps f / 16; multiple = omega (arith, is, multiple); positive = omega (arith, is, positive); most = omega (arith, is, most) }
 
   pub well_formed :
@@ -212,7 +215,7 @@ module _ (u : CoreUnitTree) (image : Image) (fits : unit_fits u ≡ true) (sizes
       let main_bytes = one_of u.functions u.main main.function main.is in
       let main_length = ap length main.named in
       let parameters = built.code.parameters in
-      let passed = (emittable u fits sizes).parameters t.main in
+      let passed = emittable_there.parameters t.main in
       record {
         code_count = (omega (arith, below), limits.code);
         byte_count = limits.bytes;

@@ -1,5 +1,6 @@
 -- The image of a source: what it is made of, what its calls cost, and that it does what the source does.
-use Rattle.std.specs.Prelude.{◌≡◌, ℕ, ◌<◌, ◌≤◌, ℤ, List, map, All, Some}
+use Rattle.std.specs.Prelude.{◌≡◌, ℕ, ◌+◌, ◌*◌, ◌/◌, ◌<◌, ◌≤◌, ℤ, List, map, All, Some, slice_index_or}
+use Rattle.std.specs.List.{slice_get}
 use Rattle.qs_syntax.specs.Trees.{UnitTree}
 use Rattle.qs_syntax.specs.Units.{IsRead}
 use Rattle.qs_types.specs.Limits.{IsWithinLimits}
@@ -20,7 +21,11 @@ use Rattle.qs_machine.specs.State.{stack_limit}
 use Rattle.qs_machine.specs.Run.{machine, least_stack_pointer}
 use Rattle.qs_emit.specs.Agree.{Agree, Accounts}
 use Rattle.qs_emit.specs.Emitted.{Emitted}
-use Rattle.qs_emit.specs.Images.{AreCosts}
+use Rattle.qs_tac.specs.Trees.{TacFunctionTree, TacUnitTree}
+use Rattle.qs_tac.specs.Places.{PlacesTree, no_places}
+use Rattle.qs_tac.specs.Laws.{ArePacked}
+use Rattle.qs_frames.specs.Layout.{total, kept}
+use Rattle.qs_emit.specs.Images.{AreCosts, record_at}
 use Rattle.qs_compile.specs.AgreesWithCore.{values_of, DoesAsCore}
 use Rattle.qs_compile.specs.Built.{IsBuiltFrom}
 use Rattle.qs_compile.specs.Limits.{Passes}
@@ -51,6 +56,17 @@ pub record DoesAsSource (program : TypedProgram) (image : Image) : Type 0 where
       → Accounts costs (source_run program (values_of args) input) (machine image size (words_of args) input)
       (least_stack_pointer image size (words_of args) input)
 
+-- ---- costs
+
+-- What a call costs is at most the bytes of a frame of places that are packed, rounded up to 16: the return address, the
+-- blocks, and a word for each temporary in a slot and for each register that is given back.
+pub record AreCostsOfPacked (t : TacUnitTree) (image : Image) : Type 0 where
+  pub places : List PlacesTree
+  pub packed : ArePacked t places
+  pub each :
+      (f : ℕ) (g : TacFunctionTree) → slice_get t.functions f ≡ Some g
+      → (record_at image f).cost ≤ 16 * ((4 + total g.blocks + 4 * kept (slice_index_or places f no_places) + 15) / 16)
+
 -- ---- the whole
 
 pub record IsCompiled (unit : UnitTree) (image : Image) : Type 0 where
@@ -62,6 +78,7 @@ pub record IsCompiled (unit : UnitTree) (image : Image) : Type 0 where
   pub built : IsBuiltFrom core image
   -- what a call of a function costs is at most the cap of its source
   pub capped : EachBelow (map (λ f. f.cost) image.functions) (caps unit)
+  pub costs_packed : AreCostsOfPacked (linear core) image
   pub does : DoesAsSource program image
   -- each function does what its linear code does
   pub emitted : Emitted (linear core) (initial_memory core) image

@@ -4,7 +4,7 @@ use Rattle.qs_emit_selection.specs.declared.fault.SelectionFault.TheVariants as 
 use Rattle.qs_compile.specs.declared.fault.BuildFault.{BuildFault}
 use Rattle.qs_compile.specs.declared.fault.BuildFault.TheVariants.{NoMemory, TooManyParameters, FrameTooLarge, DataTooLarge}
 
--- own slots are no registers, so that selection has nothing to say against them
+-- places that are accepted are in no register that there isn't, so that selection has nothing to say against them
 abbrev pub fault_of : SelectionFault → BuildFault
 fault_of selection.NoMemory = NoMemory
 fault_of selection.TooManyArguments = TooManyParameters

@@ -10,5 +10,5 @@ use Rattle.qs_compile.specs.AgreesWithCore.{DoesAsCore}
 
 abbrev pub ImagesDoAsCore : Type 0
 ImagesDoAsCore =
-    (u : CoreUnitTree) (image : Image) → unit_fits u ≡ true → IsWithinSizes u → MainReturns u → IsBuiltFrom u image
+    (u : CoreUnitTree) (image : Image) → unit_fits u ≡ true → IsWithinSizes u image → MainReturns u → IsBuiltFrom u image
     → IsWithinLimits image → DoesAsCore u image

@@ -1,5 +1,5 @@
 -- The sizes that an image has room for, and which of them a unit passes.
-use Rattle.std.specs.Prelude.{◌≡◌, ℕ, ◌+◌, ◌<◌, ◌≤◌, List, [], ◌∷◌, length, sum_by, Option, Some}
+use Rattle.std.specs.Prelude.{◌≡◌, ℕ, ◌+◌, ◌<◌, ◌≤◌, List, [], ◌∷◌, length, sum_by, Some}
 use Rattle.qs_asm.specs.Items.{item_words}
 use Rattle.qs_asm.specs.Counting.{reached_words}
 use Rattle.qs_core.specs.Trees.{CoreFunctionTree, CoreUnitTree}
@@ -8,7 +8,9 @@ use Rattle.qs_emit_selection.specs.Limits.{first_fault}
 use Rattle.qs_emit_selection.specs.Units.{selected}
 use Rattle.qs_emit_selection.specs.declared.fault.SelectionFault.{SelectionFault}
 use Rattle.qs_emit_selection.specs.declared.fault.SelectionFault.TheVariants as selection
-use Rattle.qs_compile.specs.Units.{linear, own_slots}
+use Rattle.qs_tac.specs.Laws.{AreAccepted}
+use Rattle.qs_tac.specs.Places.{PlacesTree}
+use Rattle.qs_compile.specs.Units.{linear}
 use Rattle.qs_compile.specs.declared.fault.BuildFault.{BuildFault}
 use Rattle.qs_compile.specs.declared.fault.BuildFault.TheVariants.{NoMemory, TooManyFunctions, NamesTooLong, TooManyParameters, FrameTooLarge, DataTooLarge, CodeTooLong}
 
@@ -26,19 +28,24 @@ HasFewFunctions u = length u.functions ≤ most_functions
 abbrev pub HasShortNames : CoreUnitTree → Type 0
 HasShortNames u = name_bytes u ≤ most_name_bytes
 
-abbrev pub code_words : CoreUnitTree → ℕ
-code_words u = sum_by item_words (selected (linear u) (own_slots (linear u)))
+-- with its values in some places that keep what it does, no code is selected for it, for this reason
+pub record IsRefused (u : CoreUnitTree) (fault : SelectionFault) : Type 0 where
+  pub places : List PlacesTree
+  pub accepted : AreAccepted (linear u) places
+  pub is : first_fault (linear u) places ≡ Some fault
 
--- why no code is selected for it
-abbrev pub selection_fault : CoreUnitTree → Option SelectionFault
-selection_fault u = first_fault (linear u) (own_slots (linear u))
+-- its code for some such places has too many words
+pub record IsTooLong (u : CoreUnitTree) : Type 0 where
+  pub places : List PlacesTree
+  pub accepted : AreAccepted (linear u) places
+  pub long : reached_words ≤ sum_by item_words (selected (linear u) places)
 
 -- the unit passes the size that the fault names; memory may be wanting for any
 abbrev pub Passes : CoreUnitTree → BuildFault → Type 0
 Passes u NoMemory = Unit {0}
 Passes u TooManyFunctions = most_functions < length u.functions
 Passes u NamesTooLong = most_name_bytes < name_bytes u
-Passes u TooManyParameters = selection_fault u ≡ Some selection.TooManyArguments
-Passes u FrameTooLarge = selection_fault u ≡ Some selection.FrameTooLarge
-Passes u DataTooLarge = selection_fault u ≡ Some selection.DataTooLarge
-Passes u CodeTooLong = reached_words ≤ code_words u
+Passes u TooManyParameters = IsRefused u selection.TooManyArguments
+Passes u FrameTooLarge = IsRefused u selection.FrameTooLarge
+Passes u DataTooLarge = IsRefused u selection.DataTooLarge
+Passes u CodeTooLong = IsTooLong u

@@ -11,7 +11,8 @@ use Rattle.qs_emit_selection.specs.Limits.{first_fault}
 use Rattle.qs_emit_selection.specs.Data.{data_address}
 use Rattle.qs_emit_selection.specs.Units.{selected}
 use Rattle.qs_emit.specs.Images.{data_bytes}
-use Rattle.qs_compile.specs.Units.{linear, own_slots}
+use Rattle.qs_tac.specs.Laws.{ArePacked}
+use Rattle.qs_compile.specs.Units.{linear}
 use Rattle.qs_compile.specs.Records.{HaveRecords}
 use Rattle.qs_compile.specs.Limits.{HasFewFunctions, HasShortNames}
 
@@ -27,6 +28,8 @@ pub record AreParts (u : CoreUnitTree) (t : TacUnitTree) (ps : List PlacesTree) 
   pub words : All (λ word. word < 2 ^ 32) code
   pub octets : bytes ≡ data_bytes (data_address t.data_blocks) (initial_memory u)
 
--- with each value in a slot of its own
-abbrev pub ArePartsOf : CoreUnitTree → (functions : List FunctionRecord) → (code bytes : List ℕ) → Type 0
-ArePartsOf u functions code bytes = AreParts u (linear u) (own_slots (linear u)) functions code bytes
+-- with its values in some places that are packed
+pub record ArePartsOf (u : CoreUnitTree) (functions : List FunctionRecord) (code bytes : List ℕ) : Type 0 where
+  pub places : List PlacesTree
+  pub packed : ArePacked (linear u) places
+  pub parts : AreParts u (linear u) places functions code bytes

@@ -1,5 +1,5 @@
--- What an image of a unit of core is made of: the unit's linear code, the places of its values, and main's parameters.
-use Rattle.std.specs.Prelude.{◌≡◌, ◌≢◌, ℕ, ◌+◌, ◌*◌, ◌<◌, ◌≤◌, if◌then◌else◌, List, [], ◌∷◌, length, map, All, None}
+-- What an image of a unit of core is made of: the unit's linear code, and main's parameters; and its sizes.
+use Rattle.std.specs.Prelude.{◌≡◌, ◌≢◌, ℕ, ◌+◌, ◌*◌, ◌<◌, ◌≤◌, if◌then◌else◌, List, [], ◌∷◌, length, All, None}
 use Rattle.qs_memory.specs.Values.{Value}
 use Rattle.qs_memory.specs.Memory.{Memory}
 use Rattle.qs_memory.specs.Scalars.{same_scalar}
@@ -12,20 +12,16 @@ use Rattle.qs_core.specs.Trees.{CoreUnitTree}
 use Rattle.qs_core.specs.Units.{initial_memory, main_run}
 use Rattle.qs_core.specs.Interfaces.{interface_of}
 use Rattle.qs_tac.specs.Trees.{TacUnitTree}
-use Rattle.qs_tac.specs.Places.{PlacesTree, all_slots}
 use Rattle.qs_lower.specs.Units.{lower_unit}
 pub use Rattle.qs_base.specs.Parameters.{most_parameters}
 use Rattle.qs_machine.specs.State.{stack_limit}
-use Rattle.qs_emit.specs.Relation.{cost_at}
+use Rattle.qs_image.specs.Image.{Image}
+use Rattle.qs_emit.specs.Images.{record_at}
 
 -- ---- its parts
 
 abbrev pub linear : CoreUnitTree → TacUnitTree
 linear u = lower_unit u
-
--- each value of a function stands in a slot of its own
-abbrev pub own_slots : TacUnitTree → List PlacesTree
-own_slots t = map all_slots t.functions
 
 -- the `unsigned` among main's parameters, as bits from the lowest on
 abbrev pub set_of : List Scalar → ℕ
@@ -34,10 +30,10 @@ set_of (s ∷ types) = (if same_scalar s scalars.Unsigned then 1 else 0) + 2 * s
 
 -- ---- what has an image
 
--- no function has more parameters than main may have, nor a frame of more bytes than the largest stack
-pub record IsWithinSizes (u : CoreUnitTree) : Type 0 where
+-- no function has more parameters than main may have, nor a record in the image with more bytes than the largest stack
+pub record IsWithinSizes (u : CoreUnitTree) (image : Image) : Type 0 where
   pub parameters : All (λ f. length f.parameters ≤ most_parameters) u.functions
-  pub frames : (f : ℕ) → f < length u.functions → cost_at (linear u) (own_slots (linear u)) f ≤ stack_limit
+  pub frames : (f : ℕ) → f < length u.functions → (record_at image f).cost ≤ stack_limit
 
 -- where main starts
 abbrev pub start_of : CoreUnitTree → (input : List ℕ) → World

@@ -24,7 +24,7 @@ use crate::data::data_bytes;
 use crate::fault::BuildFault;
 use crate::parameters::{parameter_types, unsigned_set};
 use crate::records::{addresses, costs, records};
-use qs_alloc::all_slots_unit;
+use qs_alloc::assign_unit;
 use qs_asm::{AssemblyFault, Item, assemble, label_offsets};
 use qs_base::{NoMemory, count};
 use qs_core::{CoreFunction, CoreUnit};
@@ -150,7 +150,7 @@ fn image_of(
     requires { ArePartsOf (core.unit_tree unit.now) functions.items code.items bytes.items }
     ensures built { IfOk result (λ image. IsBuiltFrom (core.unit_tree unit.now) image) }
     ensures limits { IfOk result (λ image. IsWithinLimits image) }
-    ensures sizes { IfOk result (λ _. IsWithinSizes (core.unit_tree unit.now)) }
+    ensures sizes { IfOk result (λ image. IsWithinSizes (core.unit_tree unit.now) image) }
     ensures agrees { IfOk result (AgreesWhereMainReturns (core.unit_tree unit.now)) }
 {
     let types = main_types(alloc, unit)?;
@@ -164,19 +164,19 @@ fn image_of(
     })
 }
 
-/// The image of a unit of core: the code of its linear code, each value in a slot of its own. It
-/// does what the unit does wherever main returns a value. Where there is none, no memory was found,
+/// The image of a unit of core: the code of its linear code, its values in places that keep what it
+/// does. It does what the unit does wherever main returns a value. Where there is none, no memory was found,
 /// or the unit passes the size that the fault names.
 pub fn build_image(alloc: Global, unit: &CoreUnit) -> Result<Image, BuildFault>
     ensures built { IfOk result (λ image. IsBuiltFrom (core.unit_tree unit.now) image) }
     ensures limits { IfOk result (λ image. IsWithinLimits image) }
-    ensures sizes { IfOk result (λ _. IsWithinSizes (core.unit_tree unit.now)) }
+    ensures sizes { IfOk result (λ image. IsWithinSizes (core.unit_tree unit.now) image) }
     ensures agrees { IfOk result (AgreesWhereMainReturns (core.unit_tree unit.now)) }
     ensures fault { IfErr result (λ fault. spec.Passes (core.unit_tree unit.now) fault) }
 {
     check_names(unit)?;
     let linear = lower(alloc, unit)?;
-    let places = all_slots_unit(alloc, &linear)?;
+    let places = assign_unit(alloc, &linear)?;
     check_fits(alloc, &linear, &places)?;
     let items = emit(alloc, &linear, &places)?;
     let code = code_of(alloc, &items)?;

@@ -12,8 +12,8 @@ use qs_image::Image;
 use qs_typing_findings::TypedUnit;
 use std::alloc::Global;
 
-/// The image of a source that is typed, by its core: the code of its linear code, each value in a
-/// slot of its own. It does what the source does. Want of memory is the other answer, also where
+/// The image of a source that is typed, by its core: the code of its linear code, its values in
+/// places that keep what it does. It does what the source does. Want of memory is the other answer, also where
 /// the core passes a size. The core of a typed unit passes at most that of the names, which have
 /// more than 1,048,576 bytes together in no text within the source's limit (`units_pass_no_size`).
 pub fn compile_core(alloc: Global, core: &CoreUnit) -> Result<Image, NoMemory>

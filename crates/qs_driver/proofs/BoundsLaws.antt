@@ -1,5 +1,5 @@
--- An image that is compiled of a certified source is an image of it, and all images of one core are alike.
-use Rattle.std.proofs.Common.{◌≡◌, ◌++◌, ℕ, zero, suc, ◌<◌, ◌≤◌, true, ℤ, List, [], ◌∷◌, length, map, Option, Some, refl, sym, ap, ◌∙◌, subst, arith}
+-- An image that is compiled of a certified source is an image of it, and all images of one core have the same names.
+use Rattle.std.proofs.Common.{◌≡◌, ℕ, zero, suc, ◌<◌, ◌≤◌, true, ℤ, List, [], ◌∷◌, length, map, Option, Some, refl, sym, ap, ◌∙◌, subst, arith}
 use Rattle.std.specs.Prelude.{◌↔◌, slice_index_or}
 use Rattle.std.proofs.lemmas.Option.{same_Some}
 use Rattle.qs_base.specs.Words.{wrap}
@@ -33,9 +33,7 @@ use Rattle.qs_certify.proofs.MainLaws.{BoundsMain, bounds_are_needs, main_bounds
 use Rattle.qs_compile.specs.Agree.{AgreesFrom, IsInput}
 use Rattle.qs_compile.specs.Compiled.{IsCompiled, IsImageOfSource, SourceHasStack}
 use Rattle.qs_ports.specs.StoreView.{StoreView}
-use Rattle.qs_driver_session.specs.Lines.{record_line, cost_lines}
 use Rattle.qs_driver.specs.Bounds.{bound_by, bytes_by, need_by, costs_in, if_finite, linear_runs, main_runs, seen_runs, IsBounded, IsBoundedByMain, IsImageOf, WeighsWithin}
-use Rattle.qs_report.specs.Lines.{cost_line}
 use Rattle.qs_driver.specs.Misfits.{IsMisfit}
 use Rattle.qs_driver.specs.Certified.{CertifiedSource, CertifyWords, IsCertifiedAs, ReadsCertified}
 use Rattle.qs_driver.proofs.MainLaws.{arguments_are_mains, parameters_are, misfits}
@@ -213,44 +211,6 @@ source_bounded w v s r = record {
 
 -- ---- images of one core
 
--- they have the same names and the same costs
-pub record AreAlike (image other : Image) : Type 0 where
-  pub names : map (λ (f : FunctionRecord). f.name) image.functions ≡ map (λ (f : FunctionRecord). f.name) other.functions
-  pub costs : costs_in image.functions ≡ costs_in other.functions
-
-same_costs : (rs qs : List FunctionRecord) → length rs ≡ length qs → ((f : ℕ) → f < length rs → (slice_index_or rs f no_record).cost ≡ (slice_index_or qs f no_record).cost) → costs_in rs ≡ costs_in qs
-same_costs [] [] long same = refl
-same_costs [] (q ∷ qs) long same = absurd (omega (arith, long))
-same_costs (r ∷ rs) [] long same = absurd (omega (arith, long))
-same_costs (r ∷ rs) (q ∷ qs) long same =
-    let first : r.cost ≡ q.cost = same 0 (omega arith) in
-    let others = same_costs rs qs (omega (arith, long)) (λ f h. same (suc f) (omega (arith, h))) in
-    ap (λ (c : ℕ). c ∷ costs_in rs) first ∙ ap (λ (cs : List ℕ). q.cost ∷ cs) others
-
-built_alike : (u : CoreUnitTree) (image other : Image) → IsBuiltFrom u image → IsBuiltFrom u other → AreAlike image other
-built_alike u image other a b = record {
-  names = a.names ∙ sym b.names;
-  costs = same_costs image.functions other.functions (a.code.count ∙ sym b.code.count) (λ f h.
-      let count = a.code.count in
-      let within : f < length (linear u).functions = omega (arith, h, count) in
-      a.code.costs f within ∙ sym (b.code.costs f within));
-}
-
-pub images_alike : (u : CoreUnitTree) (s : CertifiedSource) (image other : Image) → core_of s.unit ≡ Some u → IsImageOf s image → IsImageOf s other → AreAlike image other
-images_alike u s image other is i j = built_alike u image other (built_from s.unit u image is i.compiled) (built_from s.unit u other is j.compiled)
-
--- and so the same lines
-same_record_lines : (rs qs : List FunctionRecord) → map (λ (f : FunctionRecord). f.name) rs ≡ map (λ (f : FunctionRecord). f.name) qs → map (λ (f : FunctionRecord). f.cost) rs ≡ map (λ (f : FunctionRecord). f.cost) qs → cost_lines rs ≡ cost_lines qs
-same_record_lines [] [] names costs = refl
-same_record_lines [] (q ∷ qs) names costs = absurd (let never : ⊥ = cc in never)
-same_record_lines (r ∷ rs) [] names costs = absurd (let never : ⊥ = cc in never)
-same_record_lines (r ∷ rs) (q ∷ qs) names costs =
-    let name : r.name ≡ q.name = cc in
-    let cost : r.cost ≡ q.cost = cc in
-    let other_names : map (λ (f : FunctionRecord). f.name) rs ≡ map (λ (f : FunctionRecord). f.name) qs = cc in
-    let other_costs : map (λ (f : FunctionRecord). f.cost) rs ≡ map (λ (f : FunctionRecord). f.cost) qs = cc in
-    let line : record_line r ≡ record_line q = ap (λ (n : List ℕ). cost_line n r.cost) name ∙ ap (cost_line q.name) cost in
-    ap (λ (text : List ℕ). text ++ cost_lines rs) line ∙ ap (λ (text : List ℕ). record_line q ++ text) (same_record_lines rs qs other_names other_costs)
-
-pub same_lines : {image other : Image} → AreAlike image other → cost_lines image.functions ≡ cost_lines other.functions
-same_lines {image} {other} a = same_record_lines image.functions other.functions a.names a.costs
+-- they have the same names
+pub same_names : (u : CoreUnitTree) (s : CertifiedSource) (image other : Image) → core_of s.unit ≡ Some u → IsImageOf s image → IsImageOf s other → map (λ (f : FunctionRecord). f.name) image.functions ≡ map (λ (f : FunctionRecord). f.name) other.functions
+same_names u s image other is i j = (built_from s.unit u image is i.compiled).names ∙ sym (built_from s.unit u other is j.compiled).names

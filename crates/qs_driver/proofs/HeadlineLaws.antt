@@ -37,8 +37,8 @@ use Rattle.qs_driver.specs.commands.Build as meant
 use Rattle.qs_driver.specs.commands.Bound.{bound_words, bound, to_make, HasBound, IsDueToBound}
 use Rattle.qs_driver.specs.commands.Bound as bound_meant
 use Rattle.qs_driver.specs.Headline.{PrintsBound, BoundPrintsIt, IsDefined, EndsSo, ExitsSo, RunsAsSource, FromItsBound, HoldsItsImage, IsPlain, IsAccepted, BuildsAndAccepts, Headline}
-use Rattle.qs_driver.proofs.BoundsLaws.{image_takes, same_lines}
-use Rattle.qs_driver.proofs.OneSource.{HoldsSource, source_held, one_held, held_before, images_of_one}
+use Rattle.qs_driver.proofs.BoundsLaws.{image_takes}
+use Rattle.qs_driver.proofs.OneSource.{HoldsSource, source_held, one_held, held_before, names_of_one}
 
 -- ---- a refusal is not done
 
@@ -110,19 +110,18 @@ module _ (c : CertifyWords) (f : Files) (s : CertifiedSource) (image : Image) (h
       let made = h.is_made in
       let there : HoldsSource c f made.source = held_before c f v.store.files made.source same (source_held c v.store made.source told made.makes.reads) in
       let one : made.source ≡ s = one_held c f made.source s there held in
-      let like = images_of_one c f made.source s h.image image there held made.makes.image_of is in
-      let bound_is : h.bound ≡ bound_by s (costs_in image.functions) args =
-      made.is_bound
-      ∙ ap (λ (x : CertifiedSource). bound_by x (costs_in h.image.functions) args) one
-      ∙ ap (λ (costs : List ℕ). bound_by s costs args) like.costs in
+      let bound_is : h.bound ≡ bound_by s (costs_in h.image.functions) args =
+      made.is_bound ∙ ap (λ (x : CertifiedSource). bound_by x (costs_in h.image.functions) args) one in
       let text : List ℕ = cost_lines h.image.functions ++ bound_line (shown_of h.bound) in
-      let text_is : text ≡ cost_lines image.functions ++ bound_line (shown_of (bound_by s (costs_in image.functions) args)) =
-      ap (λ (lines : List ℕ). lines ++ bound_line (shown_of h.bound)) (same_lines like)
-      ∙ ap (λ (bound : Amount). cost_lines image.functions ++ bound_line (shown_of bound)) bound_is in
+      let text_is : text ≡ cost_lines h.image.functions ++ bound_line (shown_of (bound_by s (costs_in h.image.functions) args)) =
+      ap (λ (bound : Amount). cost_lines h.image.functions ++ bound_line (shown_of bound)) bound_is in
       let was : ArePut (on_out text ∷ []) (streams_of v) (streams_of w) = subst (λ (d : Due). ArePut d.steps (streams_of v) (streams_of w)) h.is_due put in
       record {
         arguments = subst (λ (x : CertifiedSource). AreArguments x.core args) one made.arguments;
+        other = h.image;
+        names = names_of_one c f made.source s h.image image there held made.makes.image_of is;
         printed = λ told_out. put_on_out text (streams_of v) (streams_of w) was told_out ∙ ap (λ (x : List ℕ). v.out.written ++ x) text_is;
+        same = λ costs. ap (λ (cs : List ℕ). bound_by s cs args) costs;
       }
 
   due_bound : (args : List ℤ) (v w : DevicesView) (due : Due) → IsTrue v.store.told → AreAsBefore c f v.store.files → IsDueToBound (bound_words c.source c.proof args) v.store w.store due → due.status ≡ Done → ArePut due.steps (streams_of v) (streams_of w) → PrintsBound s image args v w

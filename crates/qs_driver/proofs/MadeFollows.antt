@@ -33,13 +33,11 @@ use Rattle.qs_driver_session.proofs.FilesLaws.{held_content}
 use Rattle.qs_driver_session.proofs.SourceFollows.{one_content}
 use Rattle.qs_driver_session.proofs.SourceLaws.{same_trees}
 use Rattle.qs_driver_session.proofs.rooms.Follows.{not_untouched}
-use Rattle.qs_driver.specs.Bounds.{bound_by, costs_in}
 use Rattle.qs_driver.specs.Certified.{CertifyWords, CertifiedSource, ReadsCertified, WasReadProof, IsRightFile, HoldsRight, HoldsRightProofs, IsOfCertified, of_source, missing_proof, long_proof, wrong_proof}
 use Rattle.qs_driver.specs.Misfits.{CountDiffers, IsMisfit}
 use Rattle.qs_driver.specs.Made.{MakeWords, IsMade, ReadsMain, CannotMake, HoldsMain, FitsMain, IsOfMade, RefusesMade}
 use Rattle.qs_driver.specs.Made as meant
 use Rattle.qs_driver.proofs.BoundsLaws.{core_is}
-use Rattle.qs_driver.proofs.OneSource.{HoldsSource, source_held, one_held, images_of_one}
 use Rattle.qs_driver.proofs.CertifiedFollows.{certified_own, certified_shows, certified_no_right}
 use Rattle.qs_driver.proofs.CertifiedRefusals.{CertifiedEnds, IsNoCertifiedRefusal, certified_ends, was_right, refuses_certified}
 use Rattle.qs_driver.proofs.MainLaws.{as_many, one_unfit, none_unfit}
@@ -110,18 +108,6 @@ no_words status x of e =
     let is : is_refusal status ≡ true = certified_refuses of in
     let none : is_refusal status ≡ false = ap is_refusal e in
     (let never : ⊥ = cc in never)
-
--- nor is there any of bounds
-made_not_bound : {args : List ℤ} {status : Status} → IsOfMade args status → (amount : Amount) → status ≢ NoBound amount
-made_not_bound (meant.of_certified of) amount e =
-    let is = certified_refuses of in
-    let none = ap is_refusal e in
-    (let never : ⊥ = cc in never)
-made_not_bound (meant.wrong_count expected) amount e = cc
-made_not_bound (meant.wrong_argument i) amount e = cc
-
-pub made_or_bound : (args : List ℤ) (status : Status) → IsOfMade args status → (amount : Amount) → status ≡ NoBound amount → ⊥
-made_or_bound args status of amount e = made_not_bound of amount e
 
 -- ---- its own statuses
 
@@ -224,24 +210,6 @@ made_no_good m v w status n (meant.no_memory u e) = inr e
 pub fits_main : (m : MakeWords) (v : StoreView) (image : Image) (bound : Amount) → IsTrue v.told → IsMade m v image bound → FitsMain m v.files
 fits_main m v image bound told made =
     main_there m v (λ types. AreNumbersOf types m.args) told (record { source = made.source; reads = made.makes.reads; so = made.arguments })
-
--- there is one bound
-pub one_bound : (m : MakeWords) (v : StoreView) (image other : Image) (a b : Amount) → IsTrue v.told → IsMade m v image a → IsMade m v other b → a ≡ b
-one_bound m v image other a b told p q =
-    let here : HoldsSource m.inputs v.files p.source = source_held m.inputs v p.source told p.makes.reads in
-    let there : HoldsSource m.inputs v.files q.source = source_held m.inputs v q.source told q.makes.reads in
-    let like = images_of_one m.inputs v.files p.source q.source image other here there p.makes.image_of q.makes.image_of in
-    p.is_bound
-    ∙ ap (λ (costs : List ℕ). bound_by p.source costs m.args) like.costs
-    ∙ ap (λ (s : CertifiedSource). bound_by s (costs_in other.functions) m.args) (one_held m.inputs v.files p.source q.source here there)
-    ∙ sym q.is_bound
-
--- a source that is certified isn't refused, nor are arguments that are main's
-pub certified_or_not : (m : MakeWords) (v w : StoreView) (status : Status) (image : Image) (bound : Amount) → StoreHeld v w → status ≢ NoMemory → IsTrue v.told → IsMade m v image bound → CannotMake m v w status → ⊥
-certified_or_not m v w status image bound n memory told made c = elim (made_no_good m v w status n c) [
-  | inl never ↦ never told (fits_main m v image bound told made)
-  | inr e ↦ memory e
-]
 
 -- ---- how it ends
 

@@ -1,5 +1,5 @@
--- A source and its proof file come to one certified source, and its images are alike.
-use Rattle.std.proofs.Common.{◌≡◌, ◌∙◌, ℕ, List, Option, Some, None, refl, sym, ap, subst, IsTrue}
+-- A source and its proof file come to one certified source, and its images have the same names.
+use Rattle.std.proofs.Common.{◌≡◌, ◌∙◌, ℕ, List, map, Option, Some, None, refl, sym, ap, subst, IsTrue}
 use Rattle.std.proofs.lemmas.Option.{same_Some}
 use Rattle.qs_syntax.specs.Trees.{UnitTree}
 use Rattle.qs_core.specs.Trees.{CoreUnitTree}
@@ -8,7 +8,7 @@ use Rattle.qs_triples.specs.Derivations.{ProofsTree}
 use Rattle.qs_certify.specs.Certification.{IsCertified}
 use Rattle.qs_certify.proofs.OneLaws.{one_certified}
 use Rattle.qs_ports.specs.StoreView.{StoreView, Files}
-use Rattle.qs_image.specs.Image.{Image}
+use Rattle.qs_image.specs.Image.{Image, FunctionRecord}
 use Rattle.qs_driver_session.specs.Limits.{source_limit, proof_limit}
 use Rattle.qs_driver_session.specs.Files.{HoldsContent}
 use Rattle.qs_driver_session.proofs.FilesLaws.{held_content}
@@ -16,7 +16,7 @@ use Rattle.qs_driver_session.proofs.SourceFollows.{one_content}
 use Rattle.qs_driver_session.proofs.SourceLaws.{same_trees}
 use Rattle.qs_driver.specs.Bounds.{IsImageOf}
 use Rattle.qs_driver.specs.Certified.{CertifyWords, CertifiedSource, IsCertifiedAs, AreAsBefore, ReadsCertified, HoldsProof}
-use Rattle.qs_driver.proofs.BoundsLaws.{AreAlike, core_is, images_alike}
+use Rattle.qs_driver.proofs.BoundsLaws.{core_is, same_names}
 use Rattle.qs_driver.proofs.CertifiedRefusals.{proof_held, one_file}
 
 -- ---- of one text and one file
@@ -82,7 +82,7 @@ held_before c f g s same h = record {
 
 -- ---- its images
 
-pub images_of_one : (c : CertifyWords) (f : Files) (s t : CertifiedSource) (image other : Image) → HoldsSource c f s → HoldsSource c f t → IsImageOf s image → IsImageOf t other → AreAlike image other
-images_of_one c f s t image other a b i j =
+pub names_of_one : (c : CertifyWords) (f : Files) (s t : CertifiedSource) (image other : Image) → HoldsSource c f s → HoldsSource c f t → IsImageOf s image → IsImageOf t other → map (λ (r : FunctionRecord). r.name) image.functions ≡ map (λ (r : FunctionRecord). r.name) other.functions
+names_of_one c f s t image other a b i j =
     let same : t ≡ s = one_held c f t s b a in
-    images_alike s.core s image other (core_is a.text a.file s a.is) i (subst (λ (x : CertifiedSource). IsImageOf x other) same j)
+    same_names s.core s image other (core_is a.text a.file s a.is) i (subst (λ (x : CertifiedSource). IsImageOf x other) same j)

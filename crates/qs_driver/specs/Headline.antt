@@ -1,5 +1,5 @@
 -- What is promised of `build`, said of a call alone: the words, and the devices before it and after it.
-use Rattle.std.specs.Prelude.{◌≡◌, ◌≢◌, ◌⊎◌, ◌↔◌, ℕ, ◌≤◌, ℤ, List, ◌++◌, IsTrue, Option, Some, None}
+use Rattle.std.specs.Prelude.{◌≡◌, ◌≢◌, ◌⊎◌, ◌↔◌, ℕ, ◌≤◌, ℤ, List, ◌++◌, map, IsTrue, Option, Some, None}
 use Rattle.qs_cli.specs.Commands.{meaning, Build, Bound}
 use Rattle.qs_core.specs.CallGraph.{IsWithoutRecursion}
 use Rattle.qs_meaning.specs.Typed.{TypedProgram}
@@ -37,13 +37,20 @@ pub record PrintsBound (s : CertifiedSource) (image : Image) (args : List ℤ)
     (before after : DevicesView) : Type 0 where
   -- the arguments are main's
   pub arguments : AreArguments s.core args
-  -- the lines that `build` printed, and then the bound by these costs
+  -- the image that it made for this, which has the functions of the one that `build` wrote
+  pub other : Image
+  pub names : map (λ f. f.name) other.functions ≡ map (λ f. f.name) image.functions
+  -- the cost lines of that image, and then the bound by these costs
   pub printed :
       IsTrue after.out.told
       → after.out.written
       ≡ before.out.written
-      ++ (cost_lines image.functions
-      ++ bound_line (shown_of (bound_by s (costs_in image.functions) args)))
+      ++ (cost_lines other.functions
+      ++ bound_line (shown_of (bound_by s (costs_in other.functions) args)))
+  -- where these are the costs that `build` printed, it is the bound of the image that `build` wrote
+  pub same :
+      costs_in other.functions ≡ costs_in image.functions
+      → bound_by s (costs_in other.functions) args ≡ bound_by s (costs_in image.functions) args
 
 -- each such call does so
 abbrev pub BoundPrintsIt : CertifyWords → Files → CertifiedSource → Image → Type 0

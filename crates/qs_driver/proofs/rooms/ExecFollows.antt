@@ -1,13 +1,12 @@
 -- What follows from what is due to `exec`.
-use Rattle.std.proofs.Common.{◌≡◌, ◌≢◌, ◌⊎◌, ◌∙◌, ℕ, ℤ, ◌<◌, ◌≤◌, List, Option, Some, None, ap, subst, sym, inl, inr, arith, IsTrue}
+use Rattle.std.proofs.Common.{◌≡◌, ◌≢◌, ◌⊎◌, ◌∙◌, ℕ, ◌<◌, List, Option, Some, None, refl, ap, subst, sym, inl, inr, arith, IsTrue}
 use Rattle.std.proofs.lemmas.Option.{same_Some}
 use Rattle.qs_assert.specs.declared.define.Amount.{Amount}
-use Rattle.qs_assert.specs.declared.define.Amount.TheVariants.{Finite}
+use Rattle.qs_assert.specs.declared.define.Amount.TheVariants.{Finite, Infinite, Wide}
 use Rattle.qs_ports.specs.StoreView.{StoreView}
 use Rattle.qs_image.specs.Image.{Image}
 use Rattle.qs_machine.specs.Arguments.{words_of}
 use Rattle.qs_machine.specs.Run.{Outcome, Exited, Trapped as HasTrapped, Going, machine}
-use Rattle.qs_machine.specs.State.{stack_limit}
 use Rattle.qs_driver_session.specs.Limits.{input_limit}
 use Rattle.qs_driver_session.specs.Due.{Due}
 use Rattle.qs_driver_session.specs.Files.{HoldsContent, IsTooLong, CannotRead}
@@ -22,10 +21,10 @@ use Rattle.qs_driver_session.proofs.FilesLaws.{held_content, held_long}
 use Rattle.qs_driver_session.proofs.SourceFollows.{not_absent, not_long, one_content}
 use Rattle.qs_driver_session.proofs.rooms.Follows.{Follows, not_untouched, unread_shows}
 use Rattle.qs_driver.specs.Made as made_meant
-use Rattle.qs_driver.specs.Made.{FitsMain, IsOfMade}
-use Rattle.qs_driver.specs.commands.Exec.{ExecWords, to_make, exec, HasRun, HasStack, HasNoStack, ComesToInput, CannotExec, IsDueAt, IsDueToExec, LacksInput, HasLongInput, Ends, Accepts, Refuses, IsOfExec}
+use Rattle.qs_driver.specs.Made.{IsMade, FitsMain, IsOfMade}
+use Rattle.qs_driver.specs.commands.Exec.{ExecWords, to_make, exec, HasRun, ComesToInput, CannotExec, IsDueAt, IsDueToExec, IsStack, OfInput, LacksInput, HasLongInput, Ends, Accepts, Refuses, IsOfExec}
 use Rattle.qs_driver.specs.commands.Exec as meant
-use Rattle.qs_driver.proofs.MadeFollows.{is_refusal, certified_refuses, none_refused, made_or_bound, made_own, made_shows, made_no_good, one_bound, certified_or_not, IsNoMadeRefusal, MadeEnds, goes_on, refuses_made}
+use Rattle.qs_driver.proofs.MadeFollows.{is_refusal, none_refused, made_own, made_shows, made_no_good, fits_main, IsNoMadeRefusal, MadeEnds, goes_on, refuses_made}
 use Rattle.qs_driver.proofs.MadeFollows as made
 
 -- ---- how it ends
@@ -45,16 +44,16 @@ exec_ends e v w due (meant.refused status c is) = let P : Status → Type 0 = λ
 
 -- ---- what is accepted
 
-one_input : (v : StoreView) (name : Option (List ℕ)) (a b : List ℕ) → IsTrue v.told → ReadInput v name a → HasInput v name b → a ≡ b
-one_input v None a b told r h = r ∙ sym h
-one_input v (Some name) a b told r h = one_content (v.files name) input_limit a b (held_content r told) h
+input_held : (v : StoreView) (name : Option (List ℕ)) (input : List ℕ) → IsTrue v.told → ReadInput v name input → HasInput v name input
+input_held v None input told r = r
+input_held v (Some name) input told r = held_content r told
+
+same_input : (v : StoreView) (name : Option (List ℕ)) (a b : List ℕ) → HasInput v name a → HasInput v name b → a ≡ b
+same_input v None a b h k = h ∙ sym k
+same_input v (Some name) a b h k = one_content (v.files name) input_limit a b h k
 
 input_there : (v : StoreView) (e : ExecWords) (name input : List ℕ) → e.input ≡ Some name → HasInput v e.input input → HoldsContent (v.files name) input_limit input
 input_there v e name input named h = subst (λ (i : Option (List ℕ)). HasInput v i input) named h
-
--- a bound has a stack or none
-stack_or_none : (amount : Amount) (stack : ℕ) → amount ≡ Finite stack → stack ≤ stack_limit → IsNoStack amount → ⊥
-stack_or_none amount stack is small none = let large : stack_limit < stack = subst IsNoStack is none in omega (arith, small, large)
 
 accepts_input : (e : ExecWords) (v w : StoreView) (name : List ℕ) (status : Status) → StoreHeld v w → ComesToInput e v name → CannotRead v w name kinds.Input input_limit status → Accepts e v status ⊎ (status ≡ NoMemory)
 accepts_input e v w name status n c (files.missing m x) = inl (λ g. absurd (not_absent (v.files name) g.input (m.absent g.told) (input_there v e name g.input c.named g.input_there).there))
@@ -67,7 +66,7 @@ accepts e v w status n (ran due h is) = inl (λ g. inl (record {
   image = h.image;
   stack = h.stack;
   has_stack = h.has_stack;
-  is = is ∙ ap (λ (input : List ℕ). status_at e.steps (machine h.image h.stack (words_of e.args) input e.steps)) (one_input v e.input h.input g.input g.told h.input_read g.input_there);
+  is = is ∙ ap (λ (input : List ℕ). status_at e.steps (machine h.image h.stack (words_of e.args) input e.steps)) (same_input v e.input h.input g.input (input_held v e.input h.input g.told h.input_read) g.input_there);
 }))
 accepts e v w status n (cannot (meant.not_made c)) = elim (made_no_good (to_make e) v w status n c) [
   | inl never ↦ inl (λ g. absurd (never g.told g.fits))
@@ -120,169 +119,151 @@ made_ends e v w status n (cannot (meant.no_stack amount u h x)) = goes_on h.imag
 made_ends e v w status n (cannot (meant.unread_input name c r)) = goes_on c.image (Finite c.stack) c.has_stack.is_made (none_of_input v w name status r)
 made_ends e v w status n (cannot (meant.no_memory u x)) = made.cannot w n (made_meant.no_memory u x)
 
--- ---- no stack
+-- ---- by the image that was made, and its bound
 
 outcome_bound : (steps : ℕ) (o : Outcome) (amount : Amount) → status_at steps o ≡ NoBound amount → ⊥
 outcome_bound steps (Exited output status) amount e = cc
 outcome_bound steps (HasTrapped cause pc output) amount e = cc
 outcome_bound steps (Going output) amount e = cc
 
-input_bound : (v w : StoreView) (name : List ℕ) (status : Status) (amount : Amount) → CannotRead v w name kinds.Input input_limit status → status ≡ NoBound amount → ⊥
-input_bound v w name status amount (files.missing m e) f = cc
-input_bound v w name status amount (files.unreadable u e) f = cc
-input_bound v w name status amount (files.too_long l e) f = cc
-input_bound v w name status amount (files.no_memory u e) f = cc
+outcome_missing : (steps : ℕ) (o : Outcome) → status_at steps o ≡ Missing kinds.Input → ⊥
+outcome_missing steps (Exited output status) e = cc
+outcome_missing steps (HasTrapped cause pc output) e = cc
+outcome_missing steps (Going output) e = cc
 
-tells_no_bound : (e : ExecWords) (v w : StoreView) (status : Status) (amount : Amount) → StoreHeld v w → status ≢ NoMemory → ExecEnds e v w status → status ≡ NoBound amount → HasNoStack e v amount
-tells_no_bound e v w status amount n m (ran due h is) f = absurd (outcome_bound e.steps (machine h.image h.stack (words_of e.args) h.input e.steps) amount (sym is ∙ f))
-tells_no_bound e v w status amount n m (cannot (meant.not_made c)) f = elim (made_own (to_make e) v w status n c) [
-  | inl of ↦ absurd (made_or_bound e.args status of amount f)
-  | inr x ↦ absurd (m x)
-]
-tells_no_bound e v w status amount n m (cannot (meant.no_stack found u h x)) f =
-    let both : ◌≡◌ {A = Status} (NoBound found) (NoBound amount) = sym x ∙ f in
-    let same : found ≡ amount = cc in
-    subst (λ (a : Amount). HasNoStack e v a) same h
-tells_no_bound e v w status amount n m (cannot (meant.unread_input name c r)) f = absurd (input_bound v w name status amount r f)
-tells_no_bound e v w status amount n m (cannot (meant.no_memory u x)) f = absurd (m x)
+outcome_long : (steps : ℕ) (o : Outcome) → status_at steps o ≡ Source (TooLong kinds.Input) → ⊥
+outcome_long steps (Exited output status) e = cc
+outcome_long steps (HasTrapped cause pc output) e = cc
+outcome_long steps (Going output) e = cc
 
--- a bound that has no stack isn't that of what runs
-stack_never : (e : ExecWords) (v : StoreView) (image : Image) (stack : ℕ) (amount : Amount) → IsTrue v.told → HasStack e v image stack → HasNoStack e v amount → ⊥
-stack_never e v image stack amount told h none = stack_or_none amount stack (one_bound (to_make e) v none.image image amount (Finite stack) told none.is_made h.is_made) h.small none.none
+-- a bound has a stack or none
+stack_or_none : (bound : Amount) → IsStack bound → IsNoStack bound → ⊥
+stack_or_none (Finite bytes) small large = omega (arith, small, large)
+stack_or_none Infinite small large = small
+stack_or_none Wide small large = small
 
-leads_no_bound : (e : ExecWords) (v w : StoreView) (status : Status) (amount : Amount) → StoreHeld v w → status ≢ NoMemory → IsTrue v.told → ExecEnds e v w status → HasNoStack e v amount → status ≡ NoBound amount
-leads_no_bound e v w status amount n m told (ran due h is) none = absurd (stack_never e v h.image h.stack amount told h.has_stack none)
-leads_no_bound e v w status amount n m told (cannot (meant.not_made c)) none = absurd (certified_or_not (to_make e) v w status none.image amount n m told none.is_made c)
-leads_no_bound e v w status amount n m told (cannot (meant.no_stack found u h x)) none = x ∙ ap NoBound (one_bound (to_make e) v h.image none.image found amount told h.is_made none.is_made)
-leads_no_bound e v w status amount n m told (cannot (meant.unread_input name c r)) none = absurd (stack_never e v c.image c.stack amount told c.has_stack none)
-leads_no_bound e v w status amount n m told (cannot (meant.no_memory u x)) none = absurd (m x)
+-- there is one file of the input
+one_file : (e : ExecWords) (v : StoreView) (P Q : Option (List ℕ) → Type 0) (h : OfInput e v P) → OfInput e v Q → Q (v.files h.name)
+one_file e v P Q h k =
+    let both : Some k.name ≡ Some h.name = sym k.named ∙ h.named in
+    let same : k.name ≡ h.name = same_Some k.name h.name both in
+    subst (λ (name : List ℕ). Q (v.files name)) same k.so
 
--- ---- the input
+lacks_or_long : (e : ExecWords) (v : StoreView) → LacksInput e v → HasLongInput e v → ⊥
+lacks_or_long e v lacks long =
+    let l = one_file e v (λ file. file ≡ None) (λ file. IsTooLong file input_limit) lacks long in
+    not_absent (v.files lacks.name) l.content lacks.so l.there
 
--- a status of the input is none of the machine, nor one at which nothing is made
-abbrev IsOfInput : Status → Type 0
-IsOfInput status = (status ≡ Missing kinds.Input) ⊎ (status ≡ Source (TooLong kinds.Input))
+lacks_or_has : (e : ExecWords) (v : StoreView) (input : List ℕ) → LacksInput e v → HasInput v e.input input → ⊥
+lacks_or_has e v input lacks has = not_absent (v.files lacks.name) input lacks.so (input_there v e lacks.name input lacks.named has).there
 
-outcome_input : (steps : ℕ) (o : Outcome) (status : Status) → status ≡ status_at steps o → IsOfInput status → ⊥
-outcome_input steps (Exited output code) status is (inl x) = cc
-outcome_input steps (Exited output code) status is (inr x) = cc
-outcome_input steps (HasTrapped cause pc output) status is (inl x) = cc
-outcome_input steps (HasTrapped cause pc output) status is (inr x) = cc
-outcome_input steps (Going output) status is (inl x) = cc
-outcome_input steps (Going output) status is (inr x) = cc
+long_or_has : (e : ExecWords) (v : StoreView) (input : List ℕ) → HasLongInput e v → HasInput v e.input input → ⊥
+long_or_has e v input long has = not_long (v.files long.name) input_limit input (input_there v e long.name input long.named has) long.so
 
-made_input : {args : List ℤ} {status : Status} → IsOfMade args status → IsOfInput status → ⊥
-made_input (made_meant.of_certified of) (inl x) = let is = certified_refuses of in let none = ap is_refusal x in (let never : ⊥ = cc in never)
-made_input (made_meant.of_certified of) (inr x) = let is = certified_refuses of in let none = ap is_refusal x in (let never : ⊥ = cc in never)
-made_input (made_meant.wrong_count expected) (inl x) = cc
-made_input (made_meant.wrong_count expected) (inr x) = cc
-made_input (made_meant.wrong_argument i) (inl x) = cc
-made_input (made_meant.wrong_argument i) (inr x) = cc
+-- the ways in which it ends by this image and this bound
+data Way (e : ExecWords) (v : StoreView) (image : Image) (bound : Amount) (status : Status) : Type 0 where
+  no_stack : IsNoStack bound → status ≡ NoBound bound → Way e v image bound status
+  no_input : IsStack bound → LacksInput e v → status ≡ Missing kinds.Input → Way e v image bound status
+  long_input : IsStack bound → HasLongInput e v → status ≡ Source (TooLong kinds.Input) → Way e v image bound status
+  at_outcome : (stack : ℕ) (input : List ℕ) → bound ≡ Finite stack → IsStack bound → HasInput v e.input input → status ≡ status_at e.steps (machine image stack (words_of e.args) input e.steps) → Way e v image bound status
 
-bound_input : (status : Status) (amount : Amount) → status ≡ NoBound amount → IsOfInput status → ⊥
-bound_input status amount e (inl x) = cc
-bound_input status amount e (inr x) = cc
+module _ (e : ExecWords) (v : StoreView) (image : Image) (bound : Amount) (status : Status) where
+  abbrev IsAtOutcome : (stack : ℕ) (input : List ℕ) → Type 0
+  IsAtOutcome stack input = status ≡ status_at e.steps (machine image stack (words_of e.args) input e.steps)
+
+  tells_no_bound : Way e v image bound status → (amount : Amount) → status ≡ NoBound amount → (amount ≡ bound) × IsNoStack bound
+  tells_no_bound (no_stack none x) amount f =
+      let both : ◌≡◌ {A = Status} (NoBound amount) (NoBound bound) = sym f ∙ x in
+      let same : amount ≡ bound = cc in
+      (same, none)
+  tells_no_bound (no_input small lacks x) amount f = absurd cc
+  tells_no_bound (long_input small long x) amount f = absurd cc
+  tells_no_bound (at_outcome stack input is small has x) amount f = absurd (outcome_bound e.steps (machine image stack (words_of e.args) input e.steps) amount (sym x ∙ f))
+
+  leads_no_bound : Way e v image bound status → (amount : Amount) → (amount ≡ bound) × IsNoStack bound → status ≡ NoBound amount
+  leads_no_bound (no_stack none x) amount p = x ∙ ap NoBound (sym p.0)
+  leads_no_bound (no_input small lacks x) amount p = absurd (stack_or_none bound small p.1)
+  leads_no_bound (long_input small long x) amount p = absurd (stack_or_none bound small p.1)
+  leads_no_bound (at_outcome stack input is small has x) amount p = absurd (stack_or_none bound small p.1)
+
+  tells_missing : Way e v image bound status → status ≡ Missing kinds.Input → IsStack bound × LacksInput e v
+  tells_missing (no_stack none x) f = absurd cc
+  tells_missing (no_input small lacks x) f = (small, lacks)
+  tells_missing (long_input small long x) f = absurd cc
+  tells_missing (at_outcome stack input is small has x) f = absurd (outcome_missing e.steps (machine image stack (words_of e.args) input e.steps) (sym x ∙ f))
+
+  leads_missing : Way e v image bound status → IsStack bound × LacksInput e v → status ≡ Missing kinds.Input
+  leads_missing (no_stack none x) p = absurd (stack_or_none bound p.0 none)
+  leads_missing (no_input small lacks x) p = x
+  leads_missing (long_input small long x) p = absurd (lacks_or_long e v p.1 long)
+  leads_missing (at_outcome stack input is small has x) p = absurd (lacks_or_has e v input p.1 has)
+
+  tells_long : Way e v image bound status → status ≡ Source (TooLong kinds.Input) → IsStack bound × HasLongInput e v
+  tells_long (no_stack none x) f = absurd cc
+  tells_long (no_input small lacks x) f = absurd cc
+  tells_long (long_input small long x) f = (small, long)
+  tells_long (at_outcome stack input is small has x) f = absurd (outcome_long e.steps (machine image stack (words_of e.args) input e.steps) (sym x ∙ f))
+
+  leads_long : Way e v image bound status → IsStack bound × HasLongInput e v → status ≡ Source (TooLong kinds.Input)
+  leads_long (no_stack none x) p = absurd (stack_or_none bound p.0 none)
+  leads_long (no_input small lacks x) p = absurd (lacks_or_long e v lacks p.1)
+  leads_long (long_input small long x) p = x
+  leads_long (at_outcome stack input is small has x) p = absurd (long_or_has e v input p.1 has)
+
+  leads_outcome : Way e v image bound status → (stack : ℕ) (input : List ℕ) → bound ≡ Finite stack → IsStack bound → HasInput v e.input input → IsAtOutcome stack input
+  leads_outcome (no_stack none x) stack input is small has = absurd (stack_or_none bound small none)
+  leads_outcome (no_input small lacks x) stack input is fits has = absurd (lacks_or_has e v input lacks has)
+  leads_outcome (long_input small long x) stack input is fits has = absurd (long_or_has e v input long has)
+  leads_outcome (at_outcome found read there small held x) stack input is fits has =
+      let both : ◌≡◌ {A = Amount} (Finite found) (Finite stack) = sym there ∙ is in
+      let same : found ≡ stack = cc in
+      subst (λ (bytes : List ℕ). IsAtOutcome stack bytes) (same_input v e.input read input held has) (subst (λ (bytes : ℕ). IsAtOutcome bytes read) same x)
+
+  ends_by : IsMade (to_make e) v image bound → Way e v image bound status → Ends e v status
+  ends_by made way = record {
+    image = image;
+    bound = bound;
+    is_made = made;
+    no_bound = λ amount. (tells_no_bound way amount, leads_no_bound way amount);
+    input_missing = (tells_missing way, leads_missing way);
+    input_long = (tells_long way, leads_long way);
+    outcome = leads_outcome way;
+  }
+
+-- ---- where the source is right and the arguments are main's
 
 module _ (e : ExecWords) (v w : StoreView) (status : Status) (n : StoreHeld v w) (memory : status ≢ NoMemory) (told : IsTrue v.told) where
-  -- the input was refused
-  record InputRefused : Type 0 where
-    name : List ℕ
-    comes : ComesToInput e v name
-    refused : CannotRead v w name kinds.Input input_limit status
-
-  refused_input : ExecEnds e v w status → IsOfInput status → InputRefused
-  refused_input (ran due h is) of = absurd (outcome_input e.steps (machine h.image h.stack (words_of e.args) h.input e.steps) status is of)
-  refused_input (cannot (meant.not_made c)) of = elim (made_own (to_make e) v w status n c) [
-    | inl made ↦ absurd (made_input made of)
-    | inr x ↦ absurd (memory x)
-  ]
-  refused_input (cannot (meant.no_stack amount u h x)) of = absurd (bound_input status amount x of)
-  refused_input (cannot (meant.unread_input name c r)) of = record { name = name; comes = c; refused = r }
-  refused_input (cannot (meant.no_memory u x)) of = absurd (memory x)
-
-  missing_input : (name : List ℕ) → ComesToInput e v name → CannotRead v w name kinds.Input input_limit status → status ≡ Missing kinds.Input → LacksInput e v
-  missing_input name c (files.missing m x) is = record { name = name; comes = c; so = m.absent told }
-  missing_input name c (files.unreadable f x) is = absurd (n f.failed.rose)
-  missing_input name c (files.too_long l x) is = absurd cc
-  missing_input name c (files.no_memory u x) is = absurd (memory x)
-
-  long_input : (name : List ℕ) → ComesToInput e v name → CannotRead v w name kinds.Input input_limit status → status ≡ Source (TooLong kinds.Input) → HasLongInput e v
-  long_input name c (files.missing m x) is = absurd cc
-  long_input name c (files.unreadable f x) is = absurd (n f.failed.rose)
-  long_input name c (files.too_long l x) is = record { name = name; comes = c; so = held_long l told }
-  long_input name c (files.no_memory u x) is = absurd (memory x)
-
-  tells_missing : ExecEnds e v w status → status ≡ Missing kinds.Input → LacksInput e v
-  tells_missing ends is = let r = refused_input ends (inl is) in missing_input r.name r.comes r.refused is
-
-  tells_long : ExecEnds e v w status → status ≡ Source (TooLong kinds.Input) → HasLongInput e v
-  tells_long ends is = let r = refused_input ends (inr is) in long_input r.name r.comes r.refused is
-
-  -- how it ends where the image is made, has a stack of its bound, and an input is named
-  data AtInput (name : List ℕ) : Type 0 where
-    was_run : (input : List ℕ) → HoldsContent (v.files name) input_limit input → AtInput name
-    was_missing : (v.files name ≡ None) → status ≡ Missing kinds.Input → AtInput name
-    was_long : IsTooLong (v.files name) input_limit → status ≡ Source (TooLong kinds.Input) → AtInput name
-
-  at_refused : (name : List ℕ) → CannotRead v w name kinds.Input input_limit status → AtInput name
-  at_refused name (files.missing m x) = was_missing (m.absent told) x
-  at_refused name (files.unreadable f x) = absurd (n f.failed.rose)
-  at_refused name (files.too_long l x) = was_long (held_long l told) x
-  at_refused name (files.no_memory u x) = absurd (memory x)
-
-  -- a stack of its bound excludes that there is none
-  has_one : {name : List ℕ} {amount : Amount} → ComesToInput e v name → HasNoStack e v amount → ⊥
-  has_one {amount = amount} c none = stack_never e v c.image c.stack amount told c.has_stack none
-
-  at_input : (name : List ℕ) → ExecEnds e v w status → ComesToInput e v name → AtInput name
-  at_input name (ran due h is) c =
-      was_run h.input (held_content (subst (λ (i : Option (List ℕ)). ReadInput v i h.input) c.named h.input_read) told)
-  at_input name (cannot (meant.not_made x)) c = absurd (certified_or_not (to_make e) v w status c.image (Finite c.stack) n memory told c.has_stack.is_made x)
-  at_input name (cannot (meant.no_stack amount u h x)) c = absurd (has_one c h)
-  at_input name (cannot (meant.unread_input found d r)) c =
-      let both : Some found ≡ Some name = sym d.named ∙ c.named in
-      let same : found ≡ name = same_Some found name both in
-      subst AtInput same (at_refused found r)
-  at_input name (cannot (meant.no_memory u x)) c = absurd (memory x)
-
-  leads_missing : ExecEnds e v w status → LacksInput e v → status ≡ Missing kinds.Input
-  leads_missing ends l = by (at_input l.name ends l.comes)
-    where
-      by : AtInput l.name → status ≡ Missing kinds.Input
-      by (was_run input held) = absurd (not_absent (v.files l.name) input l.so held.there)
-      by (was_missing absent is) = is
-      by (was_long long is) = absurd (not_absent (v.files l.name) long.content l.so long.there)
-
-  leads_long : ExecEnds e v w status → HasLongInput e v → status ≡ Source (TooLong kinds.Input)
-  leads_long ends l = by (at_input l.name ends l.comes)
-    where
-      by : AtInput l.name → status ≡ Source (TooLong kinds.Input)
-      by (was_run input held) = absurd (not_long (v.files l.name) input_limit input held l.so)
-      by (was_missing absent is) = absurd (not_absent (v.files l.name) l.so.content absent l.so.there)
-      by (was_long long is) = is
-
-  -- ---- how it ends where the source is right and the arguments are main's
-
-  input_held : (name : Option (List ℕ)) (input : List ℕ) → ReadInput v name input → HasInput v name input
-  input_held None input r = r
-  input_held (Some name) input r = held_content r told
-
   ends_at_input : (name : List ℕ) → ComesToInput e v name → CannotRead v w name kinds.Input input_limit status → Ends e v status
-  ends_at_input name c (files.missing m x) = meant.lacks_input (record { name = name; comes = c; so = m.absent told }) x
+  ends_at_input name c (files.missing m x) =
+      ends_by e v c.image (Finite c.stack) status c.has_stack.is_made
+      (no_input c.has_stack.small (record { name = name; named = c.named; so = m.absent told }) x)
   ends_at_input name c (files.unreadable f x) = absurd (n f.failed.rose)
-  ends_at_input name c (files.too_long l x) = meant.has_long_input (record { name = name; comes = c; so = held_long l told }) x
+  ends_at_input name c (files.too_long l x) =
+      ends_by e v c.image (Finite c.stack) status c.has_stack.is_made
+      (long_input c.has_stack.small (record { name = name; named = c.named; so = held_long l told }) x)
   ends_at_input name c (files.no_memory u x) = absurd (memory x)
 
   ends_so : ExecEnds e v w status → FitsMain (to_make e) v.files → Ends e v status
   ends_so (ran due h is) fits =
-      meant.at_outcome h.input (input_held e.input h.input h.input_read) (record { image = h.image; stack = h.stack; has_stack = h.has_stack; is = is })
+      ends_by e v h.image (Finite h.stack) status h.has_stack.is_made
+      (at_outcome h.stack h.input refl h.has_stack.small (input_held v e.input h.input told h.input_read) is)
   ends_so (cannot (meant.not_made c)) fits = elim (made_no_good (to_make e) v w status n c) [
     | inl never ↦ absurd (never told fits)
     | inr x ↦ absurd (memory x)
   ]
-  ends_so (cannot (meant.no_stack amount u h x)) fits = meant.lacks_stack (record { amount = amount; has_none = h; is = x })
+  ends_so (cannot (meant.no_stack amount u h x)) fits = ends_by e v h.image amount status h.is_made (no_stack h.none x)
   ends_so (cannot (meant.unread_input name c r)) fits = ends_at_input name c r
   ends_so (cannot (meant.no_memory u x)) fits = absurd (memory x)
+
+  right : ExecEnds e v w status → (IsOfMade e.args status → ⊥) → FitsMain (to_make e) v.files
+  right (ran due h is) never = fits_main (to_make e) v h.image (Finite h.stack) told h.has_stack.is_made
+  right (cannot (meant.not_made c)) never = elim (made_own (to_make e) v w status n c) [
+    | inl of ↦ absurd (never of)
+    | inr x ↦ absurd (memory x)
+  ]
+  right (cannot (meant.no_stack amount u h x)) never = fits_main (to_make e) v h.image amount told h.is_made
+  right (cannot (meant.unread_input name c r)) never = fits_main (to_make e) v c.image (Finite c.stack) told c.has_stack.is_made
+  right (cannot (meant.no_memory u x)) never = absurd (memory x)
 
 -- ---- the clauses
 
@@ -290,9 +271,7 @@ refuses : (e : ExecWords) (v w : StoreView) (status : Status) → StoreHeld v w 
 refuses e v w status n m ends = record {
   own = own e v w status n m ends;
   made = λ told. refuses_made (to_make e) v status m told (made_ends e v w status n ends);
-  no_bound = λ amount told. (tells_no_bound e v w status amount n m ends, leads_no_bound e v w status amount n m told ends);
-  input_missing = λ told. (tells_missing e v w status n m told ends, leads_missing e v w status n m told ends);
-  input_long = λ told. (tells_long e v w status n m told ends, leads_long e v w status n m told ends);
+  right = λ told never. right e v w status n m told ends never;
   ends = λ told fits. ends_so e v w status n m told ends fits;
 }
 

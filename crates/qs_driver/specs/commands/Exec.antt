@@ -1,7 +1,7 @@
 -- `exec`: a source is certified and compiled, and its image is run on a stack of exactly its bound.
 use Rattle.std.specs.Prelude.{◌≡◌, ◌⊎◌, ◌↔◌, ℕ, ◌≤◌, ℤ, List, [], ◌∷◌, IsTrue, Option, Some, None, Result, Ok, Err}
 use Rattle.qs_assert.specs.declared.define.Amount.{Amount}
-use Rattle.qs_assert.specs.declared.define.Amount.TheVariants.{Finite}
+use Rattle.qs_assert.specs.declared.define.Amount.TheVariants.{Finite, Infinite, Wide}
 use Rattle.qs_meaning.specs.Typed.{TypedProgram}
 use Rattle.qs_ports.specs.StoreView.{StoreView}
 use Rattle.qs_image.specs.Image.{Image}
@@ -177,11 +177,17 @@ abbrev pub Accepts : ExecWords → StoreView → Status → Type 0
 Accepts e before status =
     (g : IsGood e before) → EndsAtOutcome e before g.input status ⊎ LacksStack e before status
 
--- an image is made that has a stack of its bound, an input is named, and of its file this is so
+-- there is a stack of exactly so many bytes
+abbrev pub IsStack : Amount → Type 0
+IsStack (Finite bytes) = bytes ≤ stack_limit
+IsStack Infinite = ⊥
+IsStack Wide = ⊥
+
+-- an input is named, and of its file this is so
 pub record OfInput (e : ExecWords) (before : StoreView) (IsSo : Option (List ℕ) → Type 0)
     : Type 0 where
   pub name : List ℕ
-  pub comes : ComesToInput e before name
+  pub named : e.input ≡ Some name
   pub so : IsSo (before.files name)
 
 abbrev pub LacksInput : ExecWords → StoreView → Type 0
@@ -190,14 +196,24 @@ LacksInput e before = OfInput e before (λ file. file ≡ None)
 abbrev pub HasLongInput : ExecWords → StoreView → Type 0
 HasLongInput e before = OfInput e before (λ file. IsTooLong file input_limit)
 
--- How it ends where the source and its proofs are right and the arguments are main's.
-pub data Ends (e : ExecWords) (before : StoreView) (status : Status) : Type 0 where
-  lacks_stack : LacksStack e before status → Ends e before status
-  lacks_input : LacksInput e before → status ≡ Missing kinds.Input → Ends e before status
-  has_long_input : HasLongInput e before → status ≡ Source (TooLong kinds.Input)
-      → Ends e before status
-  at_outcome : (input : List ℕ) → HasInput before e.input input
-      → EndsAtOutcome e before input status → Ends e before status
+-- How it ends where the source and its proofs are right and the arguments are main's: by the one image that this call
+-- made, and its bound at the arguments. Another image of the source may have other costs, and another bound.
+pub record Ends (e : ExecWords) (before : StoreView) (status : Status) : Type 0 where
+  pub image : Image
+  pub bound : Amount
+  pub is_made : IsMade (to_make e) before image bound
+  -- `no bound` tells this bound, exactly where there is no stack for it
+  pub no_bound : (amount : Amount)
+      → (status ≡ NoBound amount) ↔ ((amount ≡ bound) × IsNoStack bound)
+  -- where there is one, the file of the input that is named is missing, or too long
+  pub input_missing : (status ≡ Missing kinds.Input) ↔ (IsStack bound × LacksInput e before)
+  pub input_long :
+      (status ≡ Source (TooLong kinds.Input)) ↔ (IsStack bound × HasLongInput e before)
+  -- where the input is there too, the status is that of the machine's outcome on this stack
+  pub outcome :
+      (stack : ℕ) (input : List ℕ) → bound ≡ Finite stack → IsStack bound
+      → HasInput before e.input input
+      → status ≡ status_at e.steps (machine image stack (words_of e.args) input e.steps)
 
 -- the statuses with which `exec` ends where no call fails and memory is found
 pub data IsOfExec (e : ExecWords) : Status → Type 0 where
@@ -209,15 +225,13 @@ pub data IsOfExec (e : ExecWords) : Status → Type 0 where
   trapped : (cause : Cause) (pc : ℕ) → IsOfExec e (Trapped cause pc)
   step_limit : IsOfExec e (StepLimit e.steps)
 
--- Each refusal of `exec` comes exactly where its cause is, and no refusal of another command comes.
+-- Each refusal of `exec` comes exactly where its cause is, and no refusal of another command comes. What goes by the bound
+-- goes by that of the image that this call made, and comes of no source, proofs or arguments that are refused.
 pub record Refuses (e : ExecWords) (before : StoreView) (status : Status) : Type 0 where
   pub own : IsOfExec e status
   pub made : IsTrue before.told → RefusesMade (to_make e) before.files status
-  pub no_bound : (amount : Amount) → IsTrue before.told
-      → (status ≡ NoBound amount) ↔ HasNoStack e before amount
-  pub input_missing : IsTrue before.told → (status ≡ Missing kinds.Input) ↔ LacksInput e before
-  pub input_long : IsTrue before.told
-      → (status ≡ Source (TooLong kinds.Input)) ↔ HasLongInput e before
+  -- no status but a refusal of them comes where the source, its proofs or the arguments aren't right
+  pub right : IsTrue before.told → (IsOfMade e.args status → ⊥) → FitsMain (to_make e) before.files
   pub ends : IsTrue before.told → FitsMain (to_make e) before.files → Ends e before status
 
 abbrev pub exec : ExecWords → Task

@@ -8,19 +8,18 @@ use Rattle.qs_core.specs.UnitTrees as core
 use Rattle.qs_tac.specs.Laws.{AreAccepted}
 use Rattle.qs_tac.specs.TreeOf.{function_tree}
 use Rattle.qs_tac.specs.UnitTrees.{unit_tree}
-use Rattle.qs_tac.specs.Trees.{TacUnitTree}
-use Rattle.qs_tac.specs.Places.{PlacesTree, places_tree, all_slots}
+use Rattle.qs_tac.specs.Places.{places_tree}
 use Rattle.qs_tac.specs.declared.places.Places.{Places}
 use Rattle.qs_emit_selection.specs.Limits.{first_fault}
 use Rattle.qs_emit_selection.specs.Units.{selected}
 use Rattle.qs_emit.proofs.EmissionLaws.{data_fits, selected_is_emittable}
-use Rattle.qs_compile.specs.Units.{linear, own_slots}
 use Rattle.qs_compile.specs.Limits.{Passes}
+use Rattle.qs_compile.specs.Faults.{fault_of}
 use Rattle.qs_compile.specs.declared.fault.BuildFault.{BuildFault}
 use Rattle.qs_compile.specs.Records.{HaveRecords, FramesFit}
 use Rattle.qs_compile.proofs.CodeLaws.{are_counted}
 use Rattle.qs_compile.proofs.SizeLaws.{frames_fit}
-use Rattle.qs_compile.proofs.BuiltLaws.{own_parts, code_passes}
+use Rattle.qs_compile.proofs.BuiltLaws.{parts_of, selection_passes, code_passes}
 use Rattle.qs_compile.proofs.building.build_image.Goals as goal
 
 pub emit-requires-clause-emittable : goal.emit-requires-clause-emittable
@@ -38,16 +37,27 @@ code_of-requires c =
     are_counted (unit_tree c.in_ok-linear.linear) (map places_tree c.deref-2.result.now) c.deref-3.result.now c.in_ok-linear.linear.fits
     (c.deref-3.ensures.value ∙ c.in_ok-items.ensures.items)
 
+pub returns-in_err-check_fits-clause-fault : goal.returns-in_err-check_fits-clause-fault
+returns-in_err-check_fits-clause-fault c =
+    let u = core.unit_tree c.args.unit.now in
+    let t = unit_tree c.in_ok-linear.linear in
+    let accepted = subst (λ (ps : List Places). AreAccepted t (map places_tree ps)) (sym c.deref.ensures.value) c.in_ok-places.ensures.accepted in
+    let passes : Passes u (fault_of c.in_err-check_fits.field-0.0) =
+    selection_passes u t (map places_tree c.deref.result.now) c.in_err-check_fits.field-0.0 c.in_ok-linear.ensures accepted c.in_err-check_fits.ensures.fault in
+    let err = err_from_is_err_and c.from_residual-in_err-check_fits.result c.from_residual-in_err-check_fits.ensures.1 in
+    let same : err.0 ≡ fault_of c.in_err-check_fits.field-0.0 = err.2 in
+    let told : Passes u err.0 = subst (λ (fault : BuildFault). Passes u fault) (sym same) passes in
+    rw (err.1) told
+
 pub returns-in_err-code-clause-fault : goal.returns-in_err-code-clause-fault
 returns-in_err-code-clause-fault c =
     let u = core.unit_tree c.args.unit.now in
     let t = unit_tree c.in_ok-linear.linear in
-    let items : c.deref-3.result.now ≡ selected (linear u) (own_slots (linear u)) =
-    c.deref-3.ensures.value ∙ c.in_ok-items.ensures.items
-    ∙ ap (λ (ps : List Places). selected t (map places_tree ps)) c.deref-2.ensures.value
-    ∙ ap (λ (ps : List PlacesTree). selected t ps) c.in_ok-places.ensures.slots
-    ∙ ap (λ (q : TacUnitTree). selected q (own_slots q)) c.in_ok-linear.ensures in
-    let passes : Passes u c.in_err-code.field-0.0 = code_passes u c.deref-3.result.now c.in_err-code.field-0.0 items c.in_err-code.ensures.fault in
+    let ps = map places_tree c.in_ok-places.places.items in
+    let items : c.deref-3.result.now ≡ selected t ps =
+    c.deref-3.ensures.value ∙ c.in_ok-items.ensures.items ∙ ap (λ (ps : List Places). selected t (map places_tree ps)) c.deref-2.ensures.value in
+    let passes : Passes u c.in_err-code.field-0.0 =
+    code_passes u t ps c.deref-3.result.now c.in_err-code.field-0.0 c.in_ok-linear.ensures c.in_ok-places.ensures.accepted items c.in_err-code.ensures.fault in
     let err = err_from_is_err_and c.from_residual-in_err-code.result c.from_residual-in_err-code.ensures.1 in
     let same : err.0 ≡ c.in_err-code.field-0.0 = err.2 in
     let told : Passes u err.0 = subst (λ (fault : BuildFault). Passes u fault) (sym same) passes in
@@ -55,9 +65,8 @@ returns-in_err-code-clause-fault c =
 
 pub records_of-requires-clause-placed : goal.records_of-requires-clause-placed
 records_of-requires-clause-placed c =
-    let places = c.in_ok-places.places.items in
-    ap length c.deref-4.ensures.value ∙ sym (length-map places places_tree) ∙ ap length c.in_ok-places.ensures.slots
-    ∙ length-map (map function_tree c.in_ok-linear.linear.functions.items) all_slots
+    ap length c.deref-4.ensures.value ∙ c.in_ok-places.ensures.count
+    ∙ sym (length-map c.in_ok-linear.linear.functions.items function_tree)
 
 pub records_of-requires-clause-fit : goal.records_of-requires-clause-fit
 records_of-requires-clause-fit c =
@@ -72,7 +81,7 @@ image_of-requires c =
     let cores = map trees.function_tree c.args.unit.now.functions.items in
     let items : c.in_ok-items.items.items ≡ selected t (map places_tree places) =
     c.in_ok-items.ensures.items ∙ ap (λ (ps : List Places). selected t (map places_tree ps)) c.deref-2.ensures.value in
-    own_parts (core.unit_tree c.args.unit.now) t (map places_tree places) functions c.in_ok-code.code.items c.in_ok-bytes.bytes.items c.in_ok-linear.ensures c.in_ok-places.ensures.slots
+    parts_of (core.unit_tree c.args.unit.now) t (map places_tree places) functions c.in_ok-code.code.items c.in_ok-bytes.bytes.items c.in_ok-linear.ensures c.in_ok-places.ensures.packed
     (record {
       few = c.in_ok-check_names.ensures.functions;
       short = c.in_ok-check_names.ensures.names;

@@ -5,7 +5,7 @@ use Rattle.qs_compile.proofs.building.image_of.Goals as goal
 
 pub unsigned_set-requires : goal.unsigned_set-requires
 unsigned_set-requires c =
-    let few = main_few (unit_tree c.args.unit.now) c.args.unit.now.fits c.requires.free in
+    let few = main_few (unit_tree c.args.unit.now) c.args.unit.now.fits c.args.functions.items c.args.code.items c.args.bytes.items c.requires in
     let same = ap length (c.deref.ensures.value ∙ c.in_ok-types.ensures) in
     omega (arith, few, same)
 

@@ -122,6 +122,7 @@ module _ (u : CoreUnitTree) where
     stmt_calls f b c (core.loop body step) fit =
         let parts = and_parts (stmt_fits u f true true body) (stmt_fits u f true false step) fit in
         in_both (callees body) (callees step) (stmt_calls f true true body parts.0) (stmt_calls f true false step parts.1)
+    stmt_calls f b c (core.switch e labels ss) fit = stmts_call f true c ss (and_parts _ (stmts_fit u f true c ss) fit).1
     stmt_calls f b c core.break fit = nothing
     stmt_calls f b c core.continue fit = nothing
     stmt_calls f b c (core.return e) fit = nothing

@@ -53,6 +53,7 @@ fn mark_callees(marks: &mut [bool], s: &CoreStmt)
             mark_callees(marks, body);
             mark_callees(marks, step);
         }
+        CoreStmt::Switch(_, _, parts) => mark_all_callees(marks, parts),
         CoreStmt::Break => {}
         CoreStmt::Continue => {}
         CoreStmt::Return(_) => {}

@@ -3,8 +3,9 @@ use Rattle.std.proofs.Common.{◌≡◌, ◌==◌, List, [], ◌∷◌, codes, N
 use Rattle.qs_memory.specs.declared.scalar.Scalar.TheVariants as scalars
 use Rattle.qs_calls.specs.declared.callee.Callee.{Callee}
 use Rattle.qs_calls.specs.declared.callee.Callee.TheVariants.{Function, PutChar, GetChar}
-use Rattle.qs_core.specs.Trees.{literal, CoreStmtTree, skip, seq, call, branch, loop, stmts_of, CoreFunctionTree, CoreUnitTree}
-use Rattle.qs_core.specs.CallGraph.{called_by, IsCycle, Leads, no_call, first_call}
+use Rattle.qs_core.specs.declared.labels.CoreLabel.TheVariants.{Case}
+use Rattle.qs_core.specs.Trees.{literal, CoreStmtTree, skip, seq, call, branch, loop, switch, stmts_of, CoreFunctionTree, CoreUnitTree}
+use Rattle.qs_core.specs.CallGraph.{callees, called_by, IsCycle, Leads, no_call, first_call}
 use Rattle.qs_core.proofs.OutlineExamples.{whole}
 
 abbrev calls_to : Callee → CoreStmtTree
@@ -51,6 +52,12 @@ in_order_of_definition = refl
 
 in_a_step : called_by three 1 ≡ 0 ∷ []
 in_a_step = refl
+
+-- from all parts of a switch, whether a label stands before them or not
+in_a_switch :
+    callees (switch (literal scalars.Int 0) (Case 0 1 ∷ []) (stmts_of (calls_to second ∷ calls_to PutChar ∷ calls_to third ∷ [])))
+    ≡ 1 ∷ 2 ∷ []
+in_a_switch = refl
 
 given_functions_do_not_count : called_by three 2 ≡ []
 given_functions_do_not_count = refl

@@ -18,11 +18,12 @@ use Rattle.qs_calls.specs.declared.callee.Callee.{Callee}
 use Rattle.qs_calls.specs.declared.callee.Callee.TheVariants.{Function, PutChar, GetChar}
 use Rattle.qs_calls.specs.declared.parameter.Parameter.{Parameter}
 use Rattle.qs_calls.specs.declared.parameter.Parameter.TheVariants.{Plain, Placed}
+use Rattle.qs_core.specs.declared.labels.CoreLabel.TheVariants.{Case, Default}
 use Rattle.qs_core.specs.declared.numbers.BlockId.TheVariants.{Local, Data}
 use Rattle.qs_core.specs.declared.numbers.Target.TheVariants as targets
 use Rattle.qs_core.specs.Trees.{CoreExprTree, literal, null_pointer, variable, temporary, address_of, load, member}
 use Rattle.qs_core.specs.Trees.{unary, binary, conversion, logical_and, logical_or, conditional}
-use Rattle.qs_core.specs.Trees.{CoreStmtTree, skip, seq, assign, store, copy, fill, call, branch, loop, break, continue, return}
+use Rattle.qs_core.specs.Trees.{CoreStmtTree, skip, seq, assign, store, copy, fill, call, branch, loop, switch, break, continue, return}
 use Rattle.qs_core.specs.Trees.{stmts_of, CoreVariableTree, CoreFunctionTree, PieceTree, bytes, pointer, DataBlockTree, CoreUnitTree}
 use Rattle.qs_core.specs.Fits.{expr_fits, stmt_fits, function_fits, unit_fits}
 
@@ -218,6 +219,9 @@ these_stand :
     ∷ branch pointer_to skip skip
     ∷ loop (seq (stmts_of (break ∷ continue ∷ []))) break
     ∷ loop skip (loop continue skip)
+    ∷ switch int (Case 4294967295 0 ∷ Default 1 ∷ Case 4294967295 1 ∷ []) (stmts_of (break ∷ skip ∷ []))
+    ∷ switch uint [] (stmts_of [])
+    ∷ loop (switch int (Case 0 0 ∷ []) (stmts_of (continue ∷ []))) skip
     ∷ return None
     ∷ return (Some int)
     ∷ [])
@@ -253,6 +257,15 @@ these_are_out_of_place :
     ∷ branch int skip continue
     ∷ loop skip continue
     ∷ loop skip (branch int continue skip)
+    -- labels behind the last part, a value that isn't one of the type, an operand that isn't promoted
+    ∷ switch int (Case 0 1 ∷ []) (stmts_of (skip ∷ []))
+    ∷ switch int (Default 1 ∷ []) (stmts_of (skip ∷ []))
+    ∷ switch int (Case 4294967296 0 ∷ []) (stmts_of (skip ∷ []))
+    ∷ switch char [] (stmts_of [])
+    ∷ switch pointer_to [] (stmts_of [])
+    ∷ switch (variable scalars.Int 5) [] (stmts_of [])
+    ∷ switch int [] (stmts_of (continue ∷ []))
+    ∷ seq (stmts_of (switch int [] (stmts_of []) ∷ break ∷ []))
     ∷ break
     ∷ continue
     ∷ return (Some uint)

@@ -10,14 +10,17 @@ use Rattle.qs_calls.specs.declared.callee.Callee.TheVariants.{Function}
 use Rattle.qs_calls.specs.declared.parameter.Parameter.TheVariants.{Plain}
 use Rattle.qs_base.specs.Names.{is_name}
 use Rattle.qs_base.specs.Keywords.{is_keyword, keyword_of}
-use Rattle.qs_core.specs.Trees.{CoreExprTree, literal, variable, temporary, binary, skip, call, branch, return, stmts_of, CoreFunctionTree, CoreUnitTree}
+use Rattle.qs_core.specs.declared.labels.CoreLabel.TheVariants.{Case, Default}
+use Rattle.qs_core.specs.declared.numbers.BlockId.TheVariants.{Data}
+use Rattle.qs_core.specs.declared.numbers.Target.TheVariants as targets
+use Rattle.qs_core.specs.Trees.{CoreExprTree, literal, variable, temporary, address_of, load, binary, skip, assign, call, branch, switch, break, return, stmts_of, CoreFunctionTree, CoreUnitTree}
 use Rattle.qs_core.specs.Fits.{unit_fits}
 use Rattle.qs_core.specs.declared.term.TermOperation.TheVariants.{Add, Subtract}
 use Rattle.qs_core.specs.declared.term.TermComparison.TheVariants.{LessOrEqual, Less, Equal, NotEqual}
 use Rattle.qs_core.specs.TermTrees.{CoreTermTree, number, combined, wrapped, CoreConditionTree, compared, not, and, or}
 use Rattle.qs_core.specs.Terms.{remainder_of}
 use Rattle.qs_core.specs.TermTexts.{term_or_mark, condition_or_mark}
-use Rattle.qs_core.specs.Outline.{outline}
+use Rattle.qs_core.specs.Outline.{switch_form, outline_function, outline}
 
 -- numbers in decimal
 
@@ -33,8 +36,17 @@ d2 = decimal_digit 2 (omega arith)
 d3 : decimal 3 ≡ codes "3"
 d3 = decimal_digit 3 (omega arith)
 
+d5 : decimal 5 ≡ codes "5"
+d5 = decimal_digit 5 (omega arith)
+
+d7 : decimal 7 ≡ codes "7"
+d7 = decimal_digit 7 (omega arith)
+
 d8 : decimal 8 ≡ codes "8"
 d8 = decimal_digit 8 (omega arith)
+
+d9 : decimal 9 ≡ codes "9"
+d9 = decimal_digit 9 (omega arith)
 
 d25 : decimal 25 ≡ codes "25"
 d25 = decimal_step 25 (omega arith) (omega arith) ∙ ap (λ (l : List ℕ). l ++ codes "5") d2
@@ -166,3 +178,54 @@ comparisons_told :
     test (and (or (compared LessOrEqual i1 i1) (compared Less i1 i1)) (not (and (compared Equal i1 i1) (compared NotEqual i1 i1))))
     ≡ codes "(and (or (le i i) (lt i i)) (not (and (eq i i) (ne i i))))"
 comparisons_told = refl
+
+-- ---- switches
+
+-- int f(int x) { switch (x) { case 1: return 5; case 2: x = 7; break; default: x = 9; } return x; }
+abbrev x : CoreExprTree
+x = variable scalars.Int 0
+
+abbrev int : ℕ → CoreExprTree
+int k = literal scalars.Int k
+
+abbrev with_switch : CoreFunctionTree
+with_switch = record {
+  name = codes "f";
+  parameters = record { name = codes "x"; place = Plain 0 } ∷ [];
+  variables = record { name = codes "x"; ordinal = 1; scalar = scalars.Int } ∷ [];
+  temporaries = [];
+  blocks = [];
+  result_type = Some scalars.Int;
+  body = stmts_of (
+      switch x (Case 1 0 ∷ Case 2 1 ∷ Default 3 ∷ [])
+      (stmts_of (
+      return (Some (int 5))
+      ∷ assign (targets.Variable 0) (int 7)
+      ∷ break
+      ∷ assign (targets.Variable 0) (int 9)
+      ∷ []))
+      ∷ return (Some x)
+      ∷ []);
+}
+
+outline_with_switch :
+    outline_function [] with_switch
+    ≡ codes "function f x\n"
+    ++ codes ". seq 2\n"
+    ++ codes ".0 switch x 1@0 2@1 default@3\n"
+    ++ codes ".0.0 return 5\n"
+    ++ codes ".0.1 assign x 7\n"
+    ++ codes ".0.2 break\n"
+    ++ codes ".0.3 assign x 9\n"
+    ++ codes ".1 return x\n"
+outline_with_switch = simp (d0, d1, d2, d3, d5, d7, d9) refl
+
+-- -1 of an `int`, and 1 of an `unsigned`; an operand without a term
+signed_label : switch_form g (variable scalars.Int 0) (Case 4294967295 0 ∷ []) ≡ codes "switch i -1@0"
+signed_label = simp (d0, d1) refl
+
+unsigned_label : switch_form g (variable scalars.Unsigned 1) (Case 1 0 ∷ []) ≡ codes "switch i#2 1@0"
+unsigned_label = simp (d0, d1, d2) refl
+
+no_term_of_the_operand : switch_form g (load scalars.Int (address_of (Data 0))) (Default 0 ∷ []) ≡ codes "switch ? default@0"
+no_term_of_the_operand = simp d0 refl

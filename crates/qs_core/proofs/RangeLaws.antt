@@ -6,7 +6,7 @@ use Rattle.std.proofs.lemmas.Bool.Decides.{nat_tests}
 use Rattle.std.proofs.lemmas.List.Elements.{All-head, All-tail}
 use Rattle.std.proofs.lemmas.Option.{slice_get-map, same_Some}
 use Rattle.std.proofs.lemmas.Bool.{and_parts}
-use Rattle.qs_memory.specs.Values.{Pointer, into, Value, integer, address, as_pointer}
+use Rattle.qs_memory.specs.Values.{Pointer, into, Value, integer, address, as_integer, as_pointer}
 use Rattle.qs_memory.specs.Memory.{Memory, make, release}
 use Rattle.qs_memory.specs.Memory as memory
 use Rattle.qs_memory.specs.Pointers.{truth}
@@ -32,9 +32,9 @@ use Rattle.qs_calls.specs.declared.parameter.Parameter.TheVariants.{Plain, Place
 use Rattle.qs_calls.proofs.StartLaws.{is_of_later, are_of_later, result_is_of_later, ready_later}
 use Rattle.qs_core.specs.declared.numbers.Target.{Target}
 use Rattle.qs_core.specs.declared.numbers.Target.TheVariants as targets
-use Rattle.qs_core.specs.Trees.{CoreExprTree, CoreStmtTree, skip, seq, assign, store, copy, fill, call, branch, loop, break, continue, return, CoreStmts, no_stmts, stmt_and, CoreParameterTree, CoreVariableTree, CoreFunctionTree, CoreUnitTree}
+use Rattle.qs_core.specs.Trees.{CoreExprTree, CoreStmtTree, skip, seq, assign, store, copy, fill, call, branch, loop, switch, break, continue, return, CoreStmts, no_stmts, stmt_and, CoreParameterTree, CoreVariableTree, CoreFunctionTree, CoreUnitTree}
 use Rattle.qs_core.specs.Expressions.{Locals, value, values, type_of}
-use Rattle.qs_core.specs.Statements.{Continuation, Continuations, Context, assigned, take_result, given_pointer, repeated, after_step, runs, runs_all}
+use Rattle.qs_core.specs.Statements.{Continuation, Continuations, Context, assigned, take_result, given_pointer, repeated, after_step, chosen_part, at_part, runs, runs_all, runs_from}
 use Rattle.qs_core.specs.Units.{calls_within}
 use Rattle.qs_core.specs.Interfaces.{variable_type, temporary_type, target_type, types_of, parameter_types, signature, interface_of}
 use Rattle.qs_core.specs.Fits.{expr_fits, exprs_fit, pointer_fits, call_fits, taken_fits, destination_fits, any_mentions, stmt_fits, stmts_fit, place_fits, parameter_fits, parameters_fit, unit_fits}
@@ -320,6 +320,13 @@ module _ (R : Relation) (keeps : Keeps R) (shorts : R short short) (u : CoreUnit
     turns_in_range zero t s h l w is = shorts
     turns_in_range (suc n) t s h l w is = h _ _ (turns_in_range n t s h) l w is
 
+    part_in_range :
+        (part : Option ℕ) (g i : ℕ → Continuation) → ((n : ℕ) → RelatedInRange R u f start (g n) (i n))
+        → (k j : Continuation) → RelatedInRange R u f start k j
+        → RelatedInRange R u f start (at_part part g k) (at_part part i j)
+    part_in_range None g i h k j e = e
+    part_in_range (Some part) g i h k j e = h part
+
     taken :
         (result_type : Option Scalar) (k : ℕ) → taken_fits f result_type k ≡ true
         → (m : Memory) (v : Value) → ResultIsOf m result_type (Some v)
@@ -445,6 +452,15 @@ module _ (R : Relation) (keeps : Keeps R) (shorts : R short short) (u : CoreUnit
           stmt_in_range true true body two.0 _ _
           (record { next = st; on_break = h.next; on_continue = st; on_return = h.on_return })) l w
           is
+      stmt_in_range b c (switch e labels ss) fit k j h l w is =
+          let two = and_parts _ (stmts_fit u f true c ss) fit in
+          given_in_range (value e l w.memory) _ _ (λ v i. given_in_range (as_integer v) _ _ (λ n m.
+          part_in_range (chosen_part labels n) _ _ (λ part. parts_in_range c ss part two.1 _ _ (record {
+            next = h.next;
+            on_break = h.next;
+            on_continue = h.on_continue;
+            on_return = h.on_return;
+          })) _ _ h.next l w is))
       stmt_in_range b c break fit k j h l w is = h.on_break l w is
       stmt_in_range b c continue fit k j h l w is = h.on_continue l w is
       stmt_in_range b c (return None) fit k j h l w is =
@@ -476,6 +492,23 @@ module _ (R : Relation) (keeps : Keeps R) (shorts : R short short) (u : CoreUnit
             on_continue = h.on_continue;
             on_return = h.on_return;
           }) l w is
+
+      pub parts_in_range :
+          (may_continue : Bool) (ss : CoreStmts) (part : ℕ) → stmts_fit u f true may_continue ss ≡ true
+          → (k j : Continuations) → AllInRange R u f start k j
+          → RelatedInRange R u f start (runs_from ss part one k) (runs_from ss part other j)
+      parts_in_range c no_stmts part fit k j h l w is = h.next l w is
+      parts_in_range c (stmt_and s ss) zero fit k j h l w is =
+          let two = and_parts (stmt_fits u f true c s) (stmts_fit u f true c ss) fit in
+          stmt_in_range true c s two.0 _ _
+          (record {
+            next = stmts_in_range true c ss two.1 k j h;
+            on_break = h.on_break;
+            on_continue = h.on_continue;
+            on_return = h.on_return;
+          }) l w is
+      parts_in_range c (stmt_and s ss) (suc part) fit k j h l w is =
+          parts_in_range c ss part (and_parts (stmt_fits u f true c s) (stmts_fit u f true c ss) fit).1 k j h l w is
 
   -- ---- calls
 

@@ -1,7 +1,7 @@
 -- The meaning of core keeps each relation of runs that events keep.
 use Rattle.std.proofs.Common.{ℕ, zero, suc, ◌≤◌, Bool, true, false, if◌then◌else◌, Option, Some, None, refl, arith}
 use Rattle.std.specs.List.{slice_get}
-use Rattle.qs_memory.specs.Values.{Pointer, as_pointer}
+use Rattle.qs_memory.specs.Values.{Pointer, as_integer, as_pointer}
 use Rattle.qs_memory.specs.Memory as memory
 use Rattle.qs_memory.specs.Pointers.{truth}
 use Rattle.qs_events.specs.Runs.{Within}
@@ -10,9 +10,9 @@ use Rattle.qs_calls.specs.Calls.{CallsOf}
 use Rattle.qs_calls.specs.Relations.{Relation, Keeps, ReturnsRelated, CallsRelated, BodiesRelated}
 use Rattle.qs_calls.proofs.RelationLaws.{given_related, invoke_related, activate_related, within_keeps, Follows, follows_keeps, leaves_follows}
 use Rattle.qs_core.specs.declared.numbers.Target.TheVariants as targets
-use Rattle.qs_core.specs.Trees.{CoreExprTree, CoreStmtTree, skip, seq, assign, store, copy, fill, call, branch, loop, break, continue, return, CoreStmts, no_stmts, stmt_and, CoreFunctionTree, CoreUnitTree}
+use Rattle.qs_core.specs.Trees.{CoreExprTree, CoreStmtTree, skip, seq, assign, store, copy, fill, call, branch, loop, switch, break, continue, return, CoreStmts, no_stmts, stmt_and, CoreFunctionTree, CoreUnitTree}
 use Rattle.qs_core.specs.Expressions.{Locals, value, values}
-use Rattle.qs_core.specs.Statements.{Continuation, Continuations, Context, assigned, take_result, given_pointer, repeated, after_step, runs, runs_all}
+use Rattle.qs_core.specs.Statements.{Continuation, Continuations, Context, assigned, take_result, given_pointer, repeated, after_step, chosen_part, at_part, runs, runs_all, runs_from}
 use Rattle.qs_core.specs.Units.{frame_of, body_of, calls_within}
 use Rattle.qs_core.specs.Laws.{CoreGrows, CallsAlone}
 
@@ -38,6 +38,12 @@ module _ (R : Relation) where
         (b : Bool) (o p q r : RootRun) → R o q → R p r → R (if b then o else p) (if b then q else r)
     choice_related true o p q r h g = h
     choice_related false o p q r h g = g
+
+    part_related :
+        (part : Option ℕ) (f g : ℕ → Continuation) → ((n : ℕ) → Related (f n) (g n))
+        → (k j : Continuation) → Related k j → Related (at_part part f k) (at_part part g j)
+    part_related None f g h k j e = e
+    part_related (Some part) f g h k j e = h part
 
     result_related :
         (x : Option ℕ) (f g : Continuation) → Related f g → (l : Locals)
@@ -99,6 +105,15 @@ module _ (R : Relation) where
               on_continue = st;
               on_return = h.on_return;
             })) l w
+        stmt_related (switch e labels ss) k j h l w =
+            given_related R keeps (value e l w.memory) _ _
+            (λ v. given_related R keeps (as_integer v) _ _ (λ n.
+            part_related (chosen_part labels n) _ _ (λ part. parts_related ss part _ _ (record {
+              next = h.next;
+              on_break = h.next;
+              on_continue = h.on_continue;
+              on_return = h.on_return;
+            })) _ _ h.next l w))
         stmt_related break k j h l w = h.on_break l w
         stmt_related continue k j h l w = h.on_continue l w
         stmt_related (return None) k j h l w = h.on_return None w
@@ -116,6 +131,19 @@ module _ (R : Relation) where
               on_continue = h.on_continue;
               on_return = h.on_return;
             }) l w
+
+        pub parts_related :
+            (ss : CoreStmts) (part : ℕ) (k j : Continuations) → AllRelated k j
+            → Related (runs_from ss part one k) (runs_from ss part other j)
+        parts_related no_stmts part k j h l w = h.next l w
+        parts_related (stmt_and s ss) zero k j h l w =
+            stmt_related s _ _ (record {
+              next = stmts_related ss k j h;
+              on_break = h.on_break;
+              on_continue = h.on_continue;
+              on_return = h.on_return;
+            }) l w
+        parts_related (stmt_and s ss) (suc part) k j h l w = parts_related ss part k j h l w
 
       pub body_related : (f : CoreFunctionTree) → BodiesRelated R (body_of f one) (body_of f other)
       body_related f first k j h e w =

@@ -33,7 +33,7 @@ told (has_ended left) = has_ended (returned left.result)
 told is_undefined = is_undefined
 told is_short = is_short
 
-abbrev end_of : RootRun → Ending (Option ℕ)
+abbrev pub end_of : RootRun → Ending (Option ℕ)
 end_of run = told (ending_of run)
 
 -- ---- calls: main calls f (2), which calls itself twice
@@ -67,7 +67,7 @@ quiet = record {
   body = stmts_of [];
 }
 
-abbrev main_with : List CoreStmtTree → CoreUnitTree
+abbrev pub main_with : List CoreStmtTree → CoreUnitTree
 main_with body = record {
   functions = record {
     name = codes "main";
@@ -82,10 +82,10 @@ main_with body = record {
   data_blocks = record { is_writable = false; pieces = bytes (65 ∷ 0 ∷ []) ∷ [] } ∷ [];
 }
 
-abbrev int : ℕ → CoreExprTree
+abbrev pub int : ℕ → CoreExprTree
 int n = literal scalars.Int n
 
-abbrev c : CoreExprTree
+abbrev pub c : CoreExprTree
 c = variable scalars.Int 0
 
 -- the element of the block
@@ -120,7 +120,7 @@ a_turn_too_many = refl
 
 -- ---- loops: c counts from 0 in the step, and what the body does is put
 
-abbrev counted : (body : CoreStmtTree) → CoreUnitTree
+abbrev pub counted : (body : CoreStmtTree) → CoreUnitTree
 counted body = main_with (
     assign (targets.Variable 0) (int 0)
     ∷ loop body (assign (targets.Variable 0) (binary (binaries.Arithmetic arithmetics.Add Signed) c (int 1)))

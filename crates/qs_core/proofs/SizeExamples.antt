@@ -9,10 +9,11 @@ use Rattle.qs_memory.specs.declared.operation.Comparison.TheVariants.{Less}
 use Rattle.qs_memory.specs.declared.operation.BinaryOperation.TheVariants.{Arithmetic, Compare, Move}
 use Rattle.qs_calls.specs.declared.callee.Callee.TheVariants.{Function, PutChar}
 use Rattle.qs_calls.specs.declared.parameter.Parameter.TheVariants.{Placed}
+use Rattle.qs_core.specs.declared.labels.CoreLabel.TheVariants.{Case, Default}
 use Rattle.qs_core.specs.declared.numbers.BlockId.TheVariants.{Local, Data}
 use Rattle.qs_core.specs.declared.numbers.Target.TheVariants.{Variable}
 use Rattle.qs_core.specs.Trees.{CoreExprTree, literal, null_pointer, variable, temporary, address_of, load, member, binary, conversion, logical_and, conditional}
-use Rattle.qs_core.specs.Trees.{skip, assign, store, copy, fill, call, branch, loop, break, return, CoreStmts, stmts_of, CoreFunctionTree}
+use Rattle.qs_core.specs.Trees.{skip, assign, store, copy, fill, call, branch, loop, switch, break, return, CoreStmts, stmts_of, CoreFunctionTree}
 use Rattle.qs_core.specs.Sizes.{parts_held, held, held_in, values, taken_words, address_words, stmt_words, words, unit_words}
 
 abbrev x : CoreExprTree
@@ -88,6 +89,10 @@ stored_at_an_element = refl
 given : held_in (call None PutChar (sum x y ∷ x ∷ sum x y ∷ [])) ≡ 2
 given = refl
 
+-- the operand is held while it is compared, and not while the parts run
+switched : held_in (switch (sum x y) [] (stmts_of (call None PutChar (sum x y ∷ sum x y ∷ []) ∷ []))) ≡ 2
+switched = refl
+
 -- ---- functions
 
 abbrev function : CoreStmts → CoreFunctionTree
@@ -147,6 +152,16 @@ of_a_conjunction = refl
 
 of_a_loop : stmt_words (loop break skip) ≡ 1 + 3
 of_a_loop = refl
+
+-- the sum is computed once, and compared for each label: three for itself, two for the number, two to go there
+of_a_switch :
+    stmt_words (switch (sum x y) (Case 1 0 ∷ Default 1 ∷ []) (stmts_of (skip ∷ break ∷ [])))
+    ≡ (3 + 3 + 1 + 1) + 1 + (3 + 2 + 2) * 2 + 1 + 1
+of_a_switch = refl
+
+-- and once where there is no label
+of_a_switch_without_labels : stmt_words (switch x [] (stmts_of [])) ≡ 3 + (3 + 2 + 2) + 1
+of_a_switch_without_labels = refl
 
 of_an_assignment : stmt_words (assign (Variable 0) x) ≡ 3 + 3
 of_an_assignment = refl

@@ -3,7 +3,7 @@ use Rattle.std.specs.Prelude.{◌≡◌, ℕ, zero, suc, ◌<◌, ◌==◌, Bool
 use Rattle.std.specs.List.{slice_get, list_any}
 use Rattle.qs_calls.specs.declared.callee.Callee.{Callee}
 use Rattle.qs_calls.specs.declared.callee.Callee.TheVariants.{Function, PutChar, GetChar}
-use Rattle.qs_core.specs.Trees.{CoreStmtTree, skip, seq, assign, store, copy, fill, call, branch, loop, break, continue, return, CoreStmts, no_stmts, stmt_and, CoreFunctionTree, CoreUnitTree}
+use Rattle.qs_core.specs.Trees.{CoreStmtTree, skip, seq, assign, store, copy, fill, call, branch, loop, switch, break, continue, return, CoreStmts, no_stmts, stmt_and, CoreFunctionTree, CoreUnitTree}
 
 -- the functions with a body that a statement calls, in the order of the text
 abbrev pub callee : Callee → List ℕ
@@ -22,6 +22,7 @@ abbrev mutual
   callees (call x f arguments) = callee f
   callees (branch e a b) = callees a ++ callees b
   callees (loop body step) = callees body ++ callees step
+  callees (switch e labels ss) = all_callees ss
   callees break = []
   callees continue = []
   callees (return e) = []

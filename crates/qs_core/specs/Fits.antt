@@ -1,5 +1,5 @@
 -- What holds of every unit of core: numbers are below their counts, operations are on operands of
--- the types that they take, breaks and continues stand where there is a loop for them, and the
+-- the types that they take, breaks and continues stand where there is a loop or a switch for them, labels before parts, and the
 -- temporary that takes a call's result occurs in none of its arguments.
 use Rattle.std.specs.Prelude.{ℕ, ◌+◌, ◌==◌, ◌&&◌, ◌||◌, not, nat_lt, nat_le, Bool, true, false, List, [], ◌∷◌, length, map}
 use Rattle.std.specs.Prelude.{Option, Some, None, codes, bytes_eq}
@@ -14,14 +14,17 @@ use Rattle.qs_memory.specs.declared.scalar.Scalar.TheVariants as scalars
 use Rattle.qs_calls.specs.Starts.{Signature, signature_of}
 use Rattle.qs_calls.specs.declared.parameter.Parameter.{Parameter}
 use Rattle.qs_calls.specs.declared.parameter.Parameter.TheVariants.{Plain, Placed}
+use Rattle.qs_core.specs.declared.labels.CoreLabel.{CoreLabel}
+use Rattle.qs_core.specs.declared.labels.CoreLabel.TheVariants.{Case, Default}
 use Rattle.qs_core.specs.declared.numbers.BlockId.{BlockId}
 use Rattle.qs_core.specs.declared.numbers.BlockId.TheVariants.{Local, Data}
 use Rattle.qs_core.specs.Trees.{CoreExprTree, literal, null_pointer, variable, temporary, address_of, load, member}
 use Rattle.qs_core.specs.Trees.{unary, binary, conversion, logical_and, logical_or, conditional}
-use Rattle.qs_core.specs.Trees.{CoreStmtTree, skip, seq, assign, store, copy, fill, call, branch, loop, break, continue, return}
+use Rattle.qs_core.specs.Trees.{CoreStmtTree, skip, seq, assign, store, copy, fill, call, branch, loop, switch, break, continue, return}
 use Rattle.qs_core.specs.Trees.{CoreStmts, no_stmts, stmt_and, CoreParameterTree, CoreVariableTree, CoreFunctionTree}
 use Rattle.qs_core.specs.Trees.{PieceTree, blank, bytes, pointer, DataBlockTree, CoreUnitTree}
 use Rattle.qs_core.specs.Expressions.{type_of}
+use Rattle.qs_core.specs.Outline.{count_of}
 use Rattle.qs_core.specs.Units.{data_block}
 use Rattle.qs_core.specs.Interfaces.{variable_type, temporary_type, target_type, parameter_types, interface_of}
 
@@ -104,6 +107,11 @@ abbrev pub returned_fits : CoreUnitTree → CoreFunctionTree → Option CoreExpr
 returned_fits u f None = true
 returned_fits u f (Some e) = expr_fits u f e && is_type f.result_type (type_of e)
 
+-- 6.8.4.2p5: a case has a value of the operand's type; a label stands before one of so many parts
+abbrev pub label_fits : (operand_type : Scalar) → (parts : ℕ) → CoreLabel → Bool
+label_fits s parts (Case n part) = has_type s (integer n) && nat_lt part parts
+label_fits s parts (Default part) = nat_lt part parts
+
 abbrev mutual
   -- where a break, and a continue, may stand
   pub stmt_fits :
@@ -125,6 +133,9 @@ abbrev mutual
   -- a continue goes to the step, so none stands in the step itself
   stmt_fits u f b c (loop body step) =
       stmt_fits u f true true body && stmt_fits u f true false step
+  stmt_fits u f b c (switch e labels ss) =
+      expr_fits u f e && is_promoted (type_of e)
+      && list_all (label_fits (type_of e) (count_of ss)) labels && stmts_fit u f true c ss
   stmt_fits u f b c break = b
   stmt_fits u f b c continue = c
   stmt_fits u f b c (return e) = returned_fits u f e

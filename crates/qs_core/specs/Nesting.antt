@@ -1,8 +1,8 @@
 -- How deep the statements of core nest.
 use Rattle.std.specs.Prelude.{◌≡◌, ℕ, ◌+◌, max, List, [], ◌∷◌, ◌++◌}
-use Rattle.qs_core.specs.Trees.{CoreStmtTree, skip, seq, assign, store, copy, fill, call, branch, loop, break, continue, return, CoreStmts, no_stmts, stmt_and, stmts_of, CoreFunctionTree, CoreUnitTree}
+use Rattle.qs_core.specs.Trees.{CoreStmtTree, skip, seq, assign, store, copy, fill, call, branch, loop, switch, break, continue, return, CoreStmts, no_stmts, stmt_and, stmts_of, CoreFunctionTree, CoreUnitTree}
 
--- a sequence, a conditional and a loop are one deeper than the deepest of their parts
+-- a sequence, a conditional, a loop and a switch are one deeper than the deepest of their parts
 abbrev mutual
   pub nesting : CoreStmtTree → ℕ
   nesting skip = 0
@@ -14,6 +14,7 @@ abbrev mutual
   nesting (call x g es) = 0
   nesting (branch e s t) = 1 + max (nesting s) (nesting t)
   nesting (loop body step) = 1 + max (nesting body) (nesting step)
+  nesting (switch e labels ss) = 1 + nesting_in_all ss
   nesting break = 0
   nesting continue = 0
   nesting (return e) = 0

@@ -1,11 +1,17 @@
 -- The outline of a unit: a line for each function, and a line for each of its statements, a statement before its parts.
-use Rattle.std.specs.Prelude.{ℕ, ◌+◌, List, [], ◌∷◌, ◌++◌, codes, decimal, flat_map, Option, Some, None}
+use Rattle.std.specs.Prelude.{ℕ, ℤ, ◌+◌, List, [], ◌∷◌, ◌++◌, codes, decimal, flat_map, Option, Some, None}
+use Rattle.std.specs.Fmt.{signed_decimal}
 use Rattle.std.specs.List.{slice_get}
+use Rattle.qs_memory.specs.declared.scalar.Scalar.{Scalar}
 use Rattle.qs_calls.specs.declared.callee.Callee.{Callee}
 use Rattle.qs_calls.specs.declared.callee.Callee.TheVariants.{Function, PutChar, GetChar}
+use Rattle.qs_core.specs.declared.labels.CoreLabel.{CoreLabel}
+use Rattle.qs_core.specs.declared.labels.CoreLabel.TheVariants.{Case, Default}
 use Rattle.qs_core.specs.declared.numbers.Target.{Target}
 use Rattle.qs_core.specs.declared.numbers.Target.TheVariants as targets
-use Rattle.qs_core.specs.Trees.{CoreExprTree, CoreStmtTree, skip, seq, assign, store, copy, fill, call, branch, loop, break, continue, return, CoreStmts, no_stmts, stmt_and, CoreParameterTree, CoreFunctionTree, CoreUnitTree}
+use Rattle.qs_core.specs.Trees.{CoreExprTree, CoreStmtTree, skip, seq, assign, store, copy, fill, call, branch, loop, switch, break, continue, return, CoreStmts, no_stmts, stmt_and, CoreParameterTree, CoreFunctionTree, CoreUnitTree}
+use Rattle.qs_core.specs.Expressions.{type_of}
+use Rattle.qs_core.specs.Terms.{literal_value}
 use Rattle.qs_core.specs.FunctionNames.{name_in}
 use Rattle.qs_core.specs.TermTexts.{variable_text, temporary_text, expr_text, test_text}
 
@@ -62,6 +68,23 @@ call_form functions f x g arguments = codes "call " ++ destination_text x ++ cod
 abbrev pub if_form : CoreFunctionTree → CoreExprTree → List ℕ
 if_form f e = codes "if " ++ test_text f e
 
+-- a label with the number of the part before which it stands; the value is what its 32 bits are in the operand's type
+abbrev pub case_text : (value : ℤ) → (part : ℕ) → List ℕ
+case_text value part = codes " " ++ signed_decimal value ++ codes "@" ++ decimal part
+
+abbrev pub default_text : (part : ℕ) → List ℕ
+default_text part = codes " default@" ++ decimal part
+
+abbrev pub label_text : (operand_type : Scalar) → CoreLabel → List ℕ
+label_text s (Case n part) = case_text (literal_value s n) part
+label_text s (Default part) = default_text part
+
+abbrev pub labels_text : (operand_type : Scalar) → List CoreLabel → List ℕ
+labels_text s labels = flat_map (label_text s) labels
+
+abbrev pub switch_form : CoreFunctionTree → CoreExprTree → List CoreLabel → List ℕ
+switch_form f e labels = codes "switch " ++ expr_text f e ++ labels_text (type_of e) labels
+
 abbrev pub return_form : CoreFunctionTree → Option CoreExprTree → List ℕ
 return_form f e = codes "return" ++ returned_text f e
 
@@ -80,6 +103,7 @@ abbrev mutual
       line path (if_form f e) ++ outline_stmt functions f (part_path path 0) a ++ outline_stmt functions f (part_path path 1) b
   outline_stmt functions f path (loop body step) =
       line path (codes "loop") ++ outline_stmt functions f (part_path path 0) body ++ outline_stmt functions f (part_path path 1) step
+  outline_stmt functions f path (switch e labels ss) = line path (switch_form f e labels) ++ outline_parts functions f path 0 ss
   outline_stmt functions f path break = line path (codes "break")
   outline_stmt functions f path continue = line path (codes "continue")
   outline_stmt functions f path (return e) = line path (return_form f e)

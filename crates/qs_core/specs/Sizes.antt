@@ -4,7 +4,7 @@ use Rattle.qs_memory.specs.declared.operation.BinaryOperation.{BinaryOperation}
 use Rattle.qs_memory.specs.declared.operation.BinaryOperation.TheVariants as binaries
 use Rattle.qs_core.specs.Trees.{CoreExprTree, literal, null_pointer, variable, temporary, address_of, load, member}
 use Rattle.qs_core.specs.Trees.{unary, binary, conversion, logical_and, logical_or, conditional}
-use Rattle.qs_core.specs.Trees.{CoreStmtTree, skip, seq, assign, store, copy, fill, call, branch, loop, break, continue, return}
+use Rattle.qs_core.specs.Trees.{CoreStmtTree, skip, seq, assign, store, copy, fill, call, branch, loop, switch, break, continue, return}
 use Rattle.qs_core.specs.Trees.{CoreStmts, no_stmts, stmt_and, CoreFunctionTree, CoreUnitTree}
 
 -- ---- operands: what stands in an instruction as it is, so that nothing has to hold its value
@@ -81,6 +81,7 @@ abbrev mutual
   held_in (call x f arguments) = all_held arguments
   held_in (branch e a b) = max (held e) (max (held_in a) (held_in b))
   held_in (loop body step) = max (held_in body) (held_in step)
+  held_in (switch e labels ss) = max (held e) (held_in_all ss)
   held_in break = 0
   held_in continue = 0
   held_in (return e) = option_held e
@@ -250,8 +251,14 @@ enter_words = 3 + 1 + 12
 abbrev pub leave_words : ℕ
 leave_words = 3 + 1 + 12 + 1
 
+-- a label compares the operand with a number: what the operand takes at most, LUI and ADDI for the number, a branch round a
+-- JAL
+abbrev pub label_words : ℕ
+label_words = 3 + 2 + 2
+
 -- A copy has its count by LUI and ADDI and a loop of six instructions, a fill one of four, and behind it up to three
--- stores of bytes. The parts of an `if` end in a jump each; a loop begins with one, goes back by one and goes on by one.
+-- stores of bytes. The parts of an `if` end in a jump each; a loop begins with one, goes back by one and goes on by one;
+-- a switch that meets no case ends in one, and compares its operand at least once.
 abbrev mutual
   pub stmt_words : CoreStmtTree → ℕ
   stmt_words skip = 0
@@ -263,6 +270,7 @@ abbrev mutual
   stmt_words (call x f arguments) = all_taken_words arguments + call_words + result_words x
   stmt_words (branch e a b) = use_of e as_condition + stmt_words a + stmt_words b + 2
   stmt_words (loop body step) = stmt_words body + stmt_words step + 3
+  stmt_words (switch e labels ss) = taken_words e + label_words * max 1 (length labels) + 1 + stmts_words ss
   stmt_words break = 1
   stmt_words continue = 1
   stmt_words (return e) = option_words e + leave_words

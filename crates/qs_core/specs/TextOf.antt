@@ -2,6 +2,7 @@
 use Rattle.std.specs.Prelude.{ℕ, ◌+◌, List, ◌++◌, length, codes, flat_map, map, Option}
 use Rattle.qs_memory.specs.declared.operation.Signedness.{Signedness}
 use Rattle.qs_calls.specs.declared.callee.Callee.{Callee}
+use Rattle.qs_core.specs.declared.labels.CoreLabel.{CoreLabel}
 use Rattle.qs_core.specs.declared.numbers.Target.{Target}
 use Rattle.qs_core.specs.declared.expressions.CoreExpr.{CoreExpr}
 use Rattle.qs_core.specs.declared.statements.CoreStmt.{CoreStmt}
@@ -20,7 +21,7 @@ use Rattle.qs_core.specs.TreeOf.{core_expr, core_exprs, option_expr, core_stmt, 
 use Rattle.qs_core.specs.TermTreeOf.{core_term, core_pair, core_condition, core_conditions, option_term, option_condition}
 use Rattle.qs_core.specs.TermTexts.{applied, applied_to_both, term_text, condition_text, expr_text, test_text}
 use Rattle.qs_core.specs.TermTexts as tree_texts
-use Rattle.qs_core.specs.Outline.{part_path, line, seq_form, argument_text, returned_text, assign_form, call_form, if_form, return_form, outline_stmt, outline_parts, parameter_text, outline_function}
+use Rattle.qs_core.specs.Outline.{part_path, line, seq_form, argument_text, returned_text, assign_form, call_form, if_form, switch_form, return_form, outline_stmt, outline_parts, parameter_text, outline_function}
 
 -- ---- terms
 
@@ -97,6 +98,9 @@ call_line functions f path x g es = line path (call_form (function_trees functio
 
 abbrev pub if_line : CoreFunction → (path : List ℕ) → CoreExpr → List ℕ
 if_line f path e = line path (if_form (function_tree f) (core_expr e))
+
+abbrev pub switch_line : CoreFunction → (path : List ℕ) → CoreExpr → List CoreLabel → List ℕ
+switch_line f path e labels = line path (switch_form (function_tree f) (core_expr e) labels)
 
 abbrev pub return_line : CoreFunction → (path : List ℕ) → Option CoreExpr → List ℕ
 return_line f path e = line path (return_form (function_tree f) (option_expr e))

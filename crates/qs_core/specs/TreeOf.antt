@@ -1,7 +1,7 @@
 -- The trees that the program's values stand for.
 use Rattle.std.specs.Prelude.{ℕ, List, Option, map, option_map}
 use Rattle.qs_memory.specs.BlankOf.{blank_tree}
-use Rattle.qs_core.specs.Trees.{CoreExprTree, literal, null_pointer, variable, temporary, address_of, load, member, unary, binary, conversion, logical_and, logical_or, conditional, CoreStmtTree, skip, seq, assign, store, copy, fill, call, branch, loop, break, continue, return, stmts_of, CoreParameterTree, CoreVariableTree, CoreFunctionTree, PieceTree, blank, bytes, pointer, DataBlockTree, CoreUnitTree}
+use Rattle.qs_core.specs.Trees.{CoreExprTree, literal, null_pointer, variable, temporary, address_of, load, member, unary, binary, conversion, logical_and, logical_or, conditional, CoreStmtTree, skip, seq, assign, store, copy, fill, call, branch, loop, switch, break, continue, return, stmts_of, CoreParameterTree, CoreVariableTree, CoreFunctionTree, PieceTree, blank, bytes, pointer, DataBlockTree, CoreUnitTree}
 use Rattle.qs_core.specs.declared.expressions.CoreExpr.{CoreExpr, CoreExpr-F, fold-CoreExpr}
 use Rattle.qs_core.specs.declared.expressions.Operands.{Operands, Operands-F, fold-Operands}
 use Rattle.qs_core.specs.declared.statements.CoreStmt.{CoreStmt, CoreStmt-F, fold-CoreStmt}
@@ -57,6 +57,7 @@ stmt_step (CoreStmt-F.Fill b a) = fill (blank_tree b) (core_expr a)
 stmt_step (CoreStmt-F.Call k f arguments) = call k f (core_exprs arguments.items)
 stmt_step (CoreStmt-F.If c a b) = branch (core_expr c) a.value b.value
 stmt_step (CoreStmt-F.Loop a b) = loop a.value b.value
+stmt_step (CoreStmt-F.Switch c labels ss) = switch (core_expr c) labels.items (stmts_of ss.items)
 stmt_step CoreStmt-F.Break = break
 stmt_step CoreStmt-F.Continue = continue
 stmt_step (CoreStmt-F.Return e) = return (option_expr e)

@@ -7,6 +7,7 @@ use Rattle.qs_memory.specs.declared.operation.UnaryOperation.{UnaryOperation}
 use Rattle.qs_memory.specs.declared.operation.BinaryOperation.{BinaryOperation}
 use Rattle.qs_calls.specs.declared.callee.Callee.{Callee}
 use Rattle.qs_calls.specs.declared.parameter.Parameter.{Parameter}
+use Rattle.qs_core.specs.declared.labels.CoreLabel.{CoreLabel}
 use Rattle.qs_core.specs.declared.numbers.BlockId.{BlockId}
 use Rattle.qs_core.specs.declared.numbers.Target.{Target}
 
@@ -45,6 +46,7 @@ mutual
     call : Option ℕ → Callee → List CoreExprTree → CoreStmtTree
     branch : CoreExprTree → CoreStmtTree → CoreStmtTree → CoreStmtTree
     loop : (body step : CoreStmtTree) → CoreStmtTree
+    switch : (operand : CoreExprTree) → List CoreLabel → (parts : CoreStmts) → CoreStmtTree
     break : CoreStmtTree
     continue : CoreStmtTree
     return : Option CoreExprTree → CoreStmtTree

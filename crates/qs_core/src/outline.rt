@@ -4,19 +4,23 @@ ghost use Rattle.qs_core.specs.Trees.{stmts_of};
 ghost use Rattle.qs_core.specs.TreeOf.{core_stmts, function_tree, function_trees, parameter_tree};
 ghost use Rattle.qs_core.specs.UnitTrees.{unit_tree};
 ghost use Rattle.qs_core.specs.Puts.{Puts};
-ghost use Rattle.qs_core.specs.TextOf.{assign_line, call_line, if_line, return_line, seq_line};
+ghost use Rattle.qs_core.specs.TextOf.{assign_line, call_line, if_line, return_line, seq_line, switch_line};
 ghost use Rattle.qs_core.specs.TextOf as texts;
 ghost use Rattle.qs_core.specs.Outline as spec;
 
 use crate::expressions::CoreExpr;
-use crate::names::{put, put_count, put_temporary, put_variable};
+use crate::labels::CoreLabel;
+use crate::names::{put, put_count, put_number, put_temporary, put_variable, put_whole};
 use crate::numbers::Target;
 use crate::statements::CoreStmt;
 use crate::term_text::{put_expr, put_test};
+use crate::terms::literal_value;
+use crate::types::type_of;
 use crate::unit::CoreUnit;
 use crate::units::{CoreFunction, CoreParameter};
 use qs_base::NoMemory;
 use qs_calls::Callee;
+use qs_memory::Scalar;
 use std::alloc::Global;
 
 // ---- lines
@@ -129,6 +133,40 @@ fn put_returned(
     }
 }
 
+fn put_case(out: &mut Vec<u8>, value: i64, part: u32) -> Result<(), NoMemory>
+    ensures { Puts out.old (spec.case_text value part) out.new result }
+{
+    put(out, b" ")?;
+    put_whole(out, value)?;
+    put(out, b"@")?;
+    put_number(out, part)
+}
+
+fn put_default(out: &mut Vec<u8>, part: u32) -> Result<(), NoMemory>
+    ensures { Puts out.old (spec.default_text part) out.new result }
+{
+    put(out, b" default@")?;
+    put_number(out, part)
+}
+
+fn put_label(out: &mut Vec<u8>, s: Scalar, label: CoreLabel) -> Result<(), NoMemory>
+    ensures { Puts out.old (spec.label_text s label) out.new result }
+{
+    match label {
+        CoreLabel::Case { value, part } => put_case(out, literal_value(s, value), part),
+        CoreLabel::Default { part } => put_default(out, part),
+    }
+}
+
+fn put_labels(out: &mut Vec<u8>, s: Scalar, labels: &[CoreLabel]) -> Result<(), NoMemory>
+    ensures { Puts out.old (spec.labels_text s labels.now) out.new result }
+{
+    for label in labels {
+        put_label(out, s, *label)?;
+    }
+    Ok(())
+}
+
 // ---- statements
 
 fn put_assign(
@@ -182,6 +220,23 @@ fn put_if(
     put_path(out, path)?;
     put(out, b" if ")?;
     put_test(alloc, out, f, e)?;
+    put(out, b"\n")
+}
+
+fn put_switch(
+    alloc: Global,
+    out: &mut Vec<u8>,
+    f: &CoreFunction,
+    path: &[u8],
+    e: &CoreExpr,
+    labels: &[CoreLabel],
+) -> Result<(), NoMemory>
+    ensures { Puts out.old (switch_line f.now path.now e.now labels.now) out.new result }
+{
+    put_path(out, path)?;
+    put(out, b" switch ")?;
+    put_expr(alloc, out, f, e)?;
+    put_labels(out, type_of(e), labels)?;
     put(out, b"\n")
 }
 
@@ -283,6 +338,10 @@ fn put_stmt(
             put_line(out, path, b"loop")?;
             put_part(alloc, out, functions, f, path, 0, body)?;
             put_part(alloc, out, functions, f, path, 1, step)
+        }
+        CoreStmt::Switch(e, labels, parts) => {
+            put_switch(alloc, out, f, path, e, labels)?;
+            put_parts(alloc, out, functions, f, path, parts)
         }
         CoreStmt::Break => put_line(out, path, b"break"),
         CoreStmt::Continue => put_line(out, path, b"continue"),

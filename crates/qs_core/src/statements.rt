@@ -1,6 +1,7 @@
 // Statements of core.
 
 use crate::expressions::CoreExpr;
+use crate::labels::CoreLabel;
 use crate::numbers::Target;
 use qs_calls::Callee;
 use qs_memory::{Blank, Scalar};
@@ -32,9 +33,12 @@ pub enum CoreStmt {
     If(CoreExpr, Box<CoreStmt>, Box<CoreStmt>),
     /// the first, its body, then the second, its step, again and again
     Loop(Box<CoreStmt>, Box<CoreStmt>),
-    /// ends the loop
+    /// the statements, its parts, from the one before which the first case of the expression's value
+    /// stands, or else `default`; nothing where neither does
+    Switch(CoreExpr, Vec<CoreLabel>, Vec<CoreStmt>),
+    /// ends the innermost loop or switch
     Break,
-    /// goes to the step of the loop
+    /// goes to the step of the innermost loop
     Continue,
     /// ends the function, with this result
     Return(Option<CoreExpr>),
@@ -59,6 +63,7 @@ impl Drop for CoreStmt {
             CoreStmt::Call(_, _, _) => {}
             CoreStmt::If(_, _, _) => {}
             CoreStmt::Loop(_, _) => {}
+            CoreStmt::Switch(_, _, _) => {}
             CoreStmt::Break => {}
             CoreStmt::Continue => {}
             CoreStmt::Return(_) => {}

@@ -15,8 +15,8 @@ use std::alloc::Global;
 
 // ---- literals
 
-// The number that the bits of a literal stand for.
-fn literal_value(s: Scalar, n: u32) -> i64
+/// The number that the bits of a literal of this type stand for.
+pub fn literal_value(s: Scalar, n: u32) -> i64
     ensures { result ≡ spec.literal_value s n }
 {
     match s {

@@ -11,6 +11,8 @@ use Rattle.qs_memory.specs.declared.operation.BinaryOperation.{BinaryOperation}
 use Rattle.qs_memory.specs.declared.operation.BinaryOperation.TheVariants as binaries
 use Rattle.qs_core.specs.Trees as core
 use Rattle.qs_core.specs.Trees.{CoreExprTree, CoreStmtTree, CoreStmts, no_stmts, stmt_and}
+use Rattle.qs_core.specs.declared.labels.CoreLabel.{CoreLabel}
+use Rattle.qs_core.specs.declared.labels.CoreLabel.TheVariants.{Case, Default}
 use Rattle.qs_tac.specs.Trees.{InstructionTree, move, unary, binary, convert, address_of, load, store}
 use Rattle.qs_tac.specs.Trees.{copy, fill, call, jump, branch, return}
 use Rattle.qs_tac.specs.declared.operands.Operand.{Operand}
@@ -20,8 +22,10 @@ use Rattle.qs_tac.specs.Fits.{is_word}
 use Rattle.qs_lower_expressions.specs.Exits.{Exit, falls, goes, exit_code, branch_code}
 use Rattle.qs_lower_expressions.specs.Operands.{converted, truth_of, truth_operand, unary_of, folded, gives_integer, gives_truth, is_idle, constant_step, swaps}
 use Rattle.qs_lower_expressions.specs.Expressions.{IndexCode, ExprCode, simple_code, code_of, own, based, known_code, tested, no_code, by_operand, by_value, number_of, by_test, further, behind_parts, unindexed, indexed_by, by_address, of_element, of_unary_value, with_test, of_truth, of_plus, of_compound, simple_or, converting, of_conversion, pair_code, of_binary_value, with_condition, of_operation, stepped_or, of_choice, of_and, of_or, of_conditional, lowered, all_code, all_operands}
-use Rattle.qs_lower.specs.Statements.{Exits, Way, to_next, to_break, to_continue, Part, Tested, StmtCode, going, joined, redirected, straight, target_of, tested_behind, of_before, of_ways, branch_part, test_of, is_next, of_branch, test_last, body_first, body_alone, loop_part, stmt_code, stmts_code}
+use Rattle.qs_lower.specs.Choices.{case_code, is_asked, asked_code, choice_code}
+use Rattle.qs_lower.specs.Statements.{Exits, Way, to_next, to_break, to_continue, Part, Tested, StmtCode, going, joined, redirected, straight, target_of, tested_behind, of_before, of_ways, branch_part, test_of, is_next, of_branch, test_last, body_first, body_alone, loop_part, in_switch, stmt_code, stmts_code}
 use Rattle.qs_lower_expressions.specs.Threads.{retargeted}
+use Rattle.qs_lower.proofs.StmtSizeLaws.{row}
 use Rattle.qs_lower.specs.WordLaws.{arguments_of, FewArguments, most_arguments, most_arguments_in}
 
 module _ (n : ℕ) where
@@ -301,6 +305,19 @@ module _ (n : ℕ) where
   loop_few t (Some d) body step g h k =
       if_part_few (d.is_idle && is_next step.way) (body_alone body) (test_last t d step.part) (λ x at. h _ at) (test_last_few t d step.part g k.part)
 
+  cases_few : (o : Operand) (labels : List CoreLabel) (places : List ℕ) → Few (case_code o labels places)
+  cases_few o [] places = tt
+  cases_few o (Case m part ∷ labels) places = (omega arith, cases_few o labels places)
+  cases_few o (Default part ∷ labels) places = cases_few o labels places
+
+  asked_few : (b : Bool) (o : Operand) (to : ℕ) → Few (asked_code b o to)
+  asked_few true o to = (omega arith, tt)
+  asked_few false o to = tt
+
+  choice_few : (t : ℕ) (e : ExprCode) (labels : List CoreLabel) (places : List ℕ) (other at : ℕ) → Quiet e → Few (choice_code t e labels places other at)
+  choice_few t e labels places other at h =
+      both _ _ (code_few e h.into t at) (both _ _ (cases_few _ labels places) (one_more _ _ (asked_few (is_asked labels) _ other) (omega arith)))
+
   operand_count : (v : ℕ) (es : List CoreExprTree) (t : ℕ) → length (all_operands (map (lowered v) es) t) ≡ length es
   operand_count v [] t = refl
   operand_count v (e ∷ es) t = let r = operand_count v es (t + own (lowered v e)) in omega (arith, r)
@@ -321,6 +338,8 @@ module _ (n : ℕ) where
     stmt_few v t (core.loop body step) h =
         let first = stmt_few v t body (omega (arith, h)) in
         record { part = loop_few t (stmt_code v t body).tested (stmt_code v t body).part (stmt_code v t step) first.tested first.part (stmt_few v t step (omega (arith, h))); tested = tt }
+    stmt_few v t (core.switch e labels ss) h =
+        record { part = λ x at. both _ _ (choice_few t (lowered v e) labels _ _ at (quiet v e)) (row_few v t ss h (in_switch x) _); tested = tt }
     stmt_few v t core.break h = record { part = going_few to_break; tested = tt }
     stmt_few v t core.continue h = record { part = going_few to_continue; tested = tt }
     stmt_few v t (core.return None) h = record { part = λ x at. (omega arith, tt); tested = tt }
@@ -332,6 +351,12 @@ module _ (n : ℕ) where
     stmts_few v t (stmt_and s (stmt_and r ss)) h =
         if_stmt_few (stmt_code v t s).ends _ _ (stmt_few v t s (omega (arith, h)))
         (ways_few (stmt_code v t s).way (stmt_code v t s) (stmts_code v t (stmt_and r ss)) (stmt_few v t s (omega (arith, h))) (stmts_few v t (stmt_and r ss) (omega (arith, h))))
+
+    pub row_few : (v t : ℕ) (ss : CoreStmts) → most_arguments_in ss ≤ n → PartFew (row v t ss).part
+    row_few v t no_stmts h = going_few to_next
+    row_few v t (stmt_and s no_stmts) h = (stmt_few v t s (omega (arith, h))).part
+    row_few v t (stmt_and s (stmt_and r ss)) h =
+        joined_few (stmt_code v t s).part (row v t (stmt_and r ss)).part (stmt_few v t s (omega (arith, h))).part (row_few v t (stmt_and r ss) (omega (arith, h)))
 
   -- ---- threads
 

@@ -67,7 +67,7 @@ module _ (u : Model) (f : CoreFunctionTree) (code : List InstructionTree) (funct
   goes_less k i d (falls p) end le h = (ready_less k i d end le h.0, ready_less k (i - 1) (d - 1) p (omega (arith, le)) h.1)
   goes_less k i d (goes p) end le h = ready_less k (i - 1) (d - 1) p (omega (arith, le)) h
 
-  all_less : (i d : ℕ) (x : Exits) (end : ℕ) (k : Continuations) → i ≤ d → AreReady d x end k → AreReady i x end k
+  pub all_less : (i d : ℕ) (x : Exits) (end : ℕ) (k : Continuations) → i ≤ d → AreReady d x end k → AreReady i x end k
   all_less i d x end k le h = record {
     next = goes_less k.next i d x.next end le h.next;
     on_break = goes_less k.on_break i d x.on_break end le h.on_break;
@@ -75,12 +75,12 @@ module _ (u : Model) (f : CoreFunctionTree) (code : List InstructionTree) (funct
     on_return = λ result w. comes_less u.tally i d _ _ le (h.on_return result w);
   }
 
-  bounded_less : (i d : ℕ) → i ≤ d → IsBounded d → IsBounded i
+  pub bounded_less : (i d : ℕ) → i ≤ d → IsBounded d → IsBounded i
   bounded_less i d le h = tally_bounded u.tally i d c.turns depth le h
 
   -- ---- exits
 
-  settled_goes : (k : Continuation) (d : ℕ) (x : Exit) (end other : ℕ) → GoesOn k d x end → GoesOn k d (settled x) other
+  pub settled_goes : (k : Continuation) (d : ℕ) (x : Exit) (end other : ℕ) → GoesOn k d x end → GoesOn k d (settled x) other
   settled_goes k d (falls p) end other h = h.1
   settled_goes k d (goes p) end other h = h
 
@@ -249,7 +249,7 @@ module _ (u : Model) (f : CoreFunctionTree) (code : List InstructionTree) (funct
   jumps_into m p d at other x k h le has ready =
       h.entered (d - 1) at x k (bounded_less (d - 1) d (omega arith) le) has (all_less (d - 1) d x _ k (omega arith) ready)
 
-  ready_at : (d : ℕ) (x : Exits) (i j : ℕ) (k : Continuations) → i ≡ j → AreReady d x i k → AreReady d x j k
+  pub ready_at : (d : ℕ) (x : Exits) (i j : ℕ) (k : Continuations) → i ≡ j → AreReady d x i k → AreReady d x j k
   ready_at d x i j k same h = subst (λ (n : ℕ). AreReady d x n k) same h
 
   elsewhere_ready : (d : ℕ) (x : Exits) (end other : ℕ) (k : Continuations) → AreReady d x end k → AreReady d (elsewhere x) other k

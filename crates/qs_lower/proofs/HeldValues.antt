@@ -27,6 +27,7 @@ use Rattle.qs_lower_expressions.specs.Exits.{Exit}
 use Rattle.qs_lower_expressions.specs.Operands.{converted, truth_operand, unary_of, folded, gives_integer, gives_truth, is_idle, constant_step}
 use Rattle.qs_lower_expressions.specs.Expressions.{IndexCode, ExprCode, own, used_by, simple_size, by_operand, by_value, number_of, by_test, further, behind_parts, behind, unindexed, indexed_by, by_address, based, with_test, of_truth, of_plus, of_compound, simple_or, of_conversion, pair_used, of_binary_value, with_condition, of_operation, stepped_or, of_and, of_or, of_conditional, lowered, all_used}
 use Rattle.qs_lower.specs.Statements.{StmtCode, Way, of_before, of_ways, of_branch, stmt_code, stmts_code}
+use Rattle.qs_lower.proofs.StmtSizeLaws.{row}
 use Rattle.qs_lower_expressions.proofs.SimpleOperands.{AreIntegers, IsThere, converted_there, converts, integers, operands_there}
 
 -- ---- what core holds
@@ -422,6 +423,11 @@ module _ (c : CoreUnitTree) (g : CoreFunctionTree) (v : ℕ) where
         let i = stmt_holds t true true body two.0 in
         let j = stmt_holds t true false step two.1 in
         omega arith
+    stmt_holds t b q (core.switch e labels ss) h =
+        let four = and_parts _ (stmts_fit c g true q ss) h in
+        let i = (expr_holds e (and_parts (expr_fits c g e) _ (and_parts _ _ four.0).0).0).used_fits in
+        let j = row_holds t true q ss four.1 in
+        omega arith
     stmt_holds t b q core.break h = omega arith
     stmt_holds t b q core.continue h = omega arith
     stmt_holds t b q (core.return None) h = omega arith
@@ -433,3 +439,13 @@ module _ (c : CoreUnitTree) (g : CoreFunctionTree) (v : ℕ) where
     stmts_hold t b q (stmt_and s (stmt_and r ss)) h =
         let two = and_parts (stmt_fits c g b q s) (stmts_fit c g b q (stmt_and r ss)) h in
         both_used (stmt_code v t s).ends (stmt_code v t s) (stmts_code v t (stmt_and r ss)) (stmt_holds t b q s two.0) (stmts_hold t b q (stmt_and r ss) two.1)
+
+    -- the parts of a switch, of which each may use the same
+    pub row_holds : (t : ℕ) (b q : Bool) (ss : CoreStmts) → stmts_fit c g b q ss ≡ true → (row v t ss).used ≤ held_in_all ss
+    row_holds t b q no_stmts h = omega arith
+    row_holds t b q (stmt_and s no_stmts) h = let i = stmt_holds t b q s (and_parts (stmt_fits c g b q s) _ h).0 in omega arith
+    row_holds t b q (stmt_and s (stmt_and r ss)) h =
+        let two = and_parts (stmt_fits c g b q s) (stmts_fit c g b q (stmt_and r ss)) h in
+        let i = stmt_holds t b q s two.0 in
+        let j = row_holds t b q (stmt_and r ss) two.1 in
+        omega arith

@@ -2,10 +2,11 @@
 use Rattle.std.proofs.Common.{◌≡◌, ℕ, ◌+◌, ◌<◌, max, Bool, true, false, if◌then◌else◌, List, [], ◌∷◌, ◌++◌, length, append_assoc, Option, Some, None, IsSome, refl, sym, ap, ◌∙◌, arith}
 use Rattle.std.specs.Prelude.{◌||◌}
 use Rattle.std.proofs.Math.Bool.{or_assoc}
+use Rattle.qs_core.specs.declared.labels.CoreLabel.{CoreLabel}
 use Rattle.qs_tac.specs.Trees.{InstructionTree}
 use Rattle.qs_lower_expressions.specs.Expressions.{ExprCode}
-use Rattle.qs_lower.specs.Statements.{Part, Tested, StmtCode, Way, Exits, Falls, leaves, is_break, before, redirected, next_falls, tested_behind, of_before, of_ways, of_both}
-use Rattle.qs_lower.specs.StmtPlans.{idle_in, idle_of, test_in, test_at_end, tested_of, joined_before, sizes_before, code_before, most_used, some_breaks, redirected_to, all_joined, joined_to, put_before, all_before}
+use Rattle.qs_lower.specs.Statements.{Part, Tested, StmtCode, Way, Exits, Falls, leaves, is_break, before, redirected, next_falls, tested_behind, of_before, of_ways, of_both, joined_before, entries, of_switch, but_last, last_of, of_all_parts}
+use Rattle.qs_lower.specs.StmtPlans.{idle_in, idle_of, test_in, test_at_end, tested_of, sizes_before, code_before, most_used, some_breaks, redirected_to, all_joined, joined_to, put_before, all_before}
 
 pub joined_ends : (ss : List StmtCode) (last : StmtCode) → (joined_before ss last).ends ≡ last.ends
 joined_ends [] last = refl
@@ -131,3 +132,23 @@ all_before_way ss s last w h e b =
 pub several_go_nowhere : (ss : List StmtCode) (last : StmtCode) → 0 < length ss → (joined_before ss last).way ≡ None
 several_go_nowhere [] last h = absurd (omega arith)
 several_go_nowhere (s ∷ ss) last h = refl
+
+-- ---- the parts of a switch
+
+but_last_is : (ss : List StmtCode) (last : StmtCode) → but_last (ss ++ last ∷ []) ≡ ss
+but_last_is [] last = refl
+but_last_is (s ∷ []) last = refl
+but_last_is (s ∷ r ∷ ss) last = ap (λ (l : List StmtCode). s ∷ l) (but_last_is (r ∷ ss) last)
+
+last_is : (ss : List StmtCode) (last : StmtCode) → last_of (ss ++ last ∷ []) ≡ last
+last_is [] last = refl
+last_is (s ∷ []) last = refl
+last_is (s ∷ r ∷ ss) last = last_is (r ∷ ss) last
+
+pub parts_apart : (t : ℕ) (e : ExprCode) (labels : List CoreLabel) (ss : List StmtCode) (last : StmtCode) → of_all_parts t e labels (ss ++ last ∷ []) ≡ of_switch t e labels ss last
+parts_apart t e labels ss last =
+    ap (λ (l : List StmtCode). of_switch t e labels l (last_of (ss ++ last ∷ []))) (but_last_is ss last)
+    ∙ ap (of_switch t e labels ss) (last_is ss last)
+
+pub entries_at : (all : List ℕ) (s : StmtCode) (ss : List StmtCode) (last : StmtCode) (at : ℕ) → (all ++ s.part.entry at ∷ []) ++ entries ss last (at + s.part.size next_falls) ≡ all ++ entries (s ∷ ss) last at
+entries_at all s ss last at = append_assoc all (s.part.entry at ∷ []) (entries ss last (at + s.part.size next_falls))

@@ -3,6 +3,9 @@ pub mod ExactLaws
 pub mod StmtSizeLaws
 pub mod PlainReal
 pub mod FlowReal
+pub mod ChoiceLaws
+pub mod ChoiceReal
+pub mod SwitchReal
 pub mod StmtReal
 pub mod CallReal
 pub mod UnitReal
@@ -17,6 +20,7 @@ pub mod LeadLaws
 pub mod LowerLaws
 pub mod OperandFits
 pub mod PartFits
+pub mod SwitchFits
 pub mod StmtFits
 pub mod UnitFits
 pub mod CoreWords
@@ -25,5 +29,6 @@ pub mod HeldValues
 pub mod StmtWords
 pub mod CallArguments
 pub mod UnitWords
-mod LowerExamples
+pub mod LowerExamples
+mod SwitchExamples
 mod WordExamples

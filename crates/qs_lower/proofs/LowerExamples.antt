@@ -43,16 +43,16 @@ function_of body = record {
   body = stmts_of body;
 }
 
-abbrev code : List CoreStmtTree → List InstructionTree
+abbrev pub code : List CoreStmtTree → List InstructionTree
 code body = threaded (function_code (function_of body))
 
-abbrev int : ℕ → CoreExprTree
+abbrev pub int : ℕ → CoreExprTree
 int n = core.literal scalars.Int n
 
-abbrev x : CoreExprTree
+abbrev pub x : CoreExprTree
 x = core.variable scalars.Int 0
 
-abbrev y : CoreExprTree
+abbrev pub y : CoreExprTree
 y = core.variable scalars.Int 1
 
 abbrev c : CoreExprTree
@@ -64,16 +64,16 @@ p = core.variable scalars.Pointer 3
 abbrev local : CoreExprTree
 local = core.address_of (blocks.Local 0)
 
-abbrev add : BinaryOperation
+abbrev pub add : BinaryOperation
 add = binaries.Arithmetic arithmetics.Add Signed
 
 abbrev less : CoreExprTree → CoreExprTree → CoreExprTree
 less a b = core.binary (binaries.Compare comparisons.Less Signed) a b
 
-abbrev sets : ℕ → CoreExprTree → CoreStmtTree
+abbrev pub sets : ℕ → CoreExprTree → CoreStmtTree
 sets n e = core.assign (targets.Variable n) e
 
-abbrev counts : CoreStmtTree
+abbrev pub counts : CoreStmtTree
 counts = sets 0 (core.binary add x (int 1))
 
 abbrev at_pointer : (offset : Option ℕ) → Address
@@ -90,7 +90,7 @@ element base count before size offset = record {
 }
 
 -- the instruction of x = x + 1
-abbrev counted : InstructionTree
+abbrev pub counted : InstructionTree
 counted = binary add 0 (Temporary 0) (Constant 1)
 
 -- ---- constants are operands, and a result is computed where it is wanted
@@ -302,13 +302,13 @@ abbrev unit_of : List CoreStmtTree → CoreUnitTree
 unit_of body = record { functions = function_of body ∷ []; main = 0; data_blocks = [] }
 
 -- with the arguments 2 and 5
-abbrev core_runs : List CoreStmtTree → RootRun
+abbrev pub core_runs : List CoreStmtTree → RootRun
 core_runs body = core_run (unit_of body) 0 (integer 2 ∷ integer 5 ∷ []) world 9
 
-abbrev tac_runs : List CoreStmtTree → RootRun
+abbrev pub tac_runs : List CoreStmtTree → RootRun
 tac_runs body = tac_run (lower_unit (unit_of body)) 0 (integer 2 ∷ integer 5 ∷ []) world 99
 
-abbrev lowers_to_a_fit : List CoreStmtTree → Bool
+abbrev pub lowers_to_a_fit : List CoreStmtTree → Bool
 lowers_to_a_fit body = unit_fits (lower_unit (unit_of body))
 
 -- y = 0; for (x = 0; x < 5; x = x + 1) { if (x == 1) continue; if (x == 4) break; putchar(x); y = y + x; } return y;

@@ -47,7 +47,7 @@ word_of h = grind (arith, nat_tests, h)
 pub small_word : (n : ℕ) → nat_le n largest_size ≡ true → is_word n ≡ true
 small_word n h = grind (arith, nat_tests, h)
 
-literal_word : (s : Scalar) (n : ℕ) → has_type s (integer n) ≡ true → is_word n ≡ true
+pub literal_word : (s : Scalar) (n : ℕ) → has_type s (integer n) ≡ true → is_word n ≡ true
 literal_word scalars.Char n h = grind (arith, nat_tests, h)
 literal_word scalars.Int n h = h
 literal_word scalars.Unsigned n h = h

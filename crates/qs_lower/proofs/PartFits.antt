@@ -45,7 +45,7 @@ module _ (u : TacUnitTree) (f : TacFunctionTree) where
   reach_follows true x end h = lands_behind u f x end h
   reach_follows false x end h = tt
 
-  all_follow : (k : Taken) (x : Exits) (end : ℕ) → AllReach k x end → AllFollow k x end
+  pub all_follow : (k : Taken) (x : Exits) (end : ℕ) → AllReach k x end → AllFollow k x end
   all_follow k x end h = record {
     next = reach_follows k.next x.next end h.next;
     on_break = reach_follows k.on_break x.on_break end h.on_break;
@@ -147,7 +147,7 @@ module _ (u : TacUnitTree) (f : TacFunctionTree) where
     pub fits : t + s.used ≤ f.temporaries → StmtFits t q s
 
   -- more exits may be taken
-  more_next : (e b q : Bool) (p : Part) → PartFits (taken e b q) p → PartFits (taken false b q) p
+  pub more_next : (e b q : Bool) (p : Part) → PartFits (taken e b q) p → PartFits (taken false b q) p
   more_next false b q p h = h
   more_next true b q p h = record {
     starts = λ x at room k. h.starts x at room (record { next = tt; on_break = k.on_break; on_continue = k.on_continue });
@@ -224,7 +224,7 @@ module _ (u : TacUnitTree) (f : TacFunctionTree) where
   -- ---- one behind another
 
   module _ (e b c q : Bool) (p r : Part) (h : PartFits (taken false b q) p) (k : PartFits (taken e c q) r) where
-    abbrev whole : Exits → ℕ → ℕ
+    abbrev pub whole : Exits → ℕ → ℕ
     whole x at = at + (p.size next_falls + r.size (falls_of x))
 
     abbrev first_exits : Exits → ℕ → Exits
@@ -233,10 +233,10 @@ module _ (u : TacUnitTree) (f : TacFunctionTree) where
     same_end : (x : Exits) (at : ℕ) → whole x at ≡ at + p.size next_falls + r.size (falls_of x)
     same_end x at = omega arith
 
-    second_room : (x : Exits) (at : ℕ) → whole x at ≤ length f.code → at + p.size next_falls + r.size (falls_of x) ≤ length f.code
+    pub second_room : (x : Exits) (at : ℕ) → whole x at ≤ length f.code → at + p.size next_falls + r.size (falls_of x) ≤ length f.code
     second_room x at room = omega (arith, room)
 
-    second_follows : (x : Exits) (at : ℕ) → AllFollow (taken e (b || c) q) x (whole x at) → AllFollow (taken e c q) x (at + p.size next_falls + r.size (falls_of x))
+    pub second_follows : (x : Exits) (at : ℕ) → AllFollow (taken e (b || c) q) x (whole x at) → AllFollow (taken e c q) x (at + p.size next_falls + r.size (falls_of x))
     second_follows x at g = all_follow_at (taken e c q) x (whole x at) _ (same_end x at) (record {
       next = g.next;
       on_break = follows_right b c x.on_break (whole x at) g.on_break;

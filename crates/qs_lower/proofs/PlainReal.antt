@@ -59,7 +59,7 @@ module _ (u : Model) (f : CoreFunctionTree) (code : List InstructionTree) (funct
   abbrev at_moment : (at first : ℕ) → Environment → Act
   at_moment at first e = moment u f code function stack at first e
 
-  abbrev Makes : (d at first : ℕ) → Environment → World → RootRun → Type 0
+  abbrev pub Makes : (d at first : ℕ) → Environment → World → RootRun → Type 0
   Makes d at first e w r = Real u d (at_moment at first e) w stack r
 
   abbrev Agrees : Locals → Environment → Type 0

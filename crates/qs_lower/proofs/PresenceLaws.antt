@@ -1,11 +1,12 @@
 -- In a unit that fits all variables, temporaries and parameters are there.
 use Rattle.std.proofs.Common.{◌≡◌, ℕ, suc, ◌+◌, ◌<◌, Bool, true, false, List, [], ◌∷◌, length, map, Option, Some, None, refl, subst, arith}
+use Rattle.std.specs.Prelude.{nat_lt}
 use Rattle.std.proofs.lemmas.Bool.Decides.{nat_tests}
-use Rattle.std.specs.List.{slice_get}
+use Rattle.std.specs.List.{slice_get, list_all}
 use Rattle.std.specs.Option.{option_map}
 use Rattle.std.proofs.lemmas.Option.{slice_get_within}
 use Rattle.std.proofs.lemmas.Bool.{and_parts}
-use Rattle.qs_memory.specs.Scalars.{is_type}
+use Rattle.qs_memory.specs.Scalars.{is_type, is_promoted}
 use Rattle.qs_memory.proofs.ScalarLaws.{type_is}
 use Rattle.qs_memory.specs.declared.scalar.Scalar.{Scalar}
 use Rattle.qs_calls.specs.Starts.{Signature}
@@ -13,16 +14,21 @@ use Rattle.qs_calls.specs.declared.parameter.Parameter.{Parameter}
 use Rattle.qs_calls.specs.declared.parameter.Parameter.TheVariants.{Plain, Placed}
 use Rattle.qs_core.specs.Trees as core
 use Rattle.qs_core.specs.Trees.{CoreExprTree, CoreStmtTree, CoreStmts, no_stmts, stmt_and, CoreParameterTree, CoreVariableTree, CoreFunctionTree, CoreUnitTree}
+use Rattle.qs_core.specs.declared.labels.CoreLabel.{CoreLabel}
+use Rattle.qs_core.specs.declared.labels.CoreLabel.TheVariants.{Case, Default}
 use Rattle.qs_core.specs.declared.numbers.Target.{Target}
 use Rattle.qs_core.specs.declared.numbers.Target.TheVariants as targets
+use Rattle.qs_core.specs.Expressions.{type_of}
+use Rattle.qs_core.specs.Outline.{count_of}
 use Rattle.qs_core.specs.Interfaces.{variable_type, temporary_type, target_type}
 use Rattle.qs_core.specs.Statements.{Context}
-use Rattle.qs_core.specs.Fits.{expr_fits, exprs_fit, pointer_fits, call_fits, destination_fits, stmt_fits, stmts_fit, place_fits, parameter_fits, parameters_fit}
+use Rattle.qs_core.specs.Fits.{expr_fits, exprs_fit, pointer_fits, call_fits, destination_fits, label_fits, stmt_fits, stmts_fit, place_fits, parameter_fits, parameters_fit}
 use Rattle.qs_tac.specs.Trees.{InstructionTree}
 use Rattle.qs_lower_expressions.proofs.RealisationLaws.{Model, Stack, CallsReal, IsCode}
 use Rattle.qs_lower_expressions.proofs.ExprReal as expr
 use Rattle.qs_lower.proofs.PlainReal as plain
 use Rattle.qs_lower.proofs.CallReal as calls
+use Rattle.qs_lower.proofs.SwitchReal.{LabelsThere}
 use Rattle.qs_lower.proofs.UnitReal as unit
 use Rattle.qs_lower.proofs.FollowLaws.{ParametersThere}
 
@@ -35,6 +41,18 @@ variable_there f x s h = known_there f.variables x (λ v. v.scalar) (slice_get f
 
 pub temporary_there : (f : CoreFunctionTree) (k : ℕ) (s : Scalar) → is_type (temporary_type f k) s ≡ true → k < length f.temporaries
 temporary_there f k s h = slice_get_within f.temporaries k s (type_is (temporary_type f k) s h)
+
+-- the labels of a switch
+pub labels_there : (s : Scalar) (parts : ℕ) (labels : List CoreLabel) → list_all (label_fits s parts) labels ≡ true → LabelsThere parts labels
+labels_there s parts [] h = tt
+labels_there s parts (Case n part ∷ labels) h =
+    let two = and_parts (label_fits s parts (Case n part)) (list_all (label_fits s parts) labels) h in
+    let less = (and_parts _ (nat_lt part parts) two.0).1 in
+    (grind (arith, nat_tests, less), labels_there s parts labels two.1)
+labels_there s parts (Default part ∷ labels) h =
+    let two = and_parts (nat_lt part parts) (list_all (label_fits s parts) labels) h in
+    let less = two.0 in
+    (grind (arith, nat_tests, less), labels_there s parts labels two.1)
 
 module _ (c : CoreUnitTree) (u : Model) (f : CoreFunctionTree) (code : List InstructionTree) (function : ℕ) (stack : Stack) (is_code : IsCode u f code function stack) where
   abbrev IsThere : CoreExprTree → Type 0
@@ -101,6 +119,11 @@ module _ (c : CoreUnitTree) (u : Model) (f : CoreFunctionTree) (code : List Inst
       stmt_there b q (core.loop body step) h =
           let two = and_parts (stmt_fits c f true true body) (stmt_fits c f true false step) h in
           (stmt_there true true body two.0, stmt_there true false step two.1)
+      stmt_there b q (core.switch e labels ss) h =
+          let four = and_parts _ (stmts_fit c f true q ss) h in
+          let three = and_parts _ (list_all (label_fits (type_of e) (count_of ss)) labels) four.0 in
+          let two = and_parts (expr_fits c f e) (is_promoted (type_of e)) three.0 in
+          (expr_there e two.0, labels_there (type_of e) (count_of ss) labels three.1, stmts_there true q ss four.1)
       stmt_there b q core.break h = tt
       stmt_there b q core.continue h = tt
       stmt_there b q (core.return None) h = tt

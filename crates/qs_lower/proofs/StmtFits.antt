@@ -1,11 +1,12 @@
 -- The code of loops and of statements fits.
 use Rattle.std.proofs.Common.{◌≡◌, ℕ, ◌+◌, ◌<◌, ◌≤◌, Bool, true, false, List, [], ◌∷◌, ◌++◌, length, map, Option, Some, None, refl, ap, subst, arith, lt-ltb}
 use Rattle.std.specs.Prelude.{◌&&◌, ◌||◌, not, nat_le, if◌then◌else◌}
+use Rattle.std.specs.List.{list_all}
 use Rattle.std.proofs.lemmas.List.{length-map}
 use Rattle.std.proofs.lemmas.Bool.{and_parts, or_from, and_from}
 use Rattle.qs_memory.specs.Memory.{BlankTree}
 use Rattle.qs_memory.specs.Sizes.{largest_size, blank_size}
-use Rattle.qs_memory.specs.Scalars.{is_type, same_scalars}
+use Rattle.qs_memory.specs.Scalars.{is_type, is_promoted, same_scalars}
 use Rattle.qs_memory.proofs.ScalarLaws.{scalars_same}
 use Rattle.qs_memory.specs.declared.scalar.Scalar.{Scalar}
 use Rattle.qs_calls.specs.Starts.{Signature, signature_of}
@@ -15,18 +16,21 @@ use Rattle.qs_core.specs.Trees.{CoreExprTree, CoreStmtTree, CoreStmts, no_stmts,
 use Rattle.qs_core.specs.declared.numbers.Target.{Target}
 use Rattle.qs_core.specs.declared.numbers.Target.TheVariants as targets
 use Rattle.qs_core.specs.Expressions.{type_of}
+use Rattle.qs_core.specs.Outline.{count_of}
 use Rattle.qs_core.specs.Interfaces.{target_type, interface_of}
-use Rattle.qs_core.specs.Fits.{expr_fits, exprs_fit, pointer_fits, destination_fits, call_fits, stmt_fits, stmts_fit}
+use Rattle.qs_core.specs.Fits.{expr_fits, exprs_fit, pointer_fits, destination_fits, call_fits, label_fits, stmt_fits, stmts_fit}
 use Rattle.qs_tac.specs.Trees.{store, copy, fill, call, jump, return, TacFunctionTree, TacUnitTree}
 use Rattle.qs_tac.specs.Fits as tac
 use Rattle.qs_tac.specs.Fits.{is_word}
 use Rattle.qs_lower_expressions.specs.Exits.{Exit, falls, goes, is_fall, settled}
 use Rattle.qs_lower_expressions.specs.Expressions.{ExprCode, code_of, operand_of, address_at, lowered, all_code, all_operands}
-use Rattle.qs_lower.specs.Statements.{Exits, next_falls, to_next, to_break, to_continue, Part, Tested, StmtCode, target_of, taken_by, of_store, of_copy, of_fill, of_return, of_plain_return, Way, of_before, of_ways, of_branch, is_next, body_falls, body_exits, front_exits, step_exits, test_last, last_falls, last_exits, body_first, body_alone, plain_loop, loop_part, of_loop, stmt_code, stmts_code}
-use Rattle.qs_lower.proofs.PresenceLaws.{variable_there, temporary_there}
+use Rattle.qs_lower.specs.Statements.{Exits, next_falls, to_next, to_break, to_continue, Part, Tested, StmtCode, target_of, taken_by, of_store, of_copy, of_fill, of_return, of_plain_return, Way, of_before, of_ways, of_branch, is_next, body_falls, body_exits, front_exits, step_exits, test_last, last_falls, last_exits, body_first, body_alone, plain_loop, loop_part, of_loop, but_last, last_of, stmt_code, stmts_code, parts_code}
+use Rattle.qs_lower.proofs.StmtSizeLaws.{row}
+use Rattle.qs_lower.proofs.PresenceLaws.{variable_there, temporary_there, labels_there}
 use Rattle.qs_lower_expressions.proofs.ExprFits.{Fit, fit_cons, fit_one, fit_both, Lands, Behind, lands_behind, lands_at, settled_lands, test_starts, ExprFits, code_of_fits, operand_of_fits, address_at_fits}
 use Rattle.qs_lower.proofs.OperandFits.{small_word, Has, lowered_fits, pointer_lowered, arguments_fit, argument_operands, argument_count}
 use Rattle.qs_lower.proofs.PartFits.{taken, AllFollow, AllReach, Follows, Reaches, PartFits, TestedFits, OptionFits, Fits, follows, follows_settled, reaches, reaches_settled, reach_follows, by_way_fits, straight_fits, both_fits, branch_fits}
+use Rattle.qs_lower.proofs.SwitchFits.{RowFits, word_cases, one_row_fits, more_row_fits, switch_fits}
 
 module _ (u : TacUnitTree) (f : TacFunctionTree) where
   -- ---- loops
@@ -439,6 +443,13 @@ module _ (c : CoreUnitTree) (g : CoreFunctionTree) (u : TacUnitTree) (f : TacFun
     stmt_fits_all t b q (core.loop body step) h =
         let two = and_parts (stmt_fits c g true true body) (stmt_fits c g true false step) h in
         loop_stmt_fits u f t q (stmt_code v t body) (stmt_code v t step) (stmt_fits_all t true true body two.0) (stmt_fits_all t true false step two.1)
+    stmt_fits_all t b q (core.switch e labels ss) h =
+        let four = and_parts _ (stmts_fit c g true q ss) h in
+        let three = and_parts _ (list_all (label_fits (type_of e) (count_of ss)) labels) four.0 in
+        let two = and_parts (expr_fits c g e) (is_promoted (type_of e)) three.0 in
+        switch_fits u f t q (lowered v e) labels (count_of ss) (but_last (parts_code v t ss)) (last_of (parts_code v t ss)) (lowered_fits c g u f has e two.0)
+        (word_cases (type_of e) (count_of ss) labels three.1) (labels_there (type_of e) (count_of ss) labels three.1)
+        (λ used. row_fits_all t true q ss four.1 used)
     stmt_fits_all t b q core.break h = by_way_fits u f t q to_break refl
     stmt_fits_all t b q core.continue h = by_way_fits u f t q to_continue h
     stmt_fits_all t b q (core.return None) h = plain_return_fits u f t q
@@ -451,7 +462,19 @@ module _ (c : CoreUnitTree) (g : CoreFunctionTree) (u : TacUnitTree) (f : TacFun
         let two = and_parts (stmt_fits c g b q s) (stmts_fit c g b q (stmt_and r ss)) h in
         both_fits u f t q (stmt_code v t s) (stmts_code v t (stmt_and r ss)) (stmt_fits_all t b q s two.0) (stmts_fit_all t b q (stmt_and r ss) two.1)
 
--- ---- no break stands outside every loop
+    -- the parts of a switch
+    pub row_fits_all :
+        (t : ℕ) (b q : Bool) (ss : CoreStmts) → stmts_fit c g b q ss ≡ true → t + (row v t ss).used ≤ f.temporaries
+        → RowFits u f q (count_of ss) (but_last (parts_code v t ss)) (last_of (parts_code v t ss))
+    row_fits_all t b q no_stmts h used = one_row_fits u f q 0 (last_of []) (omega arith) ((by_way_fits u f t q to_next refl).fits used).part
+    row_fits_all t b q (stmt_and s no_stmts) h used =
+        one_row_fits u f q (0 + 1) (stmt_code v t s) (omega arith) ((stmt_fits_all t b q s (and_parts (stmt_fits c g b q s) _ h).0).fits used).part
+    row_fits_all t b q (stmt_and s (stmt_and r ss)) h used =
+        let two = and_parts (stmt_fits c g b q s) (stmts_fit c g b q (stmt_and r ss)) h in
+        more_row_fits u f q (count_of (stmt_and r ss) + 1) (count_of (stmt_and r ss)) (stmt_code v t s) (but_last (parts_code v t (stmt_and r ss))) (last_of (parts_code v t (stmt_and r ss))) (omega arith)
+        ((stmt_fits_all t b q s two.0).fits (omega (arith, used))).part (row_fits_all t b q (stmt_and r ss) two.1 (omega (arith, used)))
+
+-- ---- no break stands outside every loop and switch
 
 branch_breaks : (known : Option Bool) (t : ℕ) (e : ExprCode) (a b : StmtCode) → a.breaks ≡ false → b.breaks ≡ false → (of_branch known t e a b).breaks ≡ false
 branch_breaks None t e a b h k = or_from _ _ h k
@@ -484,6 +507,7 @@ mutual
       let one = and_parts (expr_fits c g e) (stmt_fits c g false q s) two.0 in
       branch_breaks (lowered v e).known t (lowered v e) (stmt_code v t s) (stmt_code v t r) (stmt_breaks c g v t q s one.1) (stmt_breaks c g v t q r two.1)
   stmt_breaks c g v t q (core.loop body step) h = refl
+  stmt_breaks c g v t q (core.switch e labels ss) h = refl
   stmt_breaks c g v t q core.break h = cc
   stmt_breaks c g v t q core.continue h = refl
   stmt_breaks c g v t q (core.return None) h = refl

@@ -2,7 +2,7 @@
 use Rattle.std.proofs.Common.{◌≡◌, ℕ, max, Bool, true, false, if◌then◌else◌, List, [], ◌∷◌, map, Option, Some, None, IsSome, refl, sym, ap, ◌∙◌}
 use Rattle.std.specs.Prelude.{◌&&◌, ◌||◌, not}
 use Rattle.qs_core.specs.Trees.{CoreStmtTree, stmts_of}
-use Rattle.qs_lower.specs.Statements.{Part, Tested, StmtCode, is_next, body_alone, test_last, loop_part, of_loop, of_both, stmt_code, stmts_code}
+use Rattle.qs_lower.specs.Statements.{Part, Tested, StmtCode, is_next, body_alone, test_last, loop_part, of_loop, of_both, stmt_code, stmts_code, parts_code}
 use Rattle.qs_lower.specs.StmtPlans.{idle_in, idle_of, test_in, test_at_end, loop_of, loop_with, loop_at_end, all_joined}
 
 abbrev with_part : StmtCode → StmtCode → Part → StmtCode
@@ -50,5 +50,10 @@ pub stmts_joined : (v t : ℕ) (ss : List CoreStmtTree) → stmts_code v t (stmt
 stmts_joined v t [] = refl
 stmts_joined v t (s ∷ []) = refl
 stmts_joined v t (s ∷ r ∷ ss) = ap (of_both (stmt_code v t s)) (stmts_joined v t (r ∷ ss))
+
+-- those of a switch
+pub parts_each : (v t : ℕ) (ss : List CoreStmtTree) → parts_code v t (stmts_of ss) ≡ map (stmt_code v t) ss
+parts_each v t [] = refl
+parts_each v t (s ∷ ss) = ap (λ (l : List StmtCode). stmt_code v t s ∷ l) (parts_each v t ss)
 
 pub ruleset loop_cases = (plain_is, alone_is, tested_is, has_test)

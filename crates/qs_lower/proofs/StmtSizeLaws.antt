@@ -4,10 +4,12 @@ use Rattle.std.specs.Prelude.{◌&&◌, if◌then◌else◌}
 use Rattle.qs_memory.specs.declared.scalar.Scalar.{Scalar}
 use Rattle.qs_core.specs.Trees as core
 use Rattle.qs_core.specs.Trees.{CoreStmtTree, CoreStmts, no_stmts, stmt_and}
+use Rattle.qs_core.specs.declared.labels.CoreLabel.{CoreLabel}
 use Rattle.qs_tac.specs.Trees.{InstructionTree, jump}
 use Rattle.qs_lower_expressions.specs.Expressions.{ExprCode, size_of, lowered}
-use Rattle.qs_lower.specs.Statements.{Exits, falls_of, next_falls, none_falls, body_falls, Way, to_next, to_break, to_continue, Part, Tested, StmtCode, going, joined, redirected, straight, target_of, of_store, of_copy, tested_behind, of_joined, of_before, of_ways, branch_part, test_of, is_next, of_branch, test_last, body_first, body_alone, plain_loop, loop_part, stmt_code, stmts_code}
+use Rattle.qs_lower.specs.Statements.{Exits, falls_of, next_falls, none_falls, body_falls, Way, to_next, to_break, to_continue, Part, Tested, StmtCode, going, joined, redirected, straight, target_of, of_store, of_copy, tested_behind, of_joined, of_before, of_ways, branch_part, test_of, is_next, of_branch, test_last, body_first, body_alone, plain_loop, loop_part, joined_before, in_switch, switch_part, but_last, last_of, stmt_code, stmts_code, parts_code}
 use Rattle.qs_lower_expressions.proofs.SizeLaws.{both, one_more, cons, exit_length, Sized, code_length, sized, all_length}
+use Rattle.qs_lower.proofs.ChoiceLaws.{choice_length}
 
 abbrev pub PartSized : Part → Type 0
 PartSized p = (x : Exits) (at : ℕ) → length (p.code x at) ≡ p.size (falls_of x)
@@ -125,6 +127,15 @@ loop_sized t None body step g h k = plain_sized body step h k
 loop_sized t (Some d) body step g h k =
     if_part_sized (d.is_idle && is_next step.way) (body_alone body) (test_last t d step.part) (λ x at. h _ at) (test_last_sized t d step.part g k.part)
 
+-- ---- switches
+
+switch_sized : (t : ℕ) (e : ExprCode) (labels : List CoreLabel) (ss : List StmtCode) (last : StmtCode) → Sized e → PartSized (joined_before ss last).part → PartSized (switch_part t e labels ss last)
+switch_sized t e labels ss last h k x at = both _ _ _ _ (choice_length t e labels _ _ at h) (k (in_switch x) _)
+
+-- the parts of a switch, one behind the other
+abbrev pub row : (v t : ℕ) → CoreStmts → StmtCode
+row v t ss = joined_before (but_last (parts_code v t ss)) (last_of (parts_code v t ss))
+
 -- ---- statements
 
 store_sized : (t : ℕ) (s : Scalar) (p e : ExprCode) → Sized p → Sized e → StmtSized (of_store t s p e)
@@ -158,6 +169,7 @@ mutual
             (stmt_sized v t step);
         tested = tt;
       }
+  stmt_sized v t (core.switch e labels ss) = record { part = switch_sized t (lowered v e) labels _ _ (sized v e) (row_sized v t ss); tested = tt }
   stmt_sized v t core.break = record { part = going_sized to_break; tested = tt }
   stmt_sized v t core.continue = record { part = going_sized to_continue; tested = tt }
   stmt_sized v t (core.return None) = record { part = λ x at. refl; tested = tt }
@@ -169,3 +181,8 @@ mutual
   stmts_sized v t (stmt_and s (stmt_and r ss)) =
       if_stmt_sized (stmt_code v t s).ends _ _ (stmt_sized v t s)
       (ways_sized (stmt_code v t s).way (stmt_code v t s) (stmts_code v t (stmt_and r ss)) (stmt_sized v t s) (stmts_sized v t (stmt_and r ss)))
+
+  pub row_sized : (v t : ℕ) (ss : CoreStmts) → PartSized (row v t ss).part
+  row_sized v t no_stmts = going_sized to_next
+  row_sized v t (stmt_and s no_stmts) = (stmt_sized v t s).part
+  row_sized v t (stmt_and s (stmt_and r ss)) = joined_sized (stmt_code v t s).part (row v t (stmt_and r ss)).part (stmt_sized v t s).part (row_sized v t (stmt_and r ss))

@@ -1,6 +1,7 @@
 -- Each statement takes at most its words, and one for the jump to what is next.
-use Rattle.std.proofs.Common.{◌≡◌, ℕ, ◌+◌, ◌%◌, ◌≤◌, Bool, true, false, List, [], ◌∷◌, ◌++◌, map, Option, Some, None, refl, arith}
-use Rattle.std.specs.Prelude.{◌&&◌, if◌then◌else◌}
+use Rattle.std.proofs.Common.{◌≡◌, ℕ, zero, suc, ◌+◌, ◌%◌, ◌≤◌, Bool, true, false, List, [], ◌∷◌, ◌++◌, map, Option, Some, None, refl, ap, arith}
+use Rattle.std.specs.Prelude.{◌*◌, ◌==◌, max, length, ◌&&◌, if◌then◌else◌}
+use Rattle.std.proofs.lemmas.Bool.Decides.{nat_tests}
 use Rattle.std.proofs.lemmas.Bool.{and_parts}
 use Rattle.qs_memory.specs.Memory.{BlankTree}
 use Rattle.qs_memory.specs.Sizes.{blank_size}
@@ -10,16 +11,22 @@ use Rattle.qs_calls.specs.declared.callee.Callee.TheVariants.{Function, PutChar,
 use Rattle.qs_core.specs.Trees as core
 use Rattle.qs_core.specs.Trees.{CoreExprTree, CoreStmtTree, CoreStmts, no_stmts, stmt_and, CoreFunctionTree, CoreUnitTree}
 use Rattle.qs_core.specs.Fits.{expr_fits, exprs_fit, pointer_fits, stmt_fits, stmts_fit}
+use Rattle.qs_core.specs.Statements.{default_part}
 use Rattle.qs_core.specs.Sizes as counts
-use Rattle.qs_core.specs.Sizes.{taken_words, stmt_words, stmts_words}
+use Rattle.qs_core.specs.Sizes.{taken_words, label_words, stmt_words, stmts_words}
+use Rattle.qs_core.specs.declared.labels.CoreLabel.{CoreLabel}
+use Rattle.qs_core.specs.declared.labels.CoreLabel.TheVariants.{Case, Default}
 use Rattle.qs_tac.specs.Trees.{InstructionTree, store, copy, fill, call, jump, return, TacFunctionTree}
 use Rattle.qs_tac.specs.Sizes as sizes
 use Rattle.qs_tac.specs.Sizes.{is_near, callee_words}
-use Rattle.qs_lower_expressions.specs.Exits.{Exit, falls, goes, settled, exit_code}
+use Rattle.qs_tac.specs.declared.operands.Operand.{Operand}
+use Rattle.qs_lower_expressions.specs.Exits.{Exit, falls, goes, place_of, settled, exit_code}
 use Rattle.qs_lower_expressions.specs.Expressions.{ExprCode, code_of, operand_of, address_at, lowered, all_code, all_operands}
-use Rattle.qs_lower.specs.Statements.{Exits, next_falls, none_falls, before, elsewhere, body_falls, body_exits, front_exits, step_exits, last_exits, Way, to_next, to_break, to_continue, exit_to, Part, Tested, StmtCode, joined, redirected, straight, by_way, target_of, taken_by, of_store, of_copy, of_fill, of_call, of_return, of_plain_return, tested_behind, of_before, of_ways, branch_part, test_of, is_next, of_branch, test_last, body_first, body_alone, loop_part, stmt_code, stmts_code}
+use Rattle.qs_lower.specs.Choices.{place_in, if_equal, case_code, case_count, is_asked, asked_size, asked_code, other_place, choice_size, choice_code}
+use Rattle.qs_lower.specs.Statements.{Exits, next_falls, none_falls, before, elsewhere, body_falls, body_exits, front_exits, step_exits, last_exits, Way, to_next, to_break, to_continue, exit_to, Part, Tested, StmtCode, joined, redirected, straight, by_way, target_of, taken_by, of_store, of_copy, of_fill, of_call, of_return, of_plain_return, tested_behind, of_before, of_ways, branch_part, test_of, is_next, of_branch, test_last, body_first, body_alone, loop_part, joined_before, entries, in_switch, switch_part, stmt_code, stmts_code}
 use Rattle.qs_lower.proofs.CoreWords.{tested_words}
-use Rattle.qs_lower_expressions.proofs.ExprWords.{jumps, code_words, words_both, words_cons, words_last, slot_small, exit_small}
+use Rattle.qs_lower.proofs.StmtSizeLaws.{row}
+use Rattle.qs_lower_expressions.proofs.ExprWords.{jumps, code_words, words_both, words_cons, words_last, slot_small, constant_small, operand_small, exit_small}
 use Rattle.qs_lower.proofs.LoweredWords.{Good, expr_words, arguments_words}
 
 -- a jump to what is next, where it doesn't fall
@@ -48,6 +55,22 @@ callee_small : (f : Callee) → callee_words f ≤ 2
 callee_small (Function f) = omega arith
 callee_small PutChar = omega arith
 callee_small GetChar = omega arith
+
+-- a switch compares its operand for each case, and once without any
+cases_few : (labels : List CoreLabel) → case_count labels ≤ length labels
+cases_few [] = omega arith
+cases_few (Case n part ∷ labels) = let i = cases_few labels in omega arith
+cases_few (Default part ∷ labels) = let i = cases_few labels in omega arith
+
+compared_few : (labels : List CoreLabel) → case_count labels + asked_size (is_asked labels) ≤ max 1 (length labels)
+compared_few labels = by_count (case_count labels) (cases_few labels)
+  where
+    by_count : (n : ℕ) → n ≤ length labels → n + asked_size (n == 0) ≤ max 1 (length labels)
+    by_count zero le = let asked : asked_size (zero == 0) ≡ 1 = refl in omega (arith, asked)
+    by_count (suc n) le =
+        let some : (suc n == 0) ≡ false = grind (arith, nat_tests) in
+        let none : asked_size (suc n == 0) ≡ 0 = ap asked_size some in
+        omega (arith, le, none)
 
 module _ (c : CoreUnitTree) (g : CoreFunctionTree) (v : ℕ) (f : TacFunctionTree) (free : ℕ) (near : (t : ℕ) → free ≤ t → is_near f t ≡ true) where
   abbrev code : List InstructionTree → ℕ
@@ -275,6 +298,38 @@ module _ (c : CoreUnitTree) (g : CoreFunctionTree) (v : ℕ) (f : TacFunctionTre
   loop_words {n} m t (Some d) body step le h i k =
       if_part_words (m + n + 3) (d.is_idle && is_next step.way) (body_alone body) (test_last t d step.part) (body_alone_words m n body i) (test_last_words n t d step.part le h k.part)
 
+  -- ---- switches
+
+  equal_words : (o : Operand) (n to : ℕ) (is : List InstructionTree) → code (if_equal o n to ∷ is) ≤ label_words + code is
+  equal_words o n to is =
+      let e = words_cons f free near (if_equal o n to) is in let i = operand_small f free near o in let j = constant_small f free near n in omega arith
+
+  cases_words : (o : Operand) (labels : List CoreLabel) (places : List ℕ) → code (case_code o labels places) ≤ label_words * case_count labels
+  cases_words o [] places = omega arith
+  cases_words o (Case n part ∷ labels) places =
+      let e = equal_words o n (place_in places part) (case_code o labels places) in let i = cases_words o labels places in omega arith
+  cases_words o (Default part ∷ labels) places = let i = cases_words o labels places in omega arith
+
+  asked_words : (z : Bool) (o : Operand) (to : ℕ) → code (asked_code z o to) ≤ label_words * asked_size z
+  asked_words true o to = let e = equal_words o 0 to [] in omega arith
+  asked_words false o to = omega arith
+
+  choice_words :
+      (t : ℕ) (e : CoreExprTree) (d : ExprCode) (labels : List CoreLabel) (places : List ℕ) (other at : ℕ) → free ≤ t → Good c g v f free near e d
+      → code (choice_code t d labels places other at) ≤ taken_words e + label_words * max 1 (length labels) + 1
+  choice_words t e d labels places other at le h =
+      let o : Operand = operand_of d t in
+      let cases : List InstructionTree = case_code o labels places in
+      let asked : List InstructionTree = asked_code (is_asked labels) o other in
+      let i = words_both f free near (code_of d t at) (cases ++ (asked ++ jump other ∷ [])) in
+      let j = words_both f free near cases (asked ++ jump other ∷ []) in
+      let k = words_last f free near asked (jump other) in
+      let m = h.taken_fits t at le in
+      let n = cases_words o labels places in
+      let p = asked_words (is_asked labels) o other in
+      let q = compared_few labels in
+      omega arith
+
   -- ---- what stands alone
 
   store_words : (t : ℕ) (s : Scalar) (a e : CoreExprTree) (p d : ExprCode) → free ≤ t → Good c g v f free near a p → Good c g v f free near e d → StmtWords (stmt_words (core.store s a e)) (of_store t s p d)
@@ -340,6 +395,18 @@ module _ (c : CoreUnitTree) (g : CoreFunctionTree) (v : ℕ) (f : TacFunctionTre
   plain_return_words : StmtWords (stmt_words (core.return None)) of_plain_return
   plain_return_words = record { part = λ x at. let e = words_cons f free near (return None) [] in omega arith; way = tt; tested = tt }
 
+  switch_words :
+      (t : ℕ) (e : CoreExprTree) (labels : List CoreLabel) (n : ℕ) (ss : List StmtCode) (last : StmtCode) → free ≤ t → Good c g v f free near e (lowered v e)
+      → PartWords n (joined_before ss last).part → PartWords (taken_words e + label_words * max 1 (length labels) + 1 + n) (switch_part t (lowered v e) labels ss last)
+  switch_words t e labels n ss last le h k x at =
+      let first : ℕ = at + choice_size (lowered v e) labels in
+      let places : List ℕ = entries ss last first in
+      let other : ℕ = other_place (default_part labels) places (place_of x.next) in
+      let i = words_both f free near (choice_code t (lowered v e) labels places other at) ((joined_before ss last).part.code (in_switch x) first) in
+      let j = choice_words t e (lowered v e) labels places other at le h in
+      let m = k (in_switch x) first in
+      omega arith
+
   -- ---- statements
 
   mutual
@@ -369,6 +436,10 @@ module _ (c : CoreUnitTree) (g : CoreFunctionTree) (v : ℕ) (f : TacFunctionTre
         let first = all_stmt_words t true true body le two.0 in
         let second = all_stmt_words t true false step le two.1 in
         record { part = loop_words (stmt_words body) t (stmt_code v t body).tested (stmt_code v t body).part (stmt_code v t step) le first.tested first.part second; way = tt; tested = tt }
+    all_stmt_words t b q (core.switch e labels ss) le h =
+        let four = and_parts _ (stmts_fit c g true q ss) h in
+        let good = expr_words c g v f free near e (and_parts (expr_fits c g e) _ (and_parts _ _ four.0).0).0 in
+        record { part = switch_words t e labels (stmts_words ss) _ _ le good (all_row_words t true q ss le four.1); way = tt; tested = tt }
     all_stmt_words t b q core.break le h = away_words to_break
     all_stmt_words t b q core.continue le h = away_words to_continue
     all_stmt_words t b q (core.return None) le h = plain_return_words
@@ -380,3 +451,13 @@ module _ (c : CoreUnitTree) (g : CoreFunctionTree) (v : ℕ) (f : TacFunctionTre
     all_stmts_words t b q (stmt_and s (stmt_and r ss)) le h =
         let two = and_parts (stmt_fits c g b q s) (stmts_fit c g b q (stmt_and r ss)) h in
         both_words (stmt_code v t s).ends (stmt_code v t s) (stmts_code v t (stmt_and r ss)) (all_stmt_words t b q s le two.0) (all_stmts_words t b q (stmt_and r ss) le two.1)
+
+    -- the parts of a switch
+    pub all_row_words : (t : ℕ) (b q : Bool) (ss : CoreStmts) → free ≤ t → stmts_fit c g b q ss ≡ true → PartWords (stmts_words ss) (row v t ss).part
+    all_row_words t b q no_stmts le h = next_words.part
+    all_row_words t b q (stmt_and s no_stmts) le h =
+        (more (stmt_code v t s) (omega arith) (all_stmt_words t b q s le (and_parts (stmt_fits c g b q s) _ h).0)).part
+    all_row_words t b q (stmt_and s (stmt_and r ss)) le h =
+        let two = and_parts (stmt_fits c g b q s) (stmts_fit c g b q (stmt_and r ss)) h in
+        joined_words (stmt_words s) (stmts_words (stmt_and r ss)) (stmt_code v t s).part (row v t (stmt_and r ss)).part
+        (all_stmt_words t b q s le two.0).part (all_row_words t b q (stmt_and r ss) le two.1)

@@ -7,7 +7,8 @@ use Rattle.qs_core.specs.Trees as core
 use Rattle.qs_core.specs.Trees.{CoreExprTree, CoreStmtTree, CoreStmts, no_stmts, stmt_and, CoreFunctionTree}
 use Rattle.qs_core.specs.declared.numbers.Target.{Target}
 use Rattle.qs_core.specs.Expressions.{Locals, value}
-use Rattle.qs_core.specs.Statements.{Continuation, Continuations, Context, runs, runs_all}
+use Rattle.qs_core.specs.Statements.{Continuation, Continuations, Context, runs, runs_all, runs_from}
+use Rattle.qs_core.specs.Outline.{count_of}
 use Rattle.qs_core.specs.Units.{nowhere, after_function}
 use Rattle.qs_core.proofs.RelationLaws as laws
 use Rattle.qs_tac.specs.Trees.{InstructionTree, return}
@@ -15,16 +16,18 @@ use Rattle.qs_tac.specs.Holders.{temporaries}
 use Rattle.qs_tac.specs.Steps.{ends, step, steps}
 use Rattle.qs_lower_expressions.specs.Exits.{falls, goes}
 use Rattle.qs_lower_expressions.specs.Expressions.{lowered}
-use Rattle.qs_lower.specs.Statements.{Exits, StmtCode, next_falls, to_next, to_break, to_continue, stmt_code, stmts_code}
+use Rattle.qs_lower.specs.Statements.{Exits, StmtCode, next_falls, to_next, to_break, to_continue, joined_before, but_last, last_of, stmt_code, stmts_code, parts_code}
 use Rattle.qs_lower.specs.Statements as lower
 use Rattle.qs_lower.specs.Units.{free_from, body_code, end_code, function_code}
-use Rattle.qs_lower.proofs.StmtSizeLaws.{StmtSized, stmt_sized, stmts_sized}
+use Rattle.qs_lower.proofs.StmtSizeLaws.{StmtSized, row, stmt_sized, stmts_sized}
 use Rattle.qs_lower_expressions.proofs.RealisationLaws.{Model, moves, real_comes, comes_alike, comes_less, Stack, HasAt, real_fault, CallsReal, moment, IsCode, free}
 use Rattle.qs_lower_expressions.proofs.ValueReal as value_real
 use Rattle.qs_lower_expressions.proofs.ExprReal as expr
 use Rattle.qs_lower.proofs.PlainReal as plain
 use Rattle.qs_lower.proofs.FlowReal as flow
 use Rattle.qs_lower.proofs.StmtReal as stmt
+use Rattle.qs_lower.proofs.SwitchReal as switches
+use Rattle.qs_lower.proofs.SwitchReal.{LabelsThere}
 use Rattle.qs_lower.proofs.CallReal as calls
 
 module _ (u : Model) (f : CoreFunctionTree) (code : List InstructionTree) (function : ℕ) (stack : Stack) (is_code : IsCode u f code function stack) (c : Context) (first depth : ℕ) (calls_real : CallsReal u depth c.calls) where
@@ -48,6 +51,7 @@ module _ (u : Model) (f : CoreFunctionTree) (code : List InstructionTree) (funct
     StmtThere (core.call x g es) = calls.IsTaken u f code function stack is_code c first depth calls_real x × calls.AreThere u f code function stack is_code c first depth calls_real es
     StmtThere (core.branch e a b) = IsThere e × StmtThere a × StmtThere b
     StmtThere (core.loop body step) = StmtThere body × StmtThere step
+    StmtThere (core.switch e labels ss) = IsThere e × LabelsThere (count_of ss) labels × StmtsThere ss
     StmtThere core.break = Unit {0}
     StmtThere core.continue = Unit {0}
     StmtThere (core.return None) = Unit {0}
@@ -137,6 +141,16 @@ module _ (u : Model) (f : CoreFunctionTree) (code : List InstructionTree) (funct
           (expr.correct u f code function stack is_code e h.0) (stmt_good a h.1) (stmt_good b h.2) (lowered v e).known refl
       stmt_good (core.loop body step) h =
           stmt.loop_good u f code function stack is_code c first depth calls_real (runs body c) (runs step c) (stmt_code v t body) (stmt_code v t step) (stmt_good body h.0) (stmt_good step h.1)
+      stmt_good (core.switch e labels ss) h = record {
+        sized = stmt_sized v t (core.switch e labels ss);
+        part =
+            switches.switch_real u f code function stack is_code c first depth calls_real e (lowered v e) labels (λ part. runs_from ss part c) (count_of ss)
+            (but_last (parts_code v t ss)) (last_of (parts_code v t ss)) (expr.correct u f code function stack is_code e h.0) h.1 (parts_real ss h.2);
+        way = λ way is. absurd (cc);
+        way_ends = λ way is. absurd (cc);
+        ignores = plain_ignores (core.switch e labels ss) (λ k b l w. refl);
+        tested = tt;
+      }
       stmt_good core.break h = stmt.way_good u f code function stack is_code c first depth calls_real to_break
       stmt_good core.continue h = stmt.way_good u f code function stack is_code c first depth calls_real to_continue
       stmt_good (core.return None) h =
@@ -153,6 +167,29 @@ module _ (u : Model) (f : CoreFunctionTree) (code : List InstructionTree) (funct
       stmts_good (stmt_and s (stmt_and r ss)) h =
           stmt.both_good u f code function stack is_code c first depth calls_real (runs s c) (runs_all (stmt_and r ss) c) (stmt_code v t s) (stmts_code v t (stmt_and r ss))
           (stmt_good s h.0) (stmts_good (stmt_and r ss) h.1)
+
+      -- the parts of a switch, from the first one on, and from each
+      row_real : (ss : CoreStmts) → StmtsThere ss → plain.PartReal u f code function stack is_code c first depth calls_real (runs_all ss c) (row v t ss).part
+      row_real no_stmts h = flow.going_real u f code function stack is_code c first depth calls_real to_next
+      row_real (stmt_and s no_stmts) h = (stmt_good s h.0).part
+      row_real (stmt_and s (stmt_and r ss)) h =
+          flow.joined_real u f code function stack is_code c first depth calls_real (runs s c) (runs_all (stmt_and r ss) c) (stmt_code v t s).part (row v t (stmt_and r ss)).part
+          (stmt_good s h.0).part (row_real (stmt_and r ss) h.1) (stmt_sized v t s).part
+
+      parts_real :
+          (ss : CoreStmts) → StmtsThere ss
+          → switches.PartsReal u f code function stack is_code c first depth calls_real (λ part. runs_from ss part c) (count_of ss) (but_last (parts_code v t ss)) (last_of (parts_code v t ss))
+      parts_real no_stmts h =
+          switches.no_parts_real u f code function stack is_code c first depth calls_real (λ part. runs_from no_stmts part c) (last_of [])
+      parts_real (stmt_and s no_stmts) h =
+          switches.one_part_real u f code function stack is_code c first depth calls_real (λ part. runs_from (stmt_and s no_stmts) part c) (0 + 1) (runs s c) (stmt_code v t s) (omega arith)
+          (stmt_good s h.0).part (λ k l w. refl)
+      parts_real (stmt_and s (stmt_and r ss)) h =
+          switches.more_parts_real u f code function stack is_code c first depth calls_real
+          (λ part. runs_from (stmt_and s (stmt_and r ss)) part c) (λ part. runs_from (stmt_and r ss) part c) (count_of (stmt_and r ss) + 1) (count_of (stmt_and r ss))
+          (runs s c) (runs_all (stmt_and r ss) c) (stmt_code v t s) (but_last (parts_code v t (stmt_and r ss))) (last_of (parts_code v t (stmt_and r ss))) (omega arith)
+          (stmt_good s h.0).part (stmt_sized v t s).part (row_real (stmt_and r ss) h.1) (parts_real (stmt_and r ss) h.1)
+          (λ k l w. refl) (λ part k l w. refl)
 
   -- ---- behind the body of a function
 

@@ -8,10 +8,11 @@ use Rattle.qs_memory.specs.declared.operation.Direction.TheVariants.{Up}
 use Rattle.qs_memory.specs.declared.operation.Arithmetic.TheVariants.{Add, Multiply}
 use Rattle.qs_memory.specs.declared.operation.Comparison.TheVariants.{Less}
 use Rattle.qs_memory.specs.declared.operation.BinaryOperation.TheVariants.{Arithmetic, Compare, Move}
+use Rattle.qs_core.specs.declared.labels.CoreLabel.TheVariants.{Case, Default}
 use Rattle.qs_core.specs.declared.numbers.BlockId.TheVariants as blocks
 use Rattle.qs_core.specs.declared.numbers.Target.TheVariants.{Variable}
 use Rattle.qs_core.specs.Trees.{CoreExprTree, literal, variable, address_of, load, binary, conversion, logical_and}
-use Rattle.qs_core.specs.Trees.{CoreStmtTree, skip, assign, store, fill, branch, loop, break, return, stmts_of, CoreFunctionTree}
+use Rattle.qs_core.specs.Trees.{CoreStmtTree, skip, assign, store, fill, branch, loop, switch, break, return, stmts_of, CoreFunctionTree}
 use Rattle.qs_core.specs.Sizes as counts
 use Rattle.qs_tac.specs.Sizes as sizes
 use Rattle.qs_lower.specs.WordLaws.{lowered_function}
@@ -65,12 +66,14 @@ bodies =
     ∷ (return (Some (logical_and x y)) ∷ [])
     -- char a[7] = {0};
     ∷ (fill (zeros 7) (address_of (blocks.Local 0)) ∷ [])
+    -- switch (x) { case 5: x = 1; break; default: x = 2; }
+    ∷ (switch x (Case 5 0 ∷ Default 2 ∷ []) (stmts_of (assign (Variable 0) (int 1) ∷ break ∷ assign (Variable 0) (int 2) ∷ [])) ∷ [])
     ∷ []
 
-in_core : map (λ body. counts.words (large body)) bodies ≡ 55 ∷ 45 ∷ 50 ∷ 55 ∷ 60 ∷ 66 ∷ 46 ∷ []
+in_core : map (λ body. counts.words (large body)) bodies ≡ 55 ∷ 45 ∷ 50 ∷ 55 ∷ 60 ∷ 66 ∷ 46 ∷ 62 ∷ []
 in_core = refl
 
-lowered : map (λ body. sizes.words (lowered_function (large body))) bodies ≡ 55 ∷ 45 ∷ 47 ∷ 52 ∷ 50 ∷ 49 ∷ 45 ∷ []
+lowered : map (λ body. sizes.words (lowered_function (large body))) bodies ≡ 55 ∷ 45 ∷ 47 ∷ 52 ∷ 50 ∷ 49 ∷ 45 ∷ 49 ∷ []
 lowered = refl
 
 -- ---- values: the pointer and the count are held while what is stored is made

@@ -1,3 +1,4 @@
+pub mod Choices
 pub mod Statements
 pub mod Units
 pub mod Laws

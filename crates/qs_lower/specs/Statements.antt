@@ -5,11 +5,14 @@ use Rattle.qs_memory.specs.declared.scalar.Scalar.{Scalar}
 use Rattle.qs_calls.specs.declared.callee.Callee.{Callee}
 use Rattle.qs_core.specs.Trees as core
 use Rattle.qs_core.specs.Trees.{CoreStmtTree, CoreStmts, no_stmts, stmt_and}
+use Rattle.qs_core.specs.Statements.{default_part}
+use Rattle.qs_core.specs.declared.labels.CoreLabel.{CoreLabel}
 use Rattle.qs_core.specs.declared.numbers.Target.{Target}
 use Rattle.qs_core.specs.declared.numbers.Target.TheVariants as targets
 use Rattle.qs_tac.specs.Trees.{InstructionTree, store, copy, fill, call, jump, return}
-use Rattle.qs_lower_expressions.specs.Exits.{Exit, falls, goes, is_fall, settled, exit_size, exit_code}
+use Rattle.qs_lower_expressions.specs.Exits.{Exit, falls, goes, is_fall, place_of, settled, exit_size, exit_code}
 use Rattle.qs_lower_expressions.specs.Expressions.{ExprCode, size_of, code_of, operand_of, used_by, address_at, lowered, all_size, all_code, all_operands, all_used}
+use Rattle.qs_lower.specs.Choices.{choice_size, choice_code, other_place}
 
 -- ---- exits
 
@@ -81,7 +84,7 @@ pub record StmtCode : Type 0 where
   pub way : Option Way
   -- it never comes to what is next
   pub ends : Bool
-  -- a break of the loop around it can be reached
+  -- a break of the loop or switch around it can be reached
   pub breaks : Bool
   pub tested : Option Tested
 
@@ -367,6 +370,61 @@ of_loop t body step = record {
   tested = None;
 }
 
+-- ---- switches
+
+-- these, one after the other, and then the last
+abbrev pub joined_before : List StmtCode → (last : StmtCode) → StmtCode
+joined_before [] last = last
+joined_before (s ∷ ss) last = of_joined s (joined_before ss last)
+
+-- where jumps to each of them go, in order, where the first stands at this index
+abbrev pub entries : List StmtCode → (last : StmtCode) → (at : ℕ) → List ℕ
+entries [] last at = last.part.entry at ∷ []
+entries (s ∷ ss) last at = s.part.entry at ∷ entries ss last (at + s.part.size next_falls)
+
+-- 6.8.6.3: a break of a part goes behind the switch
+abbrev pub in_switch : Exits → Exits
+in_switch x = record x { on_break = x.next }
+
+abbrev pub in_switch_falls : Falls → Falls
+in_switch_falls y = record y { on_break = y.next }
+
+-- the parts stand one behind the other, and none is left out, since a label may stand before it
+abbrev pub switch_part : (t : ℕ) → ExprCode → List CoreLabel → List StmtCode → (last : StmtCode) → Part
+switch_part t e labels ss last = record {
+  size = λ y. choice_size e labels + (joined_before ss last).part.size (in_switch_falls y);
+  code = λ x at.
+      let first = at + choice_size e labels in
+      let places = entries ss last first in
+      choice_code t e labels places (other_place (default_part labels) places (place_of x.next)) at
+      ++ (joined_before ss last).part.code (in_switch x) first;
+  entry = entered_first;
+}
+
+abbrev pub of_switch : (t : ℕ) → ExprCode → List CoreLabel → List StmtCode → (last : StmtCode) → StmtCode
+of_switch t e labels ss last = record {
+  part = switch_part t e labels ss last;
+  used = max (used_by e) (joined_before ss last).used;
+  way = None;
+  ends = false;
+  breaks = false;
+  tested = None;
+}
+
+-- of all parts, the last one apart; without any it does nothing
+abbrev pub but_last : List StmtCode → List StmtCode
+but_last [] = []
+but_last (s ∷ []) = []
+but_last (s ∷ r ∷ ss) = s ∷ but_last (r ∷ ss)
+
+abbrev pub last_of : List StmtCode → StmtCode
+last_of [] = by_way to_next
+last_of (s ∷ []) = s
+last_of (s ∷ r ∷ ss) = last_of (r ∷ ss)
+
+abbrev pub of_all_parts : (t : ℕ) → ExprCode → List CoreLabel → List StmtCode → StmtCode
+of_all_parts t e labels ss = of_switch t e labels (but_last ss) (last_of ss)
+
 -- ---- statements
 
 -- v: the count of the function's variables, which are the first temporaries; t: the first temporary that is free
@@ -383,6 +441,7 @@ abbrev mutual
       let test = lowered v e in
       of_branch test.known t test (stmt_code v t a) (stmt_code v t b)
   stmt_code v t (core.loop body step) = of_loop t (stmt_code v t body) (stmt_code v t step)
+  stmt_code v t (core.switch e labels ss) = of_all_parts t (lowered v e) labels (parts_code v t ss)
   stmt_code v t core.break = by_way to_break
   stmt_code v t core.continue = by_way to_continue
   stmt_code v t (core.return None) = of_plain_return
@@ -392,3 +451,8 @@ abbrev mutual
   stmts_code v t no_stmts = by_way to_next
   stmts_code v t (stmt_and s no_stmts) = stmt_code v t s
   stmts_code v t (stmt_and s (stmt_and r ss)) = of_both (stmt_code v t s) (stmts_code v t (stmt_and r ss))
+
+  -- each by itself
+  pub parts_code : (v t : ℕ) → CoreStmts → List StmtCode
+  parts_code v t no_stmts = []
+  parts_code v t (stmt_and s ss) = stmt_code v t s ∷ parts_code v t ss

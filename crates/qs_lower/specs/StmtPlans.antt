@@ -9,11 +9,12 @@ use Rattle.qs_calls.specs.declared.callee.Callee.{Callee}
 use Rattle.qs_core.specs.Trees.{CoreStmtTree, copy}
 use Rattle.qs_core.specs.TreeOf.{core_expr}
 use Rattle.qs_core.specs.declared.expressions.CoreExpr.{CoreExpr}
+use Rattle.qs_core.specs.declared.labels.CoreLabel.{CoreLabel}
 use Rattle.qs_tac.specs.declared.instruction.Instruction.{Instruction}
 use Rattle.qs_tac.specs.Trees.{InstructionTree}
 use Rattle.qs_lower_expressions.specs.Expressions.{ExprCode}
 use Rattle.qs_lower.specs.Statements as spec
-use Rattle.qs_lower.specs.Statements.{Way, StmtCode, to_next, leaves, is_break, redirected, by_way, of_assign, of_store, of_copy, of_fill, of_call, of_return, of_plain_return, of_joined, of_both, of_test, Exits, before, next_falls, test_last, body_first, body_alone, falls_of, of_branch}
+use Rattle.qs_lower.specs.Statements.{Way, StmtCode, to_next, leaves, is_break, redirected, by_way, of_assign, of_store, of_copy, of_fill, of_call, of_return, of_plain_return, of_joined, of_both, of_test, joined_before, of_switch, of_all_parts, Exits, before, next_falls, test_last, body_first, body_alone, falls_of, of_branch}
 use Rattle.qs_lower_expressions.specs.Plans.{expr_code, expr_codes, exit_tree, EmitsAt, Grows}
 use Rattle.qs_lower.specs.Ways.{way_tree, only}
 use Rattle.qs_lower_expressions.specs.declared.exits.Exit.{Exit}
@@ -23,6 +24,7 @@ use Rattle.qs_lower.specs.declared.stmt_plans.StmtPlan.{StmtPlan, StmtPlan-F, fo
 use Rattle.qs_lower.specs.declared.stmt_plans.BranchPlan.{BranchPlan, BranchPlan-F, fold-BranchPlan}
 use Rattle.qs_lower.specs.declared.stmt_plans.LoopPlan.{LoopPlan, LoopPlan-F, fold-LoopPlan}
 use Rattle.qs_lower.specs.declared.stmt_plans.TestedPlan.{TestedPlan, TestedPlan-F, fold-TestedPlan}
+use Rattle.qs_lower.specs.declared.stmt_plans.SwitchPlan.{SwitchPlan, SwitchPlan-F, fold-SwitchPlan}
 
 -- whether what follows the test at a statement's end does nothing, where there is such a test
 abbrev pub idle_in : Option spec.Tested → Option Bool
@@ -33,11 +35,6 @@ abbrev pub idle_of : StmtCode → Option Bool
 idle_of s = idle_in s.tested
 
 -- ---- several statements
-
--- these, one after the other, and then the last
-abbrev pub joined_before : List StmtCode → (last : StmtCode) → StmtCode
-joined_before [] last = last
-joined_before (s ∷ ss) last = of_joined s (joined_before ss last)
 
 -- behind each of them something else stands
 abbrev pub sizes_before : List StmtCode → ℕ
@@ -80,16 +77,19 @@ tested_of front test rest = record { front = front.part; test = test; rest = res
 abbrev pub tested_loop : (t used : ℕ) → (ends : Bool) → spec.Tested → StmtCode → StmtCode
 tested_loop t used ends d step = record { part = test_last t d step.part; used = used; way = None; ends = ends; breaks = false; tested = None }
 
-abbrev pub branch_step : BranchPlan-F StmtCode StmtCode StmtCode StmtCode → StmtCode
+abbrev pub branch_step : BranchPlan-F StmtCode StmtCode StmtCode StmtCode StmtCode → StmtCode
 branch_step p = of_test p.free (expr_code p.test) p.met p.unmet
 
-abbrev pub loop_step : LoopPlan-F StmtCode StmtCode StmtCode StmtCode → StmtCode
+abbrev pub loop_step : LoopPlan-F StmtCode StmtCode StmtCode StmtCode StmtCode → StmtCode
 loop_step p = loop_of p.is_alone p.body p.step
 
-abbrev pub tested_step : TestedPlan-F StmtCode StmtCode StmtCode StmtCode → StmtCode
+abbrev pub tested_step : TestedPlan-F StmtCode StmtCode StmtCode StmtCode StmtCode → StmtCode
 tested_step p = tested_loop p.free p.used p.ends (tested_of p.front (expr_code p.test) p.rest) p.step
 
-abbrev pub stmt_step : StmtPlan-F StmtCode StmtCode StmtCode StmtCode → StmtCode
+abbrev pub switch_step : SwitchPlan-F StmtCode StmtCode StmtCode StmtCode StmtCode → StmtCode
+switch_step p = of_switch p.free (expr_code p.operand) p.labels.items p.parts.items p.last
+
+abbrev pub stmt_step : StmtPlan-F StmtCode StmtCode StmtCode StmtCode StmtCode → StmtCode
 stmt_step (StmtPlan-F.Go w) = by_way (way_tree w)
 stmt_step (StmtPlan-F.Assign t x e) = of_assign x t (expr_code e)
 stmt_step (StmtPlan-F.Store t s a b) = of_store t s (expr_code a) (expr_code b)
@@ -103,18 +103,22 @@ stmt_step (StmtPlan-F.Redirected a w) = redirected_to a.value (way_tree w)
 stmt_step (StmtPlan-F.Branch p) = p.value
 stmt_step (StmtPlan-F.Loop p) = p.value
 stmt_step (StmtPlan-F.TestedLoop p) = p.value
+stmt_step (StmtPlan-F.Switch p) = p.value
 
 abbrev pub stmt_part : StmtPlan → StmtCode
-stmt_part = fold-StmtPlan StmtCode StmtCode StmtCode StmtCode stmt_step branch_step loop_step tested_step
+stmt_part = fold-StmtPlan StmtCode StmtCode StmtCode StmtCode StmtCode stmt_step branch_step loop_step switch_step tested_step
 
 abbrev pub branch_part : BranchPlan → StmtCode
-branch_part = fold-BranchPlan StmtCode StmtCode StmtCode StmtCode stmt_step branch_step loop_step tested_step
+branch_part = fold-BranchPlan StmtCode StmtCode StmtCode StmtCode StmtCode stmt_step branch_step loop_step switch_step tested_step
 
 abbrev pub loop_part : LoopPlan → StmtCode
-loop_part = fold-LoopPlan StmtCode StmtCode StmtCode StmtCode stmt_step branch_step loop_step tested_step
+loop_part = fold-LoopPlan StmtCode StmtCode StmtCode StmtCode StmtCode stmt_step branch_step loop_step switch_step tested_step
 
 abbrev pub tested_part : TestedPlan → StmtCode
-tested_part = fold-TestedPlan StmtCode StmtCode StmtCode StmtCode stmt_step branch_step loop_step tested_step
+tested_part = fold-TestedPlan StmtCode StmtCode StmtCode StmtCode StmtCode stmt_step branch_step loop_step switch_step tested_step
+
+abbrev pub switch_part : SwitchPlan → StmtCode
+switch_part = fold-SwitchPlan StmtCode StmtCode StmtCode StmtCode StmtCode stmt_step branch_step loop_step switch_step tested_step
 
 -- the test at a statement's end, without what is told of what follows it
 abbrev pub test_in : Option spec.Tested → Option spec.Tested
@@ -179,6 +183,12 @@ joined_plans all last = joined_before (stmt_parts all) (stmt_part last)
 
 abbrev pub branch_plans : Option Bool → (free : ℕ) → ExprPlan → (met unmet : StmtPlan) → StmtCode
 branch_plans known free test met unmet = of_branch known free (expr_code test) (stmt_part met) (stmt_part unmet)
+
+abbrev pub switch_to : (free : ℕ) → ExprPlan → List CoreLabel → (parts : List StmtPlan) → (last : StmtPlan) → StmtCode
+switch_to free operand labels parts last = of_switch free (expr_code operand) labels (stmt_parts parts) (stmt_part last)
+
+abbrev pub switch_plans : (free : ℕ) → ExprPlan → List CoreLabel → (parts : List StmtPlan) → StmtCode
+switch_plans free operand labels parts = of_all_parts free (expr_code operand) labels (stmt_parts parts)
 
 abbrev pub tested_parts : TestedParts → spec.Tested
 tested_parts p = tested_of (stmt_part p.front) (expr_code p.test) (stmt_part p.rest)

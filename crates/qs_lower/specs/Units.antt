@@ -28,7 +28,7 @@ abbrev pub end_code : (ends : Bool) → List InstructionTree
 end_code true = []
 end_code false = return None ∷ []
 
--- no break and no continue stands outside every loop
+-- no break stands outside every loop and switch, and no continue outside every loop
 abbrev pub code_of_body : StmtCode → List InstructionTree
 code_of_body b =
     let end = b.part.size next_falls in

@@ -51,6 +51,7 @@ abbrev mutual
   most_arguments (core.call x f arguments) = length arguments
   most_arguments (core.branch e a b) = max (most_arguments a) (most_arguments b)
   most_arguments (core.loop body step) = max (most_arguments body) (most_arguments step)
+  most_arguments (core.switch e labels ss) = most_arguments_in ss
   most_arguments core.break = 0
   most_arguments core.continue = 0
   most_arguments (core.return e) = 0

@@ -7,7 +7,9 @@ ghost use Rattle.qs_core.specs.TreeOf.{core_expr, core_exprs, core_stmt, core_st
 ghost use Rattle.qs_lower.specs.Statements as spec;
 ghost use Rattle.qs_lower.specs.StmtPlans.{AreStmtPlansIn, IsStmtPlanIn, IsStmtPlanOf, copy_stmt};
 
-use crate::stmt_planning::{all_lowered, joined, of_branch, of_loop, taken_by, target_of};
+use crate::stmt_planning::{
+    all_lowered, joined, of_branch, of_loop, of_switch, taken_by, target_of,
+};
 use crate::stmt_plans::StmtPlan;
 use crate::ways::Way;
 use qs_base::NoMemory;
@@ -137,6 +139,11 @@ fn stmt_plan(alloc: Global, v: u32, free: u32, s: &CoreStmt) -> Result<StmtPlan,
             let body = stmt_plan(alloc, v, free, a)?;
             let step = stmt_plan(alloc, v, free, b)?;
             of_loop(alloc, free, body, step)
+        }
+        CoreStmt::Switch(e, labels, ss) => {
+            let e = lowered(alloc, v, e)?;
+            let parts = stmt_plans(alloc, v, free, ss)?;
+            of_switch(alloc, free, e, labels, parts)
         }
         CoreStmt::Break => Ok(StmtPlan::Go(Way::Break)),
         CoreStmt::Continue => Ok(StmtPlan::Go(Way::Continue)),

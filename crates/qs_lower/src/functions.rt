@@ -42,7 +42,7 @@ fn emit_end(code: &mut Vec<Instruction>, ends: bool) -> Result<(), NoMemory>
     }
 }
 
-// No break and no continue stands outside every loop.
+// No break stands outside every loop and switch, and no continue outside every loop.
 fn body_code(alloc: Global, body: &StmtPlan) -> Result<Vec<Instruction>, NoMemory>
     ensures { IfOk result (HasCode (spec.code_of_body (stmt_part body.now))) }
 {

@@ -2,6 +2,7 @@
 #![tactic(auto)]
 
 mod bodies;
+mod choices;
 mod data;
 mod functions;
 mod laws;

@@ -2,20 +2,22 @@
 ghost use Rattle.std.specs.Prelude.{◌≡◌, ◌+◌, ◌++◌, None, OnOk};
 ghost use Rattle.qs_lower_expressions.specs.Expressions as spec;
 ghost use Rattle.qs_lower_expressions.specs.Plans.{EmitsAt, Grows, expr_codes};
-ghost use Rattle.qs_lower.specs.StmtPlans.{stmt_part, branch_part, loop_part, tested_part};
+ghost use Rattle.qs_lower.specs.StmtPlans.{stmt_part, branch_part, loop_part, tested_part, switch_part};
 ghost use Rattle.qs_lower.specs.StmtPlans.{EmitsBefore, EmitsCopy, EmitsPart, EmitsTo, GrowsByCopy};
 ghost use Rattle.qs_lower.specs.StmtPlans.{GrowsByPart, GrowsTo, call_code, fill_code};
 ghost use Rattle.qs_lower.specs.StmtPlans.{sizes_before, stmt_parts, store_code};
 ghost use Rattle.qs_lower.specs.Ways.{exits_tree};
 ghost use Rattle.qs_lower_expressions.specs.Expressions.{all_operands};
 
-use crate::stmt_plans::{BranchPlan, LoopPlan, StmtPlan, TestedPlan};
-use crate::stmt_sizes::{entry, entry_before, stmt_size};
+use crate::choices::{choice_size, emit_choice, other_place};
+use crate::stmt_plans::{BranchPlan, LoopPlan, StmtPlan, SwitchPlan, TestedPlan};
+use crate::stmt_sizes::{entries, entry, entry_before, stmt_size};
 use crate::ways::{
     Exits, body_exits, body_falls, front_exits, last_exits, next_falls, none_falls, step_exits,
 };
 use qs_base::{NoMemory, sum};
 use qs_calls::Callee;
+use qs_core::default_part;
 use qs_lower_expressions::{
     Exit, ExprPlan, address_at, base_own, emit_base, emit_exit, emit_into, emit_operand, emit_test,
     operand_of, own, place, put, test_size,
@@ -163,6 +165,7 @@ pub fn emit_stmt(
         StmtPlan::Branch(p) => emit_branch(alloc, code, p, x),
         StmtPlan::Loop(p) => emit_loop(alloc, code, p, x),
         StmtPlan::TestedLoop(p) => emit_tested(alloc, code, p, x),
+        StmtPlan::Switch(p) => emit_switch(alloc, code, p, x),
         StmtPlan::Return(t, e) => {
             emit_operand(code, e, *t)?;
             put(code, Instruction::Return(Some(operand_of(e, *t))))
@@ -312,4 +315,22 @@ fn emit_tested(
         x.next,
         p.free,
     )
+}
+
+#[cycle(stmt_emission)]
+fn emit_switch(
+    alloc: Global,
+    code: &mut Vec<Instruction>,
+    p: &SwitchPlan,
+    x: Exits,
+) -> Result<(), NoMemory>
+    ensures code { OnOk result (EmitsPart code.old code.new (switch_part p.now) (exits_tree x)) }
+    ensures size { OnOk result (GrowsByPart code.old code.new (switch_part p.now) (exits_tree x)) }
+{
+    let first = sum(place(code)?, choice_size(&p.operand, &p.labels)?)?;
+    let places = entries(alloc, &p.parts, &p.last, first)?;
+    let other = other_place(default_part(&p.labels), &places, x.next.place());
+    emit_choice(code, p.free, &p.operand, &p.labels, &places, other)?;
+    emit_before(alloc, code, &p.parts, &p.last, x.in_switch())?;
+    emit_stmt(alloc, code, &p.last, x.in_switch())
 }

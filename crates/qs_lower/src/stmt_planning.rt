@@ -5,13 +5,13 @@ ghost use Rattle.qs_lower_expressions.specs.Plans.{ArePlansIn};
 ghost use Rattle.qs_lower.specs.Statements as spec;
 ghost use Rattle.qs_lower.specs.StmtPlans.{stmt_part, all_before, all_joined, IsStmtPlanOf};
 ghost use Rattle.qs_lower.specs.StmtPlans.{branch_plans, joined_plans, loop_at_end, loop_of};
-ghost use Rattle.qs_lower.specs.StmtPlans.{stmt_parts, test_at_end};
+ghost use Rattle.qs_lower.specs.StmtPlans.{stmt_parts, switch_plans, switch_to, test_at_end};
 
-use crate::stmt_plans::{BranchPlan, LoopPlan, StmtPlan, TestedParts, TestedPlan};
+use crate::stmt_plans::{BranchPlan, LoopPlan, StmtPlan, SwitchPlan, TestedParts, TestedPlan};
 use crate::stmt_scratch::stmt_used;
 use crate::ways::{Way, is_next};
 use qs_base::{NoMemory, sum};
-use qs_core::{CoreExpr, Target};
+use qs_core::{CoreExpr, CoreLabel, Target};
 use qs_lower_expressions::{ExprPlan, lowered};
 use std::alloc::Global;
 
@@ -156,6 +156,47 @@ pub fn of_loop(
                 tested_loop(alloc, free, body, step)
             }
         }
+    }
+}
+
+// ---- switches
+
+fn with_parts(
+    alloc: Global,
+    free: u32,
+    operand: ExprPlan,
+    labels: &[CoreLabel],
+    parts: Vec<StmtPlan>,
+    last: StmtPlan,
+) -> Result<StmtPlan, NoMemory>
+    ensures { IfOk result (IsStmtPlanOf (switch_to free operand labels.now parts.items last)) }
+{
+    let labels = Vec::from_slice(alloc, labels)?;
+    let plan = SwitchPlan {
+        free,
+        operand,
+        labels,
+        parts,
+        last,
+    };
+    Ok(StmtPlan::Switch(Box::new(alloc, plan)?))
+}
+
+/// The parts, from the one on that the operand chooses. None is left out, since a label may stand
+/// before it.
+pub fn of_switch(
+    alloc: Global,
+    free: u32,
+    operand: ExprPlan,
+    labels: &[CoreLabel],
+    parts: Vec<StmtPlan>,
+) -> Result<StmtPlan, NoMemory>
+    ensures { IfOk result (IsStmtPlanOf (switch_plans free operand labels.now parts.items)) }
+{
+    let mut parts = parts;
+    match parts.pop() {
+        None => with_parts(alloc, free, operand, labels, parts, StmtPlan::Go(Way::Next)),
+        Some(last) => with_parts(alloc, free, operand, labels, parts, last),
     }
 }
 

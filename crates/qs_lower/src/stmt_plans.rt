@@ -8,6 +8,7 @@ ghost use Rattle.qs_lower.specs.Statements.{is_break, leaves};
 use crate::ways::{Way, is_next};
 use qs_base::NoMemory;
 use qs_calls::Callee;
+use qs_core::CoreLabel;
 use qs_lower_expressions::ExprPlan;
 use qs_memory::{Blank, Scalar};
 use std::alloc::Global;
@@ -48,6 +49,8 @@ pub enum StmtPlan {
     Loop(Box<LoopPlan>),
     /// the same of a body that ends in a test
     TestedLoop(Box<TestedPlan>),
+    /// the parts, from the one on that the operand chooses
+    Switch(Box<SwitchPlan>),
 }
 
 /// The plan of a branch.
@@ -94,6 +97,21 @@ pub struct TestedPlan {
     pub ends: bool,
 }
 
+/// The plan of a switch.
+#[cycle(stmt_plan)]
+pub struct SwitchPlan {
+    /// the first temporary that is free
+    pub free: u32,
+    /// the operand
+    pub operand: ExprPlan,
+    /// its labels, in order
+    pub labels: Vec<CoreLabel>,
+    /// its parts, but for the last
+    pub parts: Vec<StmtPlan>,
+    /// the last part
+    pub last: StmtPlan,
+}
+
 // By hand, as the drops of core's statements.
 impl Drop for StmtPlan {
     #[cycle(drop_stmt_plan)]
@@ -118,6 +136,7 @@ impl Drop for StmtPlan {
             StmtPlan::Branch(_) => {}
             StmtPlan::Loop(_) => {}
             StmtPlan::TestedLoop(_) => {}
+            StmtPlan::Switch(_) => {}
         }
     }
 }
@@ -160,6 +179,19 @@ impl Drop for TestedPlan {
     }
 }
 
+impl Drop for SwitchPlan {
+    #[cycle(drop_stmt_plan)]
+    fn drop(self) {
+        let SwitchPlan {
+            free: _,
+            operand: _,
+            labels: _,
+            parts: _,
+            last: _,
+        } = self;
+    }
+}
+
 impl StmtPlan {
     /// Where it goes, if it does nothing else.
     pub fn way(&self) -> Option<Way>
@@ -184,10 +216,11 @@ impl StmtPlan {
             StmtPlan::Branch(_) => None,
             StmtPlan::Loop(_) => None,
             StmtPlan::TestedLoop(_) => None,
+            StmtPlan::Switch(_) => None,
         }
     }
 
-    /// Whether a break of the loop around it can be reached.
+    /// Whether a break of the loop or switch around it can be reached.
     #[cycle(breaks)]
     pub fn breaks(&self) -> bool
         ensures { result ≡ (stmt_part self.now).breaks }
@@ -206,6 +239,7 @@ impl StmtPlan {
             StmtPlan::PlainReturn => false,
             StmtPlan::Loop(_) => false,
             StmtPlan::TestedLoop(_) => false,
+            StmtPlan::Switch(_) => false,
         }
     }
 
@@ -227,6 +261,7 @@ impl StmtPlan {
             StmtPlan::Copy { .. } => false,
             StmtPlan::Fill(_, _, _) => false,
             StmtPlan::Call(_, _, _, _) => false,
+            StmtPlan::Switch(_) => false,
         }
     }
 
@@ -248,6 +283,7 @@ impl StmtPlan {
             StmtPlan::PlainReturn => None,
             StmtPlan::Loop(_) => None,
             StmtPlan::TestedLoop(_) => None,
+            StmtPlan::Switch(_) => None,
         }
     }
 }
@@ -340,6 +376,7 @@ impl StmtPlan {
             StmtPlan::PlainReturn => unreachable!(),
             StmtPlan::Loop(_) => unreachable!(),
             StmtPlan::TestedLoop(_) => unreachable!(),
+            StmtPlan::Switch(_) => unreachable!(),
         }
     }
 }

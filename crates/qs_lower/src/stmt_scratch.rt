@@ -49,6 +49,10 @@ pub fn stmt_used(s: &StmtPlan) -> Result<u32, NoMemory>
         }
         StmtPlan::Loop(p) => Ok(stmt_used(&p.body)?.max(stmt_used(&p.step)?)),
         StmtPlan::TestedLoop(p) => Ok(p.used),
+        StmtPlan::Switch(p) => {
+            let parts = most_used(&p.parts)?.max(stmt_used(&p.last)?);
+            Ok(used_by(&p.operand)?.max(parts))
+        }
     }
 }
 

@@ -1,16 +1,19 @@
 // How many instructions the code of a statement has, and where jumps to it go.
 ghost use Rattle.std.specs.Prelude.{◌≡◌, ◌+◌, IfOk};
+ghost use Rattle.qs_lower.specs.Statements.{entries};
 ghost use Rattle.qs_lower_expressions.specs.Expressions as spec;
 ghost use Rattle.qs_lower_expressions.specs.Plans.{expr_code, expr_codes};
-ghost use Rattle.qs_lower.specs.StmtPlans.{stmt_part, branch_part, loop_part, tested_part};
+ghost use Rattle.qs_lower.specs.StmtPlans.{stmt_part, branch_part, loop_part, tested_part, switch_part};
 ghost use Rattle.qs_lower.specs.StmtPlans.{joined_plans, sizes_before, stmt_parts};
 ghost use Rattle.qs_lower.specs.Ways.{falls_tree};
 ghost use Rattle.qs_lower_expressions.specs.Expressions.{size_of};
 
-use crate::stmt_plans::{BranchPlan, LoopPlan, StmtPlan, TestedPlan};
+use crate::choices::choice_size;
+use crate::stmt_plans::{BranchPlan, LoopPlan, StmtPlan, SwitchPlan, TestedPlan};
 use crate::ways::{Falls, body_falls, last_falls, next_falls, none_falls};
 use qs_base::{NoMemory, sum};
 use qs_lower_expressions::{ExprPlan, base_size, exit_size, size, size_of, test_size};
+use std::alloc::Global;
 
 // Of all of them, one behind the other.
 fn all_size(es: &[ExprPlan]) -> Result<u32, NoMemory>
@@ -59,6 +62,7 @@ pub fn stmt_size(s: &StmtPlan, y: Falls) -> Result<u32, NoMemory>
         StmtPlan::Branch(p) => branch_size(p, y),
         StmtPlan::Loop(p) => loop_size(p, y),
         StmtPlan::TestedLoop(p) => tested_size(p, y),
+        StmtPlan::Switch(p) => switch_size(p, y),
     }
 }
 
@@ -120,6 +124,15 @@ fn tested_size(p: &TestedPlan, y: Falls) -> Result<u32, NoMemory>
     sum(front, test_size(&p.test, false, y.next)?)
 }
 
+#[cycle(stmt_sizes)]
+fn switch_size(p: &SwitchPlan, y: Falls) -> Result<u32, NoMemory>
+    ensures { IfOk result (λ n. n ≡ (switch_part p.now).part.size (falls_tree y)) }
+{
+    let first = choice_size(&p.operand, &p.labels)?;
+    let second = sum(first, sizes_before(&p.parts)?)?;
+    sum(second, stmt_size(&p.last, y.in_switch())?)
+}
+
 /// The index of the instruction where jumps to a statement go, whose code begins at this one.
 pub fn entry(s: &StmtPlan, at: u32) -> Result<u32, NoMemory>
     ensures { IfOk result (λ n. n ≡ (stmt_part s.now).part.entry at) }
@@ -144,6 +157,7 @@ pub fn entry(s: &StmtPlan, at: u32) -> Result<u32, NoMemory>
         StmtPlan::Return(_, _) => Ok(at),
         StmtPlan::PlainReturn => Ok(at),
         StmtPlan::Branch(p) => branch_entry(p, at),
+        StmtPlan::Switch(_) => Ok(at),
     }
 }
 
@@ -171,4 +185,23 @@ fn branch_entry(p: &BranchPlan, at: u32) -> Result<u32, NoMemory>
             None => Ok(at),
         },
     }
+}
+
+/// Where jumps to each of these go, in order, and to the last, where the first stands at this index.
+pub fn entries(
+    alloc: Global,
+    ss: &[StmtPlan],
+    last: &StmtPlan,
+    at: u32,
+) -> Result<Vec<u32>, NoMemory>
+    ensures { IfOk result (λ r. r.items ≡ entries (stmt_parts ss.now) (stmt_part last.now) at) }
+{
+    let mut all = Vec::new(alloc);
+    let mut place = at;
+    for s in ss {
+        all.push(entry(s, place)?)?;
+        place = sum(place, stmt_size(s, next_falls())?)?;
+    }
+    all.push(entry(last, place)?)?;
+    Ok(all)
 }

@@ -11,7 +11,7 @@ use qs_lower_expressions::Exit;
 pub enum Way {
     /// to what is next
     Next,
-    /// out of the loop
+    /// out of the loop or switch
     Break,
     /// to the step of the loop
     Continue,
@@ -52,7 +52,7 @@ pub fn is_next(w: Option<Way>) -> bool
 }
 
 impl Way {
-    /// Whether it goes out of the loop.
+    /// Whether it goes out of the loop or switch.
     pub fn is_break(self) -> bool
         ensures { result ≡ statements.is_break (way_tree self) }
     {
@@ -108,6 +108,16 @@ impl Exits {
         }
     }
 
+    /// Those of a part of a switch, which has these: a break goes behind the switch.
+    pub fn in_switch(self) -> Exits
+        ensures { exits_tree result ≡ statements.in_switch (exits_tree self) }
+    {
+        Exits {
+            on_break: self.next,
+            ..self
+        }
+    }
+
     /// Those of a part behind which this place comes.
     pub fn before(self, place: u32) -> Exits
         ensures { exits_tree result ≡ statements.before place (exits_tree self) }
@@ -121,6 +131,16 @@ impl Exits {
 }
 
 impl Falls {
+    /// Those of a part of a switch.
+    pub fn in_switch(self) -> Falls
+        ensures { falls_tree result ≡ statements.in_switch_falls (falls_tree self) }
+    {
+        Falls {
+            on_break: self.next,
+            ..self
+        }
+    }
+
     /// Whether the exit that is a way comes next.
     pub fn to(self, w: Way) -> bool
         ensures { result ≡ statements.falls_to (way_tree w) (falls_tree self) }

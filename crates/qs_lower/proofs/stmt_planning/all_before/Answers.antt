@@ -1,6 +1,7 @@
 use Rattle.std.proofs.Common.{◌≡◌, map, [], ◌∷◌, ◌++◌, None, Some, ap, sym, ◌∙◌}
 use Rattle.std.proofs.lemmas.List.{map-append}
-use Rattle.qs_lower.specs.StmtPlans.{stmt_part, joined_before, all_before, redirected_to}
+use Rattle.qs_lower.specs.Statements.{joined_before}
+use Rattle.qs_lower.specs.StmtPlans.{stmt_part, all_before, redirected_to}
 use Rattle.qs_lower.specs.Ways.{option_way, way_tree}
 use Rattle.qs_lower.proofs.PlanTrees.{redirected_is, if_ok_is}
 use Rattle.qs_lower.proofs.JoinedLaws.{all_before_plain, all_before_way}

@@ -7,7 +7,8 @@ use Rattle.qs_events.specs.Weights.{Costs}
 use Rattle.qs_assert.specs.Trees.{natural, cost, total, greatest, named, assertions_of}
 use Rattle.qs_assert.specs.Values.{finite}
 use Rattle.qs_core.specs.CallGraph.{HasCall}
-use Rattle.qs_core.specs.Trees.{literal, CoreStmtTree, skip, seq, call, branch, loop, stmts_of, CoreFunctionTree, CoreUnitTree}
+use Rattle.qs_core.specs.declared.labels.CoreLabel.TheVariants.{Case, Default}
+use Rattle.qs_core.specs.Trees.{literal, CoreStmtTree, skip, seq, call, branch, loop, switch, break, stmts_of, CoreFunctionTree, CoreUnitTree}
 use Rattle.qs_triples.specs.Derivations.{ProofsTree}
 use Rattle.qs_triples.specs.Entries.{entry_fault}
 use Rattle.qs_triples.specs.Filled.{open_definition}
@@ -71,6 +72,27 @@ second_is_derived = refl
 
 first_is_derived : entry_fault tower filled (open_entry tower 0) ≡ None
 first_is_derived = refl
+
+-- what stands behind a switch, and each of its parts, needs the name
+abbrev switching : CoreUnitTree
+switching = record {
+  functions =
+      with_body (codes "first")
+      (switch (literal scalars.Int 0) (Case 1 0 ∷ Case 2 1 ∷ Default 3 ∷ []) (stmts_of (calls_to 1 ∷ calls_to 2 ∷ break ∷ skip ∷ []))
+      ∷ calls_to 2 ∷ [])
+      ∷ with_body (codes "second") []
+      ∷ with_body (codes "third") []
+      ∷ [];
+  main = 0;
+  data_blocks = [];
+}
+
+a_switch_is_derived :
+    entry_fault switching
+    (record { defines = map (open_definition switching) (2 ∷ 1 ∷ 0 ∷ []); functions = map (open_entry switching) (2 ∷ 1 ∷ 0 ∷ []) })
+    (open_entry switching 0)
+    ≡ None
+a_switch_is_derived = refl
 
 -- ---- longest paths
 

@@ -17,14 +17,15 @@ use Rattle.qs_entail.specs.Faults as certificates
 use Rattle.qs_entail.specs.Verdicts.{verdict}
 use Rattle.qs_core.specs.CallGraph.{callees, all_callees, callees_of, HasCall, is_member}
 use Rattle.qs_core.specs.Fits.{unit_fits}
+use Rattle.qs_core.specs.declared.labels.CoreLabel.{CoreLabel}
 use Rattle.qs_core.specs.Trees as core
 use Rattle.qs_core.specs.Trees.{CoreExprTree, CoreStmtTree, CoreStmts, no_stmts, stmt_and, CoreFunctionTree, CoreUnitTree}
-use Rattle.qs_triples.specs.Derivations.{DerivationTree, leaf, sequence, conditional, loop, call, balanced_call, consequence, DerivationTrees, no_derivations, derivation_and, count_derivations, SpecTree, EntryTree, ProofsTree, is_entry_of, entry_of}
+use Rattle.qs_triples.specs.Derivations.{DerivationTree, leaf, sequence, conditional, loop, switch, call, balanced_call, consequence, DerivationTrees, no_derivations, derivation_and, count_derivations, SpecTree, EntryTree, ProofsTree, is_entry_of, entry_of}
 use Rattle.qs_triples.specs.Entries.{order_told, mentions_fault, entry_told, scope_of, function_posts, result_at_end, fault_in, fault_of_known, fault_of_entry, function_fault, has_entry}
 use Rattle.qs_triples.specs.ExpressionTerms.{expression_condition}
 use Rattle.qs_triples.specs.Filled.{Filled}
 use Rattle.qs_triples.specs.Mentions.{in_body, in_pre, in_post, first_other, first_of_destination, first_without_argument, plain_variable, pre_images, post_images, as_plain}
-use Rattle.qs_triples.specs.Rules.{Place, DerivFault, shape, mentions, certificate, no_spec, entry, bad_order, Answer, fault_below, part, unless, unless_of, by_verdict, certified, Posts, Scope, with_next, replaced, returned_rule, leaf_rule, step_posts, body_posts, either, with_frame, around, at_call, is_balanced, is_consequence, count_stmts, in_precondition, in_postcondition, CallSite, Known, of_sequence, of_branch, of_loop, of_call, of_spec, known_callee, call_rule, balanced_rule, pre, sequence_pre}
+use Rattle.qs_triples.specs.Rules.{Place, DerivFault, shape, mentions, certificate, no_spec, entry, bad_order, Answer, fault_below, part, unless, unless_of, by_verdict, certified, Posts, Scope, with_next, replaced, returned_rule, leaf_rule, step_posts, body_posts, either, with_frame, around, at_call, is_balanced, is_consequence, count_stmts, in_precondition, in_postcondition, CallSite, Known, of_sequence, of_branch, of_loop, of_switch, switch_posts, before_part, switched, of_call, of_spec, known_callee, call_rule, balanced_rule, pre, sequence_pre, parts_pre}
 use Rattle.qs_callgraph.proofs.MemberLaws.{member_first, member_kept, member_behind}
 use Rattle.qs_callgraph.proofs.UnitCalls.{calls_within}
 use Rattle.qs_analyse.specs.Laws.{CallsMeetSpecs}
@@ -110,6 +111,7 @@ meets_leaf (core.call x PutChar es) q = meets_unless _ (Ok q.next) (meets_ok q.n
 meets_leaf (core.call x GetChar es) q = meets_unless _ (Ok q.next) (meets_ok q.next)
 meets_leaf (core.branch e s t) q = meets_shape
 meets_leaf (core.loop body step) q = meets_shape
+meets_leaf (core.switch e labels ss) q = meets_shape
 meets_leaf core.break q = meets_ok q.on_break
 meets_leaf core.continue q = meets_ok q.on_continue
 meets_leaf (core.return e) q = meets_returned e q.on_return
@@ -171,6 +173,7 @@ meets_sequence c (core.fill contents to) rule k h = meets_shape
 meets_sequence c (core.call x g es) rule k h = meets_shape
 meets_sequence c (core.branch e s t) rule k h = meets_shape
 meets_sequence c (core.loop body step) rule k h = meets_shape
+meets_sequence c (core.switch e labels ss) rule k h = meets_shape
 meets_sequence c core.break rule k h = meets_shape
 meets_sequence c core.continue rule k h = meets_shape
 meets_sequence c (core.return e) rule k h = meets_shape
@@ -193,6 +196,7 @@ meets_branch c (core.copy size alignment to from) rule k h = meets_shape
 meets_branch c (core.fill contents to) rule k h = meets_shape
 meets_branch c (core.call x g es) rule k h = meets_shape
 meets_branch c (core.loop body step) rule k h = meets_shape
+meets_branch c (core.switch e labels ss) rule k h = meets_shape
 meets_branch c core.break rule k h = meets_shape
 meets_branch c core.continue rule k h = meets_shape
 meets_branch c (core.return e) rule k h = meets_shape
@@ -201,6 +205,7 @@ meets_loop :
     (c : Scope) (s : CoreStmtTree) (rule : CoreStmtTree → CoreStmtTree → Answer) → Knows c (callees s)
     → ((a b : CoreStmtTree) → Knows c (callees a) → Knows c (callees b) → Meets (rule a b)) → Meets (of_loop s rule)
 meets_loop c (core.loop a b) rule k h = h a b (in_front c (callees a) (callees b) k) (in_back c (callees a) (callees b) k)
+meets_loop c (core.switch e labels ss) rule k h = meets_shape
 meets_loop c core.skip rule k h = meets_shape
 meets_loop c (core.seq ss) rule k h = meets_shape
 meets_loop c (core.assign x e) rule k h = meets_shape
@@ -212,6 +217,23 @@ meets_loop c (core.branch e s t) rule k h = meets_shape
 meets_loop c core.break rule k h = meets_shape
 meets_loop c core.continue rule k h = meets_shape
 meets_loop c (core.return e) rule k h = meets_shape
+
+meets_switch :
+    (c : Scope) (s : CoreStmtTree) (rule : CoreExprTree → List CoreLabel → CoreStmts → Answer) → Knows c (callees s)
+    → ((e : CoreExprTree) (labels : List CoreLabel) (ss : CoreStmts) → Knows c (all_callees ss) → Meets (rule e labels ss)) → Meets (of_switch s rule)
+meets_switch c (core.switch e labels ss) rule k h = h e labels ss k
+meets_switch c core.skip rule k h = meets_shape
+meets_switch c (core.seq ss) rule k h = meets_shape
+meets_switch c (core.assign x e) rule k h = meets_shape
+meets_switch c (core.store s to e) rule k h = meets_shape
+meets_switch c (core.copy size alignment to from) rule k h = meets_shape
+meets_switch c (core.fill contents to) rule k h = meets_shape
+meets_switch c (core.call x g es) rule k h = meets_shape
+meets_switch c (core.branch e s t) rule k h = meets_shape
+meets_switch c (core.loop body step) rule k h = meets_shape
+meets_switch c core.break rule k h = meets_shape
+meets_switch c core.continue rule k h = meets_shape
+meets_switch c (core.return e) rule k h = meets_shape
 
 meets_site : (c : Scope) (s : CoreStmtTree) (rule : CallSite → Answer) → Knows c (callees s) → ((site : CallSite) → HasSpec c site.function → Meets (rule site)) → Meets (of_call s rule)
 meets_site c (core.call x (Function g) es) rule k h = h _ (k g.0 (member_first g.0 []))
@@ -225,6 +247,7 @@ meets_site c (core.copy size alignment to from) rule k h = meets_shape
 meets_site c (core.fill contents to) rule k h = meets_shape
 meets_site c (core.branch e s t) rule k h = meets_shape
 meets_site c (core.loop body step) rule k h = meets_shape
+meets_site c (core.switch e labels ss) rule k h = meets_shape
 meets_site c core.break rule k h = meets_shape
 meets_site c core.continue rule k h = meets_shape
 meets_site c (core.return e) rule k h = meets_shape
@@ -236,6 +259,10 @@ meets_both :
     → Meets (bind first (λ x. bind second (λ y. Ok (made x y))))
 meets_both first second made h k =
     meets_bind first (λ x. bind second (λ y. Ok (made x y))) h (λ x. meets_bind second (λ y. Ok (made x y)) k (λ y. meets_ok (made x y)))
+
+-- what is needed before a switch, by what is needed before its parts
+abbrev needed_by_switch : Posts → CoreExprTree → List CoreLabel → List AssertionTree → Answer
+needed_by_switch q e labels before = Ok (switched q.next (before_part q.next before) e labels)
 
 mutual
   meets_pre : (d : DerivationTree) (c : Scope) (s : CoreStmtTree) (q : Posts) → Knows c (callees s) → Meets (pre d c s q)
@@ -258,6 +285,10 @@ mutual
       (meets_part 1 (pre e c b (step_posts i q)) (meets_pre e c b (step_posts i q) r))
       (λ j. meets_bind (part 0 (pre d c a (body_posts j q))) (λ p. certified c.defines w i p i)
       (meets_part 0 (pre d c a (body_posts j q)) (meets_pre d c a (body_posts j q) l)) (λ p. meets_certified c.defines w i p i))))
+  meets_pre (switch ds) c s q k =
+      meets_switch c s (λ e labels ss. require (count_derivations ds == count_stmts ss) (shape []) (parts_pre ds 0 c ss (switch_posts q) (needed_by_switch q e labels))) k
+      (λ e labels ss m. meets_require (count_derivations ds == count_stmts ss) (parts_pre ds 0 c ss (switch_posts q) (needed_by_switch q e labels))
+      (meets_parts ds 0 c ss (switch_posts q) (needed_by_switch q e labels) m (λ before. meets_ok (switched q.next (before_part q.next before) e labels))))
   meets_pre (call a w) c s q k =
       meets_site c s (λ site. known_callee c site (call_rule c a w q site)) k (λ site has. meets_known c site (call_rule c a w q site) has (meets_call c a w q site))
   meets_pre balanced_call c s q k =
@@ -274,6 +305,18 @@ mutual
   meets_all (derivation_and d ds) i c (stmt_and s ss) q k =
       meets_bind (sequence_pre ds (suc i) c ss q) (λ n. part i (pre d c s (with_next q n))) (meets_all ds (suc i) c ss q (in_back c (callees s) (all_callees ss) k))
       (λ n. meets_part i (pre d c s (with_next q n)) (meets_pre d c s (with_next q n) (in_front c (callees s) (all_callees ss) k)))
+
+  meets_parts :
+      (ds : DerivationTrees) (i : ℕ) (c : Scope) (ss : CoreStmts) (q : Posts) (rule : List AssertionTree → Answer) → Knows c (all_callees ss)
+      → ((before : List AssertionTree) → Meets (rule before)) → Meets (parts_pre ds i c ss q rule)
+  meets_parts no_derivations i c no_stmts q rule k h = h []
+  meets_parts no_derivations i c (stmt_and s ss) q rule k h = meets_shape
+  meets_parts (derivation_and d ds) i c no_stmts q rule k h = meets_shape
+  meets_parts (derivation_and d ds) i c (stmt_and s ss) q rule k h =
+      meets_parts ds (suc i) c ss q (λ before. bind (part i (pre d c s (with_next q (before_part q.next before 0)))) (λ p. rule (p ∷ before))) (in_back c (callees s) (all_callees ss) k)
+      (λ before. meets_bind (part i (pre d c s (with_next q (before_part q.next before 0)))) (λ p. rule (p ∷ before))
+      (meets_part i (pre d c s (with_next q (before_part q.next before 0))) (meets_pre d c s (with_next q (before_part q.next before 0)) (in_front c (callees s) (all_callees ss) k)))
+      (λ p. h (p ∷ before)))
 
 -- ---- entries
 

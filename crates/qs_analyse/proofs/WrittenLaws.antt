@@ -1,9 +1,10 @@
 -- What is written for an open function derives its entry.
-use Rattle.std.proofs.Common.{◌≡◌, ℕ, suc, ◌≤◌, ◌==◌, Bool, true, false, List, [], ◌∷◌, ◌++◌, length, map, ⊎_elim, refl, ap, ◌∙◌, subst, arith}
-use Rattle.std.specs.Prelude.{pos, if◌then◌else◌, Option, Some, None, Result, Ok}
+use Rattle.std.proofs.Common.{◌≡◌, ℕ, zero, suc, ◌≤◌, ◌==◌, Bool, true, false, List, [], ◌∷◌, ◌++◌, length, map, ⊎_elim, refl, ap, ◌∙◌, subst, arith}
+use Rattle.std.specs.Prelude.{pos, replicate, if◌then◌else◌, Option, Some, None, Result, Ok}
 use Rattle.std.specs.List.{slice_get}
 use Rattle.std.specs.Option.{option_or}
 use Rattle.std.proofs.lemmas.Bool.{both_ways, or_left, or_right, eq-eqb, ne_eqb, cases_eq}
+use Rattle.std.proofs.Math.Path.{fun_ext}
 use Rattle.std.proofs.lemmas.List.Folds.{list_any-append}
 use Rattle.qs_base.specs.Results.{bind, require, fault_or}
 use Rattle.qs_base.specs.declared.function.FnId.{FnId}
@@ -16,6 +17,9 @@ use Rattle.qs_assert.specs.Order.{IsInOrder}
 use Rattle.qs_assert.specs.Trees.{TermTree, AssertionTree, cost, total, greatest, AssertionTrees, no_assertions, assertion_and, assertions_of}
 use Rattle.qs_assert.proofs.SamenessLaws.{assertion_self}
 use Rattle.qs_core.specs.CallGraph.{callee, callees, all_callees, called_by, is_member}
+use Rattle.qs_core.specs.declared.labels.CoreLabel.{CoreLabel}
+use Rattle.qs_core.specs.declared.labels.CoreLabel.TheVariants.{Case, Default}
+use Rattle.qs_core.specs.Statements.{default_part}
 use Rattle.qs_core.specs.Trees as core
 use Rattle.qs_core.specs.Trees.{CoreExprTree, CoreStmtTree, CoreStmts, no_stmts, stmt_and, stmts_of, CoreFunctionTree, CoreUnitTree}
 use Rattle.qs_entail.specs.declared.fault.Rule.TheVariants as rules
@@ -34,7 +38,7 @@ use Rattle.qs_core.specs.Expressions.{type_of}
 use Rattle.qs_core.specs.FunctionNames.{function_name}
 use Rattle.qs_triples.specs.Filled.{for_call, for_calls}
 use Rattle.qs_triples.specs.TreeOf.{derivations_of}
-use Rattle.qs_triples.specs.Rules.{Answer, Scope, Posts, CallSite, DerivFault, body_posts, with_next, target_kind, replaced, by_condition, either, part, certified, by_verdict, known_callee, of_spec, balanced_rule, count_stmts, pre, sequence_pre, shape, in_postcondition}
+use Rattle.qs_triples.specs.Rules.{Answer, Scope, Posts, CallSite, DerivFault, body_posts, with_next, target_kind, replaced, by_condition, either, part, certified, by_verdict, known_callee, of_spec, balanced_rule, count_stmts, pre, sequence_pre, parts_pre, before_part, before_chosen, all_need, by_term, by_labels, switched, shape, in_postcondition}
 use Rattle.qs_callgraph.proofs.MemberLaws.{first_cases, member_first}
 use Rattle.qs_analyse.specs.Fillable.{body_in, open_entry}
 use Rattle.qs_analyse.specs.Written.{each_written, place_of, pick_certificate, call_certificate, written_call, written, all_written}
@@ -191,6 +195,31 @@ module _ (u : CoreUnitTree) (proofs : ProofsTree) (f : ℕ) (function : CoreFunc
   returned_ok None = refl
   returned_ok (Some e) = replaced_is (var kinds.Returned (type_of e)) (expression_term e)
 
+  -- ---- a switch whose parts all need the name needs it too
+
+  abbrev needed_by_switch : CoreExprTree → List CoreLabel → List AssertionTree → Answer
+  needed_by_switch e labels before = Ok (switched need (before_part need before) e labels)
+
+  need_before : (n k : ℕ) → before_part need (replicate n need) k ≡ need
+  need_before zero k = refl
+  need_before (suc n) zero = refl
+  need_before (suc n) (suc k) = need_before n k
+
+  chosen_same : (part : Option ℕ) → before_chosen need (λ k. need) part ≡ need
+  chosen_same None = refl
+  chosen_same (Some k) = refl
+
+  all_same : (labels : List CoreLabel) → all_need need (λ k. need) labels ≡ true
+  all_same [] = refl
+  all_same (Case n k ∷ labels) = rw (assertion_self need) (all_same labels)
+  all_same (Default k ∷ labels) = all_same labels
+
+  switched_same : (n : ℕ) (e : CoreExprTree) (labels : List CoreLabel) → switched need (before_part need (replicate n need)) e labels ≡ need
+  switched_same n e labels =
+      ap (λ (before : ℕ → AssertionTree). switched need before e labels) (fun_ext (need_before n))
+      ∙ ap (λ (d : AssertionTree). by_labels d (λ k. need) (type_of e) (expression_term e) labels) (chosen_same (default_part labels))
+      ∙ ap (λ (b : Bool). if b then need else by_term need (λ k. need) (type_of e) (expression_term e) labels) (all_same labels)
+
   mutual
     stmt_ok : (s : CoreStmtTree) → ((g : ℕ) → is_member g (callees s) ≡ true → is_member g gs ≡ true) → pre (written name gs s) scope s posts ≡ Ok need
     stmt_ok core.skip h = refl
@@ -210,6 +239,9 @@ module _ (u : CoreUnitTree) (proofs : ProofsTree) (f : ℕ) (function : CoreFunc
         (stmt_ok last (second_called (callees body) (callees last) h))
         ∙ ap (λ (r : Answer). bind (part 0 r) (λ p. certified proofs.defines same need p need)) (stmt_ok body (first_called (callees body) (callees last) h))
         ∙ ap (λ v. by_verdict v need) (verdict_same proofs.defines need)
+    stmt_ok (core.switch e labels ss) h =
+        ap (λ (b : Bool). require b (shape []) (parts_pre (all_written name gs ss) 0 scope ss posts (needed_by_switch e labels))) (eq-eqb (count_derivations (all_written name gs ss)) (count_stmts ss) (counts ss))
+        ∙ parts_ok 0 ss (needed_by_switch e labels) h ∙ ap Ok (switched_same (count_stmts ss) e labels)
     stmt_ok core.break h = refl
     stmt_ok core.continue h = refl
     stmt_ok (core.return e) h = returned_ok e
@@ -219,6 +251,16 @@ module _ (u : CoreUnitTree) (proofs : ProofsTree) (f : ℕ) (function : CoreFunc
     stmts_ok i (stmt_and s ss) h =
         ap (λ (r : Answer). bind r (λ n. part i (pre (written name gs s) scope s (with_next posts n)))) (stmts_ok (suc i) ss (second_called (callees s) (all_callees ss) h))
         ∙ ap (part i) (stmt_ok s (first_called (callees s) (all_callees ss) h))
+
+    parts_ok :
+        (i : ℕ) (ss : CoreStmts) (rule : List AssertionTree → Answer) → ((g : ℕ) → is_member g (all_callees ss) ≡ true → is_member g gs ≡ true)
+        → parts_pre (all_written name gs ss) i scope ss posts rule ≡ rule (replicate (count_stmts ss) need)
+    parts_ok i no_stmts rule h = refl
+    parts_ok i (stmt_and s ss) rule h =
+        let n = count_stmts ss in
+        parts_ok (suc i) ss (λ before. bind (part i (pre (written name gs s) scope s (with_next posts (before_part need before 0)))) (λ p. rule (p ∷ before))) (second_called (callees s) (all_callees ss) h)
+        ∙ ap (λ (a : AssertionTree). bind (part i (pre (written name gs s) scope s (with_next posts a))) (λ p. rule (p ∷ replicate n need))) (need_before n 0)
+        ∙ ap (λ (r : Answer). bind (part i r) (λ p. rule (p ∷ replicate n need))) (stmt_ok s (first_called (callees s) (all_callees ss) h))
 
   end_none : (b : Bool) → (elim b as (λ b. Option Var) [ true ↦ None | false ↦ first_of kinds.Returned need ]) ≡ None
   end_none true = refl

@@ -10,7 +10,7 @@ use Rattle.qs_core.specs.declared.statements.CoreStmt.{CoreStmt}
 use Rattle.qs_callgraph.specs.CallLists.{numbers}
 use Rattle.qs_analyse.specs.declared.written.Needs.{Needs}
 use Rattle.qs_entail.specs.Certificates.{CertTree, same, pick, all, by_definition, cert_and, no_certs}
-use Rattle.qs_triples.specs.Derivations.{DerivationTree, leaf, sequence, conditional, loop, balanced_call, consequence, DerivationTrees, no_derivations, derivation_and}
+use Rattle.qs_triples.specs.Derivations.{DerivationTree, leaf, sequence, conditional, loop, switch, balanced_call, consequence, DerivationTrees, no_derivations, derivation_and}
 
 -- the place of g among these
 abbrev pub place_of : List ℕ → (g : ℕ) → ℕ
@@ -45,6 +45,7 @@ abbrev mutual
   written name callees (core.branch e s t) = conditional (written name callees s) (written name callees t)
   written name callees (core.loop body step) =
       loop (named name) same (written name callees body) (written name callees step)
+  written name callees (core.switch e labels ss) = switch (all_written name callees ss)
   written name callees core.break = leaf
   written name callees core.continue = leaf
   written name callees (core.return e) = leaf

@@ -108,13 +108,14 @@ pub fn written(alloc: Global, f: Needs<'_>, s: &CoreStmt) -> Result<Derivation, 
             let step = Box::new(alloc, written(alloc, f, step)?)?;
             Ok(Derivation::Loop(needed, Certificate::Same, body, step))
         }
+        CoreStmt::Switch(_, _, parts) => Ok(Derivation::Switch(all_written(alloc, f, parts)?)),
         CoreStmt::Break => Ok(Derivation::Leaf),
         CoreStmt::Continue => Ok(Derivation::Leaf),
         CoreStmt::Return(_) => Ok(Derivation::Leaf),
     }
 }
 
-/// The derivations of the parts of a sequence.
+/// The derivations of the parts of a sequence, or of a switch.
 #[cycle(written)]
 pub fn all_written(
     alloc: Global,

@@ -13,7 +13,7 @@ use Rattle.qs_calls.specs.declared.callee.Callee.{Callee}
 use Rattle.qs_calls.specs.declared.callee.Callee.TheVariants.{Function, PutChar, GetChar}
 use Rattle.qs_core.specs.CallGraph.{below, calls, called_by, is_member}
 use Rattle.qs_core.specs.Fits.{unit_fits}
-use Rattle.qs_core.specs.Trees.{CoreStmtTree, skip, seq, assign, store, copy, fill, call, branch, loop, break, continue, return, CoreStmts, no_stmts, stmt_and, CoreFunctionTree, CoreUnitTree}
+use Rattle.qs_core.specs.Trees.{CoreStmtTree, skip, seq, assign, store, copy, fill, call, branch, loop, switch, break, continue, return, CoreStmts, no_stmts, stmt_and, CoreFunctionTree, CoreUnitTree}
 use Rattle.qs_core.specs.FunctionNames.{function_name, name_in}
 use Rattle.qs_core.proofs.FitLaws.{function_at_fits}
 use Rattle.qs_core.specs.Nesting.{nesting, nesting_in_all, functions_nesting, unit_nesting}
@@ -101,6 +101,8 @@ module _ (w : Words) (name : List ℕ) (is : is_symbol name ≡ true) (callees :
     written_low zero (loop body step) h = absurd (omega (arith, h))
     written_low (suc d) (loop body step) h =
         (refl, (name_low w name (suc (suc (suc (suc d)))) is, ((refl, tt), (written_low d body (omega (arith, h)), (written_low d step (omega (arith, h)), tt)))))
+    written_low zero (switch e labels ss) h = absurd (omega (arith, h))
+    written_low (suc d) (switch e labels ss) h = (refl, all_low d ss (omega (arith, h)))
     written_low d break h = (refl, tt)
     written_low d continue h = (refl, tt)
     written_low d (return e) h = (refl, tt)

@@ -1,5 +1,5 @@
 -- What is told of certificates and derivations goes by what each name is defined as, and not by the order of definitions.
-use Rattle.std.proofs.Common.{◌≡◌, ℕ, suc, ◌==◌, not, true, false, if◌then◌else◌, List, [], Option, Some, option_map, refl, ap, ◌∙◌}
+use Rattle.std.proofs.Common.{◌≡◌, ℕ, suc, ◌==◌, not, true, false, if◌then◌else◌, List, [], ◌∷◌, Option, Some, option_map, refl, ap, ◌∙◌}
 use Rattle.std.specs.Prelude.{Result, Ok}
 use Rattle.std.specs.List.{slice_get}
 use Rattle.std.specs.Option.{option_or}
@@ -19,11 +19,11 @@ use Rattle.qs_entail.specs.Faults.{CertFault, step, node, members_of, member_at,
 use Rattle.qs_entail.specs.Pushing.{Known, with_polynomials, at_first, push, push_list}
 use Rattle.qs_entail.specs.Verdicts.{Outline, outlined, outlined_first, outline_list, is_given, stands, rule_of, begun, rest, faults_all, faults_parts, verdict}
 use Rattle.qs_core.specs.Trees.{CoreStmtTree, CoreStmts, no_stmts, stmt_and, CoreFunctionTree}
-use Rattle.qs_triples.specs.Derivations.{DerivationTree, leaf, sequence, conditional, loop, call, balanced_call, consequence, DerivationTrees, no_derivations, derivation_and, count_derivations, SpecTree}
+use Rattle.qs_triples.specs.Derivations.{DerivationTree, leaf, sequence, conditional, loop, switch, call, balanced_call, consequence, DerivationTrees, no_derivations, derivation_and, count_derivations, SpecTree}
 use Rattle.qs_triples.specs.ExpressionTerms.{expression_condition}
 use Rattle.qs_triples.specs.Mentions.{in_body, first_other, first_of_destination, pre_images, post_images, first_without_argument, plain_variable}
 use Rattle.qs_triples.specs.Rules as derivations
-use Rattle.qs_triples.specs.Rules.{Answer, shape, part, unless, unless_of, by_verdict, certified, Posts, Scope, with_next, either, step_posts, body_posts, with_frame, at_call, of_sequence, of_branch, of_loop, CallSite, of_call, of_spec, is_consequence, count_stmts, call_rule, pre, sequence_pre}
+use Rattle.qs_triples.specs.Rules.{Answer, shape, part, unless, unless_of, by_verdict, certified, Posts, Scope, with_next, either, step_posts, body_posts, with_frame, at_call, of_sequence, of_branch, of_loop, of_switch, switch_posts, before_part, switched, CallSite, of_call, of_spec, is_consequence, count_stmts, call_rule, pre, sequence_pre, parts_pre}
 
 module _ (ds es : List Define) (alike : (n : List ℕ) → definition ds n ≡ definition es n) where
   -- ---- certificates
@@ -130,6 +130,9 @@ module _ (ds es : List Define) (alike : (n : List ℕ) → definition ds n ≡ d
           ap (of_loop s) (fun_ext (λ body. fun_ext (λ step. λ i.
           unless (first_other f (in_body f) inv)
           (bind (part 1 (pre_same e step (step_posts inv q) i)) (λ j. bind (part 0 (pre_same d body (body_posts j q) i)) (λ p. certified_same w inv p inv i))))))
+      pre_same (switch inner) s q =
+          ap (of_switch s) (fun_ext (λ e. fun_ext (λ labels. fun_ext (λ (ss : CoreStmts). ap (λ (x : Answer). require (count_derivations inner == count_stmts ss) (shape []) x)
+          (switch_same inner 0 ss (switch_posts q) (λ needs. given_as (switched q.next (before_part q.next needs) e labels)))))))
       pre_same (call a w) s q =
           ap (of_call s) (fun_ext (λ (site : CallSite). ap (of_spec site.function (slice_get fs site.function) (specs site.function)) (fun_ext (λ g. call_same a w q site g))))
       pre_same balanced_call s q = refl
@@ -142,3 +145,14 @@ module _ (ds es : List Define) (alike : (n : List ℕ) → definition ds n ≡ d
       sequence_same (derivation_and d inner) i no_stmts q = refl
       sequence_same (derivation_and d inner) i (stmt_and s ss) q =
           λ j. bind (sequence_same inner (suc i) ss q j) (λ n. part i (pre_same d s (with_next q n) j))
+
+      switch_same :
+          (inner : DerivationTrees) (i : ℕ) (ss : CoreStmts) (q : Posts) (rule : List AssertionTree → Answer)
+          → parts_pre inner i before ss q rule ≡ parts_pre inner i after ss q rule
+      switch_same no_derivations i no_stmts q rule = refl
+      switch_same no_derivations i (stmt_and s ss) q rule = refl
+      switch_same (derivation_and d inner) i no_stmts q rule = refl
+      switch_same (derivation_and d inner) i (stmt_and s ss) q rule =
+          switch_same inner (suc i) ss q (λ needs. bind (part i (pre d before s (with_next q (before_part q.next needs 0)))) (λ p. rule (p ∷ needs)))
+          ∙ ap (parts_pre inner (suc i) after ss q)
+          (fun_ext (λ (needs : List AssertionTree). λ j. bind (part i (pre_same d s (with_next q (before_part q.next needs 0)) j)) (λ p. rule (p ∷ needs))))

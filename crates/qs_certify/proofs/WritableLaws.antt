@@ -11,7 +11,7 @@ use Rattle.qs_calls.specs.declared.callee.Callee.{Callee}
 use Rattle.qs_calls.specs.declared.callee.Callee.TheVariants.{Function, PutChar, GetChar}
 use Rattle.qs_core.specs.CallGraph.{called_by, no_call, is_member}
 use Rattle.qs_core.specs.Fits.{differ, unit_fits}
-use Rattle.qs_core.specs.Trees.{CoreStmtTree, skip, seq, assign, store, copy, fill, call, branch, loop, break, continue, return, CoreStmts, no_stmts, stmt_and, CoreFunctionTree, CoreUnitTree}
+use Rattle.qs_core.specs.Trees.{CoreStmtTree, skip, seq, assign, store, copy, fill, call, branch, loop, switch, break, continue, return, CoreStmts, no_stmts, stmt_and, CoreFunctionTree, CoreUnitTree}
 use Rattle.qs_core.specs.FunctionNames.{function_name}
 use Rattle.qs_core.specs.Nesting.{unit_nesting}
 use Rattle.qs_triples.specs.Derivations.{EntryTree, ProofsTree, is_entry_of}
@@ -61,6 +61,7 @@ module _ (g : Setting) (name : List ℕ) (has : g.has_name name ≡ true) (calle
     written_stands (loop body step) =
         and_from _ (derivation_stands g (written name callees step))
         (and_from _ (derivation_stands g (written name callees body)) (and_from (g.has_name name) true has refl) (written_stands body)) (written_stands step)
+    written_stands (switch e labels ss) = all_stand ss
     written_stands break = refl
     written_stands continue = refl
     written_stands (return e) = refl

@@ -11,6 +11,7 @@ mod laws;
 pub use bound::{bound_of_function, bound_of_main};
 pub use certification::{Certified, certify};
 pub use fault::CertifyFault;
+pub use given::given_proofs;
 pub use laws::{
     added_is_right, added_is_writable, bounds_are_longest_paths, bounds_are_needs,
     certified_is_one, faults_are_of_functions, faults_are_told, main_bounds_runs,

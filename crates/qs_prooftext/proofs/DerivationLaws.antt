@@ -36,7 +36,7 @@ pick false a o x h = h
 
 statements_found : (w : List ℕ) → look_up w derivation_rows ≡ found (look_up w statement_words)
 statements_found w =
-    pick _ statements.Leaf _ _ (pick _ statements.Sequence _ _ (pick _ statements.Conditional _ _ (pick _ statements.Loop _ _ (pick _ statements.Call _ _ (pick _ statements.BalancedCall _ _ (pick _ statements.Consequence None None refl))))))
+    pick _ statements.Leaf _ _ (pick _ statements.Sequence _ _ (pick _ statements.Conditional _ _ (pick _ statements.Loop _ _ (pick _ statements.Switch _ _ (pick _ statements.Call _ _ (pick _ statements.BalancedCall _ _ (pick _ statements.Consequence None None refl)))))))
 
 by_words : (g : Setting) (at place : ℕ) (w : List ℕ) (ss : Sexps) → means g a_derivation (list at (part_and (symbol place w) ss)) ≡ listed g at (found (look_up w statement_words)) ss
 by_words g at place w ss = ap (λ (o : Option (Row a_derivation)). listed g at o ss) (statements_found w)
@@ -55,6 +55,8 @@ statement_reads g statements.Conditional ss h =
     two_row a_derivation planted g ss derivations.conditional heads.conditional (eqb-true (count ss) 2 h) (λ u v. refl)
 statement_reads g statements.Loop ss h =
     leaves_two_row a_derivation an_assertion a_certificate planted g ss derivations.loop (λ a c. heads.loop (a, c)) (eqb-true (count ss) 4 h) (λ a c d e. refl) ∙ ap (λ (x : Answer HeadTree). by_head a_derivation planted g x 2 ss) (sym (reason_head g ss heads.loop))
+statement_reads g statements.Switch ss h =
+    any_row a_derivation planted g ss (λ ds. derivations.switch (derivations_of ds)) (heads.switch (count ss)) (λ vs e. ap (λ (ds : List DerivationTree). derivations.switch (derivations_of ds)) (sym (firsts_same derivations.leaf (count ss) vs e)))
 statement_reads g statements.Call ss h =
     leaves_row a_derivation an_assertion a_certificate planted g ss derivations.call (λ a c. heads.call (a, c)) (eqb-true (count ss) 2 h) (λ a c. refl) ∙ ap (λ (x : Answer HeadTree). by_head a_derivation planted g x 2 ss) (sym (reason_head g ss heads.call))
 statement_reads g statements.BalancedCall ss h =
@@ -67,6 +69,7 @@ statement_takes_so statements.Leaf n = refl
 statement_takes_so statements.Sequence n = refl
 statement_takes_so statements.Conditional n = refl
 statement_takes_so statements.Loop n = refl
+statement_takes_so statements.Switch n = refl
 statement_takes_so statements.Call n = refl
 statement_takes_so statements.BalancedCall n = refl
 statement_takes_so statements.Consequence n = refl
@@ -81,6 +84,7 @@ statement_fits g statements.Leaf n ss h t e = no_leaves n (arity h) (head_arity 
 statement_fits g statements.Sequence n ss h t e = no_leaves n (arity h) (head_arity arity (heads.sequence n) h n refl e)
 statement_fits g statements.Conditional n ss h t e = no_leaves n (arity h) (head_arity arity heads.conditional h 2 refl e ∙ sym (eqb-true n 2 t))
 statement_fits g statements.Loop n ss h t e = leaves_and 2 n 2 (arity h) (made_arity arity (reason_means g ss) heads.loop h 2 (λ r. refl) e) (eqb-true n 4 t)
+statement_fits g statements.Switch n ss h t e = no_leaves n (arity h) (head_arity arity (heads.switch n) h n refl e)
 statement_fits g statements.Call n ss h t e = leaves_and 2 n 0 (arity h) (made_arity arity (reason_means g ss) heads.call h 0 (λ r. refl) e) (eqb-true n 2 t)
 statement_fits g statements.BalancedCall n ss h t e = no_leaves n (arity h) (head_arity arity heads.balanced_call h 0 refl e ∙ sym (eqb-true n 0 t))
 statement_fits g statements.Consequence n ss h t e = leaves_and 2 n 1 (arity h) (made_arity arity (reason_means g ss) heads.consequence h 1 (λ r. refl) e) (eqb-true n 3 t)
@@ -116,6 +120,7 @@ takes_its_own heads.leaf xs ys e = refl
 takes_its_own (heads.sequence n) xs ys e = own_all derivations.leaf (λ ds. derivations.sequence (derivations_of ds)) n xs ys e
 takes_its_own heads.conditional xs ys e = own_two derivations.leaf derivations.conditional xs ys e
 takes_its_own (heads.loop r) xs ys e = own_two derivations.leaf (derivations.loop r.0 r.1) xs ys e
+takes_its_own (heads.switch n) xs ys e = own_all derivations.leaf (λ ds. derivations.switch (derivations_of ds)) n xs ys e
 takes_its_own (heads.call r) xs ys e = refl
 takes_its_own heads.balanced_call xs ys e = refl
 takes_its_own (heads.consequence r) xs ys e = own_one derivations.leaf (derivations.consequence r.0 r.1) xs ys e

@@ -478,10 +478,13 @@ derivation_good h w = (
       (
         λ x y z t p q r s. record { form = refl; stands = and_from _ _ (and_from _ _ (and_from _ _ p q) r) s },
         (
-          λ x y p q. record { form = refl; stands = and_from _ _ p q },
+          λ ds e. record { form = in_list (codes "switch") _ _ (derivations_all h w ds); stands = derivations_good h ds e },
           (
-            record { form = refl; stands = refl },
-            (λ x y z p q r. record { form = refl; stands = and_from _ _ (and_from _ _ p q) r }, tt),
+            λ x y p q. record { form = refl; stands = and_from _ _ p q },
+            (
+              record { form = refl; stands = refl },
+              (λ x y z p q r. record { form = refl; stands = and_from _ _ (and_from _ _ p q) r }, tt),
+            ),
           ),
         ),
       ),

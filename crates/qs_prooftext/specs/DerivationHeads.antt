@@ -28,6 +28,8 @@ pub data HeadTree : Type 0 where
   conditional : HeadTree
   -- with an assertion and its certificate
   loop call : AssertionTree × CertTree → HeadTree
+  -- with so many parts
+  switch : ℕ → HeadTree
   balanced_call : HeadTree
   consequence : AssertionTree × CertTree → HeadTree
 
@@ -39,6 +41,7 @@ derivation_head heads.Leaf = leaf
 derivation_head (heads.Sequence n) = sequence n
 derivation_head heads.Conditional = conditional
 derivation_head (heads.Loop r) = loop (reason_view r)
+derivation_head (heads.Switch n) = switch n
 derivation_head (heads.Call r) = call (reason_view r)
 derivation_head heads.BalancedCall = balanced_call
 derivation_head (heads.Consequence r) = consequence (reason_view r)
@@ -50,6 +53,7 @@ statement_row statements.Leaf = none derivations.leaf
 statement_row statements.Sequence = any a_derivation (λ ds. derivations.sequence (derivations_of ds))
 statement_row statements.Conditional = two a_derivation a_derivation derivations.conditional
 statement_row statements.Loop = four an_assertion a_certificate a_derivation a_derivation derivations.loop
+statement_row statements.Switch = any a_derivation (λ ds. derivations.switch (derivations_of ds))
 statement_row statements.Call = two an_assertion a_certificate derivations.call
 statement_row statements.BalancedCall = none derivations.balanced_call
 statement_row statements.Consequence = three an_assertion a_certificate a_derivation derivations.consequence
@@ -64,6 +68,7 @@ statement_means g statements.Leaf n ss = Ok leaf
 statement_means g statements.Sequence n ss = Ok (sequence n)
 statement_means g statements.Conditional n ss = Ok conditional
 statement_means g statements.Loop n ss = bind (reason_means g ss) (λ r. Ok (loop r))
+statement_means g statements.Switch n ss = Ok (switch n)
 statement_means g statements.Call n ss = bind (reason_means g ss) (λ r. Ok (call r))
 statement_means g statements.BalancedCall n ss = Ok balanced_call
 statement_means g statements.Consequence n ss = bind (reason_means g ss) (λ r. Ok (consequence r))
@@ -86,6 +91,7 @@ arity leaf = 0
 arity (sequence n) = n
 arity conditional = 2
 arity (loop r) = 2
+arity (switch n) = n
 arity (call r) = 0
 arity balanced_call = 0
 arity (consequence r) = 1
@@ -96,6 +102,7 @@ planted leaf ds = derivations.leaf
 planted (sequence n) ds = derivations.sequence (derivations_of (first_derivations n ds))
 planted conditional ds = derivations.conditional (first_derivation ds) (first_derivation (others ds))
 planted (loop r) ds = derivations.loop r.0 r.1 (first_derivation ds) (first_derivation (others ds))
+planted (switch n) ds = derivations.switch (derivations_of (first_derivations n ds))
 planted (call r) ds = derivations.call r.0 r.1
 planted balanced_call ds = derivations.balanced_call
 planted (consequence r) ds = derivations.consequence r.0 r.1 (first_derivation ds)

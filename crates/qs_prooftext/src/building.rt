@@ -63,6 +63,7 @@ fn plant(
         }
         DerivationHead::Conditional => plant_conditional(alloc, stack),
         DerivationHead::Loop(reason) => plant_loop(alloc, stack, reason),
+        DerivationHead::Switch(count) => Ok(Derivation::Switch(take_all(alloc, stack, count)?)),
         DerivationHead::Call(frame) => Ok(Derivation::Call(frame.assertion, frame.certificate)),
         DerivationHead::BalancedCall => Ok(Derivation::BalancedCall),
         DerivationHead::Consequence(stronger) => {

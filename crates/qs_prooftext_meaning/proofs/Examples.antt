@@ -260,6 +260,9 @@ bits_rise = refl
 loop : in_f a_derivation (codes "(loop 4 (same) (leaf) (seq))") ≡ Ok (derivations.loop (trees.natural 4) certificates.same derivations.leaf (derivations.sequence (derivations_of [])))
 loop = refl
 
+switch : in_f a_derivation (codes "(switch (leaf) (switch))") ≡ Ok (derivations.switch (derivations_of (derivations.leaf ∷ derivations.switch (derivations_of []) ∷ [])))
+switch = refl
+
 conditional : in_f a_derivation (codes "(seq (if (leaf) (bal)))") ≡ Ok (derivations.sequence (derivations_of (derivations.conditional derivations.leaf derivations.balanced_call ∷ [])))
 conditional = refl
 

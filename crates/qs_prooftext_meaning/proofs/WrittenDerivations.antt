@@ -122,6 +122,8 @@ mutual
       two_parts derivations.conditional _ _ d e (derivation_back g w a _ d (first_so _ _ h)) (derivation_back g w a _ e (second_so _ _ h))
   derivation_back g w a at (derivations.loop i c body step) h =
       four_parts derivations.loop _ _ _ _ i c body step (assertion_back g w a _ i (first_so _ _ (first_so _ _ (first_so _ _ h)))) (certificate_back g w a _ c (second_so _ _ (first_so _ _ (first_so _ _ h)))) (derivation_back g w a _ body (second_so _ _ (first_so _ _ h))) (derivation_back g w a _ step (second_so _ _ h))
+  derivation_back g w a at (derivations.switch ds) h =
+      any_parts (λ es. derivations.switch (derivations_of es)) _ (derivation_list ds) (derivations.switch ds) (derivations_back g w a _ ds h) (ap derivations.switch (derivations_of-list ds))
   derivation_back g w a at (derivations.call b c) h =
       two_parts derivations.call _ _ b c (assertion_back g w a _ b (first_so _ _ h)) (certificate_back g w a _ c (second_so _ _ h))
   derivation_back g w a at derivations.balanced_call h = refl

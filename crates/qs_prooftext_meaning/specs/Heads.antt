@@ -111,6 +111,7 @@ derivation_rows =
     ∷ (codes "seq", any a_derivation (λ ds. derivations.sequence (derivations_of ds)))
     ∷ (codes "if", two a_derivation a_derivation derivations.conditional)
     ∷ (codes "loop", four an_assertion a_certificate a_derivation a_derivation derivations.loop)
+    ∷ (codes "switch", any a_derivation (λ ds. derivations.switch (derivations_of ds)))
     ∷ (codes "call", two an_assertion a_certificate derivations.call)
     ∷ (codes "bal", none derivations.balanced_call)
     ∷ (codes "use", three an_assertion a_certificate a_derivation derivations.consequence)

@@ -148,6 +148,7 @@ abbrev mutual
   derivation_stands g (derivations.conditional d e) = derivation_stands g d && derivation_stands g e
   derivation_stands g (derivations.loop i c body step) =
       assertion_stands g i && certificate_stands g c && derivation_stands g body && derivation_stands g step
+  derivation_stands g (derivations.switch ds) = derivations_stand g ds
   derivation_stands g (derivations.call a c) = assertion_stands g a && certificate_stands g c
   derivation_stands g derivations.balanced_call = true
   derivation_stands g (derivations.consequence r c d) =

@@ -164,6 +164,7 @@ abbrev mutual
       headed (codes "if") (derivation_form w d ∷ derivation_form w e ∷ [])
   derivation_form w (derivations.loop i c body step) =
       headed (codes "loop") (assertion_form w i ∷ certificate_form w c ∷ derivation_form w body ∷ derivation_form w step ∷ [])
+  derivation_form w (derivations.switch ds) = headed (codes "switch") (derivation_forms w ds)
   derivation_form w (derivations.call a c) =
       headed (codes "call") (assertion_form w a ∷ certificate_form w c ∷ [])
   derivation_form w derivations.balanced_call = headed (codes "bal") []

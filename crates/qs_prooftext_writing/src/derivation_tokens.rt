@@ -88,6 +88,11 @@ pub fn put_derivation<'a>(
             put_derivation(alloc, out, table, body)?;
             put_last(alloc, out, table, step)
         }
+        Derivation::Switch(parts) => {
+            begin(out, b"switch")?;
+            put_derivations(alloc, out, table, parts)?;
+            put(out, Token::Close)
+        }
         Derivation::Call(frame, certificate) => put_call(alloc, out, table, frame, certificate),
         Derivation::BalancedCall => put_alone(out, b"bal"),
         Derivation::Consequence(stronger, certificate, part) => {

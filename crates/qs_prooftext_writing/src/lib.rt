@@ -1,4 +1,4 @@
-//! The writing of proof files: the words, lists and atoms of proofs, and their text.
+//! The writing of proof files: the words, lists and atoms of proofs and their parts, and their text.
 #![tactic(auto)]
 
 mod certificate_tokens;
@@ -11,4 +11,6 @@ mod putting;
 mod writing;
 
 pub use file_text::write;
+pub use naming::WordTable;
+pub use putting::put_nodes;
 pub use writing::variable_text;

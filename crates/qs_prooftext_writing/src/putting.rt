@@ -237,7 +237,8 @@ pub fn put_term<'a>(
     put_term_nodes(alloc, out, table, t.nodes())
 }
 
-fn put_nodes<'a>(
+/// Puts the tree that has these nodes.
+pub fn put_nodes<'a>(
     alloc: Global,
     out: &mut Vec<Token<'a>>,
     table: WordTable<'a>,

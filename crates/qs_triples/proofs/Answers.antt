@@ -10,12 +10,13 @@ use Rattle.qs_assert.specs.Substitution.{same_variable}
 use Rattle.qs_assert.specs.Trees.{AssertionTree}
 use Rattle.qs_assert.proofs.SamenessLaws.{variable_equal}
 use Rattle.qs_entail.specs.Faults as certificates
+use Rattle.qs_core.specs.declared.labels.CoreLabel.{CoreLabel}
 use Rattle.qs_core.specs.Trees as core
 use Rattle.qs_core.specs.Trees.{CoreExprTree, CoreStmtTree, CoreStmts, CoreFunctionTree}
 use Rattle.qs_triples.specs.declared.failure.Failure.{Failure}
 use Rattle.qs_triples.specs.declared.failure.Failure.TheVariants as failures
 use Rattle.qs_triples.specs.Derivations.{SpecTree}
-use Rattle.qs_triples.specs.Rules.{DerivFault, Answer, part, unless, unless_of, by_verdict, of_sequence, of_branch, of_loop, CallSite, of_call, Known, of_spec}
+use Rattle.qs_triples.specs.Rules.{DerivFault, Answer, part, unless, unless_of, by_verdict, of_sequence, of_branch, of_loop, of_switch, CallSite, of_call, Known, of_spec}
 use Rattle.qs_triples.specs.Told.{FailsAs, Follows}
 pub use Rattle.std.proofs.lemmas.Bool.{not-false as not_false}
 
@@ -75,6 +76,17 @@ pub record IsLoop (s : CoreStmtTree) (rule : CoreStmtTree → CoreStmtTree → A
 pub loop_ok : (s : CoreStmtTree) (rule : CoreStmtTree → CoreStmtTree → Answer) (a : AssertionTree) → Gives (of_loop s rule) a → IsLoop s rule a
 loop_ok (core.loop body step) rule a h = record { body = body; step = step; is = refl; gives = h }
 loop_ok _ rule a h = cc
+
+pub record IsSwitch (s : CoreStmtTree) (rule : CoreExprTree → List CoreLabel → CoreStmts → Answer) (a : AssertionTree) : Type 0 where
+  pub operand : CoreExprTree
+  pub labels : List CoreLabel
+  pub parts : CoreStmts
+  pub is : s ≡ core.switch operand labels parts
+  pub gives : Gives (rule operand labels parts) a
+
+pub switch_ok : (s : CoreStmtTree) (rule : CoreExprTree → List CoreLabel → CoreStmts → Answer) (a : AssertionTree) → Gives (of_switch s rule) a → IsSwitch s rule a
+switch_ok (core.switch e labels ss) rule a h = record { operand = e; labels = labels; parts = ss; is = refl; gives = h }
+switch_ok _ rule a h = cc
 
 abbrev pub call_at : CallSite → CoreStmtTree
 call_at site = core.call site.destination (Function (record { 0 = site.function })) site.arguments

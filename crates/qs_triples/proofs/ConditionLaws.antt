@@ -58,7 +58,7 @@ equal_signed x y h k = by (nat_lt x 2147483648) (nat_lt y 2147483648) refl refl
     by false true e f = grind (arith, ints, nat_tests, e, f, h, k)
     by false false e f = grind (arith, ints, nat_tests)
 
-equal_numbered : (s : Scalar) (x y : ℕ) → is_integer s ≡ true → x < size s → y < size s → int_eq (numbered s x) (numbered s y) ≡ (x == y)
+pub equal_numbered : (s : Scalar) (x y : ℕ) → is_integer s ≡ true → x < size s → y < size s → int_eq (numbered s x) (numbered s y) ≡ (x == y)
 equal_numbered scalars.Char x y i h k = ap (λ z. int_eq z (numbered scalars.Char y)) (char_numbered x h) ∙ ap (int_eq (pos x)) (char_numbered y k) ∙ equal_numbers x y
 equal_numbered scalars.Int x y i h k = ap (λ z. int_eq z (numbered scalars.Int y)) (signed_numbered x h) ∙ ap (int_eq (signed x)) (signed_numbered y k) ∙ equal_signed x y h k
 equal_numbered scalars.Unsigned x y i h k = ap (λ z. int_eq z (numbered scalars.Unsigned y)) (unsigned_numbered x h) ∙ ap (int_eq (pos x)) (unsigned_numbered y k) ∙ equal_numbers x y

@@ -10,6 +10,7 @@ pub mod ArgumentLaws
 pub mod SumLaws
 pub mod MomentLaws
 pub mod CallLaws
+pub mod SwitchLaws
 pub mod RuleLaws
 pub mod FunctionLaws
 pub mod PathLaws
@@ -17,8 +18,10 @@ pub mod BoundLaws
 pub mod ListLaws
 mod CountDownExamples
 mod LoopExamples
+mod SwitchExamples
 mod EvenOddExamples
 mod DigitsExamples
 pub mod NodeLaws
 pub mod WalkLaws
+pub mod LabelLaws
 pub mod EntryLaws

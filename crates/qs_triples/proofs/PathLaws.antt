@@ -1,5 +1,5 @@
 -- Path entries are sound: a call gives back what it takes, so what the precondition pays for stays free.
-use Rattle.std.proofs.Common.{◌≡◌, ℕ, ◌+◌, ◌≤◌, ◌==◌, ◌||◌, Bool, true, false, if◌then◌else◌, List, [], ◌∷◌, ◌++◌, Option, Some, None, option_map, refl, sym, ap, ◌∙◌, subst, arith}
+use Rattle.std.proofs.Common.{◌≡◌, ℕ, zero, suc, ◌+◌, ◌≤◌, ◌==◌, ◌||◌, Bool, true, false, if◌then◌else◌, List, [], ◌∷◌, ◌++◌, Option, Some, None, option_map, refl, sym, ap, ◌∙◌, subst, arith}
 use Rattle.std.specs.Prelude.{ℤ, Ok}
 use Rattle.std.specs.List.{slice_get, find, list_any}
 use Rattle.std.proofs.lemmas.Option.{slice_get-map}
@@ -31,10 +31,10 @@ use Rattle.qs_core.specs.Trees as core
 use Rattle.qs_core.specs.Trees.{CoreExprTree, CoreStmtTree, CoreStmts, no_stmts, stmt_and, CoreFunctionTree, CoreUnitTree}
 use Rattle.qs_core.specs.CallGraph.{callees, all_callees}
 use Rattle.qs_core.specs.Expressions.{Locals, values, type_of}
-use Rattle.qs_core.specs.Statements.{take_result}
+use Rattle.qs_core.specs.Statements.{take_result, chosen_part}
 use Rattle.qs_core.specs.Interfaces.{signature, interface_of}
 use Rattle.qs_core.specs.Units.{calls_within}
-use Rattle.qs_core.specs.Fits.{exprs_fit, call_fits, unit_fits}
+use Rattle.qs_core.specs.Fits.{exprs_fit, call_fits, stmt_fits, stmts_fit, unit_fits}
 use Rattle.qs_core.specs.Ranges.{result_type_at}
 use Rattle.qs_core.proofs.RangeLaws.{calls_in_range}
 use Rattle.qs_core.proofs.RelationLaws.{calls_alone}
@@ -42,14 +42,14 @@ use Rattle.qs_triples.specs.Derivations.{EntryTree, ProofsTree, entry_of, spec_o
 use Rattle.qs_triples.specs.Valuations.{number_at, within, at_entry}
 use Rattle.qs_triples.specs.ExpressionTerms.{var, expression_term, expression_condition}
 use Rattle.qs_triples.specs.Mentions.{first_of, first_of_destination}
-use Rattle.qs_triples.specs.Rules.{unless, replaced, target_kind, leaf_rule, by_condition, CallSite}
+use Rattle.qs_triples.specs.Rules.{unless, replaced, target_kind, leaf_rule, by_condition, switch_posts, before_chosen, CallSite}
 use Rattle.qs_triples.specs.Entries.{function_posts, AreClosed}
 use Rattle.qs_triples.proofs.Answers.{Gives, call_at}
 use Rattle.qs_triples.proofs.Bounds.{zero_below, below_at, given_below, paid, below_finite, finite_below}
 use Rattle.qs_triples.proofs.Names.{closed_value, seen}
 use Rattle.qs_triples.proofs.SumLaws.{call_alone_sums, followed_weighs}
 use Rattle.qs_triples.proofs.MomentLaws.{landed, result_below}
-use Rattle.qs_triples.proofs.RuleLaws.{at_valuation, AllKeepSpecs, IsEnough, AreEnough, first_is_enough, leaf_is_enough, branch_is_enough, loop_is_enough, consequence_is_enough, call_fits_at}
+use Rattle.qs_triples.proofs.RuleLaws.{at_valuation, AllKeepSpecs, IsEnough, AreEnough, IsEnoughFrom, first_is_enough, leaf_is_enough, branch_is_enough, loop_is_enough, switch_is_enough, consequence_is_enough, call_fits_at}
 
 -- ---- assertions without variables
 
@@ -206,6 +206,13 @@ module _ (u : CoreUnitTree) (fits : unit_fits u ≡ true) (metric : Costs) (proo
     stmt_stays (core.loop body step) pays =
         loop_is_enough u fits metric ds closed f start old turns calls need need need body step (function_posts need)
         (stmt_stays body (in_first (callees body) (callees step) pays)) (stmt_stays step (in_second (callees body) (callees step) pays)) (λ l. at_least_itself (value need (at l)))
+    stmt_stays (core.switch e labels ss) pays =
+        switch_is_enough u fits metric ds closed f start old turns calls need (λ part. need) e labels ss (function_posts need) (λ part. parts_stay ss part pays)
+        (λ l w n moment fit integral labels_fit i. by (chosen_part labels n) l)
+      where
+        by : (o : Option ℕ) (l : Locals) → AtLeast (value need (at l)) (value (before_chosen need (λ part. need) o) (at l))
+        by None l = at_least_itself (value need (at l))
+        by (Some part) l = at_least_itself (value need (at l))
     stmt_stays core.break pays = leaf_stays core.break need refl (λ l. refl)
     stmt_stays core.continue pays = leaf_stays core.continue need refl (λ l. refl)
     stmt_stays (core.return None) pays = leaf_stays (core.return None) need (unless_none (first_of kinds.Returned need) (nothing_found need (λ y. same_kind y.kind kinds.Returned) none)) (λ l. refl)
@@ -216,3 +223,11 @@ module _ (u : CoreUnitTree) (fits : unit_fits u ≡ true) (metric : Costs) (proo
     stmts_stay (stmt_and s ss) pays =
         first_is_enough u fits metric ds closed f start old turns calls need need s ss (function_posts need)
         (stmt_stays s (in_first (callees s) (all_callees ss) pays)) (stmts_stay ss (in_second (callees s) (all_callees ss) pays))
+
+    parts_stay : (ss : CoreStmts) (part : ℕ) → PaysIn (all_callees ss) → IsEnoughFrom u fits metric ds closed f start old turns calls need part ss (switch_posts (function_posts need))
+    parts_stay no_stmts part pays = λ b c fit x k r l w moment. r.next l w moment
+    parts_stay (stmt_and s ss) zero pays =
+        first_is_enough u fits metric ds closed f start old turns calls need need s ss (function_posts need)
+        (stmt_stays s (in_first (callees s) (all_callees ss) pays)) (stmts_stay ss (in_second (callees s) (all_callees ss) pays))
+    parts_stay (stmt_and s ss) (suc part) pays =
+        λ b c fit x k r. parts_stay ss part (in_second (callees s) (all_callees ss) pays) b c (and_parts (stmt_fits u f b c s) (stmts_fit u f b c ss) fit).1 x k r

@@ -1,18 +1,19 @@
 -- Each rule is sound: over all that may follow whose weight is at most the posts and x besides.
 use Rattle.std.proofs.Common.{◌≡◌, ℕ, zero, suc, ◌+◌, ◌-◌, ◌%◌, ◌^◌, ◌<◌, ◌==◌, ◌&&◌, not, Bool, true, false, if◌then◌else◌, List, [], ◌∷◌, map, Option, Some, None, option_map, All, refl, sym, ap, ◌∙◌, subst, arith}
 use Rattle.std.specs.Prelude.{ℤ, pos, Ok}
-use Rattle.std.specs.List.{slice_get}
+use Rattle.std.specs.List.{slice_get, list_all}
+use Rattle.qs_base.specs.Results.{bind}
 use Rattle.std.proofs.lemmas.List.Elements.{All-head, All-tail}
 use Rattle.std.proofs.lemmas.Option.{slice_get-map, same_Some}
 use Rattle.std.proofs.lemmas.Bool.Decides.{nat_tests}
 use Rattle.std.proofs.lemmas.Bool.{and_parts}
 use Rattle.qs_memory.specs.Partial.{◌>>=◌, only_if}
-use Rattle.qs_memory.specs.Values.{Pointer, Value, integer, address, as_pointer}
+use Rattle.qs_memory.specs.Values.{Pointer, Value, integer, address, as_integer, as_pointer}
 use Rattle.qs_memory.specs.Memory.{Memory}
 use Rattle.qs_memory.specs.Memory as memory
 use Rattle.qs_memory.specs.Pointers.{truth}
 use Rattle.qs_memory.specs.Soundness.{ComesAfter}
-use Rattle.qs_memory.specs.Scalars.{same_scalar, same_scalars, is_type, is_integer}
+use Rattle.qs_memory.specs.Scalars.{same_scalar, same_scalars, is_type, is_integer, is_promoted}
 use Rattle.qs_memory.proofs.ScalarLaws.{scalars_same, type_is}
 use Rattle.qs_memory.specs.declared.scalar.Scalar.{Scalar}
 use Rattle.qs_memory.specs.declared.scalar.Scalar.TheVariants as scalars
@@ -40,33 +41,36 @@ use Rattle.qs_entail.specs.Certificates.{CertTree}
 use Rattle.qs_entail.specs.Meaning.{AtLeast}
 use Rattle.qs_entail.specs.Verdicts.{verdict}
 use Rattle.qs_entail.proofs.Amounts.{at_least_itself, at_least_through, first_at_most, second_at_most}
+use Rattle.qs_core.specs.declared.labels.CoreLabel.{CoreLabel}
 use Rattle.qs_core.specs.declared.numbers.Target.{Target}
 use Rattle.qs_core.specs.declared.numbers.Target.TheVariants as targets
 use Rattle.qs_core.specs.Trees as core
 use Rattle.qs_core.specs.Trees.{CoreExprTree, CoreStmtTree, CoreStmts, no_stmts, stmt_and, CoreFunctionTree, CoreUnitTree}
 use Rattle.qs_core.specs.Expressions.{Locals, values, type_of}
 use Rattle.qs_core.specs.Expressions as expressions
-use Rattle.qs_core.specs.Statements.{Continuation, Continuations, Context, assigned, take_result, given_pointer, repeated, after_step, after_body, runs, runs_all}
+use Rattle.qs_core.specs.Statements.{Continuation, Continuations, Context, assigned, take_result, given_pointer, repeated, after_step, after_body, chosen_part, at_part, in_switch, runs, runs_all, runs_from}
 use Rattle.qs_core.specs.Interfaces.{temporary_type, target_type, parameter_types, signature, interface_of}
-use Rattle.qs_core.specs.Fits.{expr_fits, exprs_fit, pointer_fits, any_mentions, call_fits, taken_fits, destination_fits, stmt_fits, stmts_fit, unit_fits}
+use Rattle.qs_core.specs.Fits.{expr_fits, exprs_fit, pointer_fits, any_mentions, call_fits, taken_fits, destination_fits, label_fits, stmt_fits, stmts_fit, unit_fits}
+use Rattle.qs_core.specs.Outline.{count_of}
 use Rattle.qs_core.specs.Ranges.{IsMoment}
 use Rattle.qs_core.specs.TermTrees.{CoreTermTree}
 use Rattle.qs_core.specs.Terms.{term_of}
 use Rattle.qs_core.proofs.FitLaws.{FunctionFits, function_at_fits}
 use Rattle.qs_core.proofs.TypeLaws.{integer_is_of, value_is_of}
 use Rattle.qs_core.proofs.RangeLaws.{of_type, moment_stepped, moment_assigned, arguments_are}
-use Rattle.qs_triples.specs.Derivations.{DerivationTree, leaf, sequence, conditional, loop, call, balanced_call, consequence, DerivationTrees, no_derivations, derivation_and, count_derivations, SpecTree}
+use Rattle.qs_triples.specs.Derivations.{DerivationTree, leaf, sequence, conditional, loop, switch, call, balanced_call, consequence, DerivationTrees, no_derivations, derivation_and, count_derivations, SpecTree}
 use Rattle.qs_triples.specs.Valuations.{number_or_zero, number_type, if_number, own_type, is_number_type, Valuation, value_of, number_at, within, entered, at_entry, at_exit}
 use Rattle.qs_triples.specs.ExpressionTerms.{var, term_tree, expression_term, expression_condition}
 use Rattle.qs_triples.specs.Mentions.{first_of, first_of_destination, pre_images, post_images}
-use Rattle.qs_triples.specs.Rules.{part, unless, Posts, Scope, with_next, target_kind, replaced, leaf_rule, by_condition, either, step_posts, body_posts, with_frame, around, at_call, is_balanced, CallSite, is_consequence, count_stmts, pre, sequence_pre}
+use Rattle.qs_triples.specs.Rules.{Answer, part, unless, Posts, Scope, with_next, target_kind, replaced, leaf_rule, by_condition, either, step_posts, body_posts, switch_posts, before_part, before_chosen, switched, with_frame, around, at_call, is_balanced, CallSite, is_consequence, count_stmts, pre, sequence_pre, parts_pre}
 use Rattle.qs_triples.specs.Entries.{AreClosed}
-use Rattle.qs_triples.proofs.Answers.{Gives, ok_same, bind_ok, part_ok, require_ok, unless_ok, unless_of_ok, by_verdict_ok, sequence_ok, branch_ok, loop_ok, call_at, call_ok, spec_ok}
+use Rattle.qs_triples.proofs.Answers.{Gives, ok_same, bind_ok, part_ok, require_ok, unless_ok, unless_of_ok, by_verdict_ok, sequence_ok, branch_ok, loop_ok, switch_ok, call_at, call_ok, spec_ok}
 use Rattle.qs_triples.proofs.Bounds.{IsBelow, zero_below, below_more, below_at, given_below, choice_below, framed, with_frame_below, around_below}
 use Rattle.qs_triples.proofs.Names.{seen, shown}
 use Rattle.qs_triples.proofs.ValuationLaws.{in_range, OthersStay, unmentioned, replaced_value}
 use Rattle.qs_triples.proofs.TermLaws.{Stands, expression_stands}
 use Rattle.qs_triples.proofs.ConditionLaws.{expression_holds}
+use Rattle.qs_triples.proofs.SwitchLaws.{enough_at_chosen}
 use Rattle.qs_triples.proofs.MomentLaws.{landed, IsResult, result_below}
 use Rattle.qs_triples.proofs.ArgumentLaws.{argument_at, argument_fits, TermsAre}
 use Rattle.qs_triples.proofs.CallLaws.{pre_at_call, ResultsAre, post_at_call, balanced_at_call, IsApart, apart_at, value_apart}
@@ -268,6 +272,7 @@ module _ (u : CoreUnitTree) (fits : unit_fits u ≡ true) (metric : Costs) (ds :
   leaf_is_enough (core.seq ss) q p is b c fit x k r l w moment = cc
   leaf_is_enough (core.branch e s t) q p is b c fit x k r l w moment = cc
   leaf_is_enough (core.loop body step) q p is b c fit x k r l w moment = cc
+  leaf_is_enough (core.switch e labels ss) q p is b c fit x k r l w moment = cc
 
   -- ---- sequence
 
@@ -333,6 +338,75 @@ module _ (u : CoreUnitTree) (fits : unit_fits u ≡ true) (metric : Costs) (ds :
       below_more _ (value p (at l)) _ x
       (one true true two.0 x (after_body k (runs step context (after_step k again))) (record { next = st; on_break = λ _. r.next; on_continue = λ _. st; on_return = r.on_return }) l w moment)
       (least l)) turns
+
+  -- ---- switch
+
+  -- p is enough before the statements from this one on
+  abbrev pub IsEnoughFrom : AssertionTree → (part : ℕ) → CoreStmts → Posts → Type 0
+  IsEnoughFrom p part ss q =
+      (b c : Bool) → stmts_fit u f b c ss ≡ true → (x : ℕ) (k : Continuations) → Ready x b c k q → Holds p (runs_from ss part context k) x
+
+  abbrev pub PartsAreEnough : (before : ℕ → AssertionTree) → CoreStmts → Posts → Type 0
+  PartsAreEnough before ss q = (part : ℕ) → IsEnoughFrom (before part) part ss q
+
+  pub all_from_first : (p : AssertionTree) (ss : CoreStmts) (q : Posts) → IsEnoughFrom p 0 ss q → AreEnough p ss q
+  all_from_first p no_stmts q h = h
+  all_from_first p (stmt_and s ss) q h = h
+
+  pub one_more_part :
+      (before : List AssertionTree) (p : AssertionTree) (s : CoreStmtTree) (ss : CoreStmts) (q : Posts)
+      → IsEnough p s (with_next q (before_part q.next before 0)) → PartsAreEnough (before_part q.next before) ss q
+      → PartsAreEnough (before_part q.next (p ∷ before)) (stmt_and s ss) q
+  one_more_part before p s ss q one others zero =
+      first_is_enough p (before_part q.next before 0) s ss q one (all_from_first (before_part q.next before 0) ss q (others 0))
+  one_more_part before p s ss q one others (suc part) =
+      λ b c fit x k r. others part b c (and_parts (stmt_fits u f b c s) (stmts_fit u f b c ss) fit).1 x k r
+
+  -- where the operand has these bits, p is at least what is needed where the switch goes on
+  abbrev pub CoversChosen : AssertionTree → (next : AssertionTree) → (before : ℕ → AssertionTree) → CoreExprTree → List CoreLabel → CoreStmts → Type 0
+  CoversChosen p next before e labels ss =
+      (l : Locals) (w : World) (n : ℕ) → IsMoment u f start l w → expr_fits u f e ≡ true → is_integer (type_of e) ≡ true
+      → list_all (label_fits (type_of e) (count_of ss)) labels ≡ true → expressions.value e l w.memory ≡ Some (integer n)
+      → AtLeast (value p (at l)) (value (before_chosen next before (chosen_part labels n)) (at l))
+
+  entered_below :
+      (before : ℕ → AssertionTree) (ss : CoreStmts) (q : Posts) (c : Bool) → stmts_fit u f true c ss ≡ true
+      → PartsAreEnough before ss (switch_posts q) → (x : ℕ) (b : Bool) (k : Continuations) → Ready x b c k q
+      → (o : Option ℕ) (l : Locals) (w : World) → IsMoment u f start l w
+      → IsBelow (run_weight metric (at_part o (λ part. runs_from ss part context (in_switch k)) k.next l w)) (value (before_chosen q.next before o) (at l)) x
+  entered_below before ss q c fit parts x b k r None l w moment = r.next l w moment
+  entered_below before ss q c fit parts x b k r (Some part) l w moment =
+      parts part true c fit x (in_switch k) (record { next = r.next; on_break = λ _. r.next; on_continue = r.on_continue; on_return = r.on_return }) l w moment
+
+  pub switch_is_enough :
+      (p : AssertionTree) (before : ℕ → AssertionTree) (e : CoreExprTree) (labels : List CoreLabel) (ss : CoreStmts) (q : Posts)
+      → PartsAreEnough before ss (switch_posts q) → CoversChosen p q.next before e labels ss → IsEnough p (core.switch e labels ss) q
+  switch_is_enough p before e labels ss q parts least b c fit x k r l w moment =
+      let three = and_parts _ (stmts_fit u f true c ss) fit in
+      let two = and_parts _ (list_all (label_fits (type_of e) (count_of ss)) labels) three.0 in
+      let one = and_parts (expr_fits u f e) (is_promoted (type_of e)) two.0 in
+      given_below metric (expressions.value e l w.memory) _ _ x (λ v i. given_below metric (as_integer v) _ _ x (λ n j.
+      below_more _ (value (before_chosen q.next before (chosen_part labels n)) (at l)) _ x
+      (entered_below before ss q c three.1 parts x b k r (chosen_part labels n) l w moment)
+      (least l w n moment one.0 (promoted_integer (type_of e) one.1) two.1 (i ∙ ap Some (integer_is v n j)))))
+    where
+      integer_is : (v : Value) (n : ℕ) → as_integer v ≡ Some n → v ≡ integer n
+      integer_is (integer m) n h = ap integer (same_Some m n h)
+      integer_is (address p) n h = cc
+
+      promoted_integer : (s : Scalar) → is_promoted s ≡ true → is_integer s ≡ true
+      promoted_integer scalars.Char h = refl
+      promoted_integer scalars.Int h = refl
+      promoted_integer scalars.Unsigned h = refl
+      promoted_integer scalars.Pointer h = cc
+
+  pub labels_cover :
+      (next : AssertionTree) (before : ℕ → AssertionTree) (e : CoreExprTree) (labels : List CoreLabel) (ss : CoreStmts)
+      → CoversChosen (switched next before e labels) next before e labels ss
+  labels_cover next before e labels ss l w n moment fit integral fits i =
+      enough_at_chosen (at l) next before (type_of e) (expression_term e) (count_of ss) n labels integral
+      (value_is_of u f e l w (integer n) fit moment.range i).typed
+      (λ t is. (term_number e l w (integer n) t fit moment i is).number) fits
 
   -- ---- consequence
 
@@ -522,6 +596,12 @@ module _ (u : CoreUnitTree) (fits : unit_fits u ≡ true) (metric : Costs) (ds :
           at_statement p s (call_at site) q i.1.0 (at_answer _ p (call_at site) q (ok_same _ p m3.1)
           (balanced_is_enough site g j.known.spec q (in_unit g site.function j.function_is) j.spec_is m1.0 m2.0 m3.0))
 
+      -- what is needed before the parts of a switch, and enough there
+      record IsParts (ss : CoreStmts) (q : Posts) (rule : List AssertionTree → Answer) (p : AssertionTree) : Type 0 where
+        before : List AssertionTree
+        enough : PartsAreEnough (before_part q.next before) ss q
+        gives : Gives (rule before) p
+
       mutual
         pub sound : (d : DerivationTree) (s : CoreStmtTree) (q : Posts) (p : AssertionTree) → Gives (pre d scope s q) p → IsEnough p s q
         sound leaf s q p is = leaf_is_enough s q p is
@@ -546,6 +626,13 @@ module _ (u : CoreUnitTree) (fits : unit_fits u ≡ true) (metric : Costs) (ds :
             (sound d a.body (body_posts j.0 q) k.0 (part_ok 0 _ k.0 k.1.0))
             (sound e a.step (step_posts i q) j.0 (part_ok 1 _ j.0 j.1.0))
             (certificate_covers order w i k.0 v.0)))
+        sound (switch ds') s q p is =
+            let i = switch_ok s _ p is in
+            let j = require_ok (count_derivations ds' == count_stmts i.parts) _ _ p i.gives in
+            let parts = parts_sound ds' 0 i.parts (switch_posts q) _ p j.1 in
+            let before : ℕ → AssertionTree = before_part q.next parts.before in
+            at_statement p s (core.switch i.operand i.labels i.parts) q i.is (at_answer _ p (core.switch i.operand i.labels i.parts) q (ok_same _ p parts.gives)
+            (switch_is_enough (switched q.next before i.operand i.labels) before i.operand i.labels i.parts q parts.enough (labels_cover q.next before i.operand i.labels i.parts)))
         sound (call a w) s q p is = call_sound a w s q p is
         sound balanced_call s q p is = balanced_sound s q p is
         sound (consequence r w d) s q p is =
@@ -562,3 +649,18 @@ module _ (u : CoreUnitTree) (fits : unit_fits u ≡ true) (metric : Costs) (ds :
         all_sound (derivation_and d ds') i (stmt_and s ss) q p is =
             let j = bind_ok (sequence_pre ds' (suc i) scope ss q) _ p is in
             first_is_enough p j.0 s ss q (sound d s (with_next q j.0) p (part_ok i _ p j.1.1)) (all_sound ds' (suc i) ss q j.0 j.1.0)
+
+        parts_sound : (ds' : DerivationTrees) (i : ℕ) (ss : CoreStmts) (q : Posts) (rule : List AssertionTree → Answer) (p : AssertionTree) → Gives (parts_pre ds' i scope ss q rule) p → IsParts ss q rule p
+        parts_sound no_derivations i no_stmts q rule p is = record { before = []; enough = λ part b c fit x k r. r.next; gives = is }
+        parts_sound no_derivations i (stmt_and s ss) q rule p is = cc
+        parts_sound (derivation_and d ds') i no_stmts q rule p is = cc
+        parts_sound (derivation_and d ds') i (stmt_and s ss) q rule p is =
+            let others = parts_sound ds' (suc i) ss q (λ before. bind (part i (pre d scope s (with_next q (before_part q.next before 0)))) (λ a. rule (a ∷ before))) p is in
+            let j = bind_ok (part i (pre d scope s (with_next q (before_part q.next others.before 0)))) _ p others.gives in
+            record {
+              before = j.0 ∷ others.before;
+              enough =
+                  one_more_part others.before j.0 s ss q
+                  (sound d s (with_next q (before_part q.next others.before 0)) j.0 (part_ok i _ j.0 j.1.0)) others.enough;
+              gives = j.1.1;
+            }

@@ -4,7 +4,7 @@ use Rattle.std.proofs.Common.{◌≡◌, ◌⊎◌, inl, inr, ⊎_elim, ℕ, zer
 use Rattle.std.specs.Prelude.{ℤ, pos, neg_ℤ, ◌+ℤ◌, ◌-ℤ◌, max}
 use Rattle.std.specs.List.{slice_get}
 use Rattle.std.proofs.lemmas.Int.{ints}
-use Rattle.qs_memory.specs.Values.{Pointer, Value, integer, address, as_pointer}
+use Rattle.qs_memory.specs.Values.{Pointer, Value, integer, address, as_integer, as_pointer}
 use Rattle.qs_memory.specs.Memory.{Memory}
 use Rattle.qs_memory.specs.Memory as memory
 use Rattle.qs_memory.specs.Values.{into}
@@ -21,10 +21,10 @@ use Rattle.qs_calls.specs.declared.callee.Callee.TheVariants.{Function, PutChar,
 use Rattle.qs_calls.specs.declared.parameter.Parameter.{Parameter}
 use Rattle.qs_calls.specs.declared.parameter.Parameter.TheVariants.{Plain, Placed}
 use Rattle.qs_core.specs.declared.numbers.Target.TheVariants as targets
-use Rattle.qs_core.specs.Trees.{CoreExprTree, CoreStmtTree, skip, seq, assign, copy, fill, call, branch, loop, break, continue, return, CoreStmts, no_stmts, stmt_and, CoreUnitTree}
+use Rattle.qs_core.specs.Trees.{CoreExprTree, CoreStmtTree, skip, seq, assign, copy, fill, call, branch, loop, switch, break, continue, return, CoreStmts, no_stmts, stmt_and, CoreUnitTree}
 use Rattle.qs_core.specs.Trees as core
 use Rattle.qs_core.specs.Expressions.{Locals, value, values}
-use Rattle.qs_core.specs.Statements.{Continuation, Continuations, Context, assigned, take_result, given_pointer, repeated, after_step, runs, runs_all}
+use Rattle.qs_core.specs.Statements.{Continuation, Continuations, Context, assigned, take_result, given_pointer, repeated, after_step, chosen_part, at_part, runs, runs_all, runs_from}
 use Rattle.qs_core.specs.Units.{calls_within}
 
 module _ (cost : Costs) where
@@ -102,6 +102,10 @@ module _ (cost : Costs) where
     turns_sum zero turn h l w = no_sum_short c
     turns_sum (suc n) turn h l w = h (repeated n turn) (turns_sum n turn h) l w
 
+    part_sums : (part : Option ℕ) (f : ℕ → Continuation) → ((n : ℕ) → Sums (f n)) → (k : Continuation) → Sums k → Sums (at_part part f k)
+    part_sums None f h k e = e
+    part_sums (Some part) f h k e = h part
+
     mutual
       stmt_sums : (s : CoreStmtTree) (k : Continuations) → AllSum k → Sums (runs s context k)
       stmt_sums skip k h l w = h.next l w
@@ -118,6 +122,9 @@ module _ (cost : Costs) where
       stmt_sums (loop body step) k h l w = turns_sum turns _ (λ again fits.
           let st = stmt_sums step (after_step k again) (record { next = fits; on_break = h.next; on_continue = fits; on_return = h.on_return }) in
           stmt_sums body _ (record { next = st; on_break = h.next; on_continue = st; on_return = h.on_return })) l w
+      stmt_sums (switch e labels ss) k h l w =
+          given_sums c (value e l w.memory) _ (λ v. given_sums c (as_integer v) _ (λ n.
+          part_sums (chosen_part labels n) _ (λ part. parts_sum ss part _ (record { next = h.next; on_break = h.next; on_continue = h.on_continue; on_return = h.on_return })) _ h.next l w))
       stmt_sums break k h l w = h.on_break l w
       stmt_sums continue k h l w = h.on_continue l w
       stmt_sums (return None) k h l w = h.on_return None w
@@ -127,6 +134,12 @@ module _ (cost : Costs) where
       stmts_sum no_stmts k h l w = h.next l w
       stmts_sum (stmt_and s ss) k h l w =
           stmt_sums s _ (record { next = stmts_sum ss k h; on_break = h.on_break; on_continue = h.on_continue; on_return = h.on_return }) l w
+
+      parts_sum : (ss : CoreStmts) (part : ℕ) (k : Continuations) → AllSum k → Sums (runs_from ss part context k)
+      parts_sum no_stmts part k h l w = h.next l w
+      parts_sum (stmt_and s ss) zero k h l w =
+          stmt_sums s _ (record { next = stmts_sum ss k h; on_break = h.on_break; on_continue = h.on_continue; on_return = h.on_return }) l w
+      parts_sum (stmt_and s ss) (suc part) k h l w = parts_sum ss part k h l w
 
   pass_sums : (c : ℤ) (ps : List Parameter) (vs : List Value) (first : ℕ) (e : Environment) (w : World) (k : Entered) → ((e : Environment) (w : World) → SumsTo c (k e w)) → SumsTo c (pass ps vs first e w k)
   pass_sums c [] [] first e w k h = h e w

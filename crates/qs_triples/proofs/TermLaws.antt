@@ -508,7 +508,7 @@ module _ (st : State) where
       let b = bits_of ta p stand.integer typed in
       converted_stands ta to a.value c b.bits v a.then b.small (stand.number ∙ ap (λ (v : Value). number_of v (number_type ta)) b.is) (ap (convert to) (sym b.is) ∙ j)
 
-literal_number : (s : Scalar) (n : ℕ) → is_integer s ≡ true → has_type s (integer n) ≡ true → literal_value s n ≡ numbered s n
+pub literal_number : (s : Scalar) (n : ℕ) → is_integer s ≡ true → has_type s (integer n) ≡ true → literal_value s n ≡ numbered s n
 literal_number scalars.Char n i h = sym (char_numbered n (grind (arith, nat_tests, h)))
 literal_number scalars.Int n i h = sym (signed_numbered n (grind (arith, nat_tests, h)))
 literal_number scalars.Unsigned n i h = sym (unsigned_numbered n (grind (arith, nat_tests, h)))

@@ -16,6 +16,8 @@ mutual
     conditional : (first second : DerivationTree) → DerivationTree
     -- `(loop I cert body step)`
     loop : (invariant : AssertionTree) → CertTree → (body step : DerivationTree) → DerivationTree
+    -- `(switch d ..)`
+    switch : DerivationTrees → DerivationTree
     -- `(call A cert)`
     call : (frame : AssertionTree) → CertTree → DerivationTree
     -- `(bal)`

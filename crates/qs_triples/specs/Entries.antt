@@ -37,6 +37,7 @@ is_return (core.fill contents to) = false
 is_return (core.call x g es) = false
 is_return (core.branch e s t) = false
 is_return (core.loop body step) = false
+is_return (core.switch e labels ss) = false
 is_return core.break = false
 is_return core.continue = false
 

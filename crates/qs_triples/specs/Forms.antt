@@ -2,11 +2,13 @@
 use Rattle.std.specs.Prelude.{◌≡◌, ℕ, List, [], Option, MatchOption, Err}
 use Rattle.qs_calls.specs.declared.callee.Callee.{Callee}
 use Rattle.qs_core.specs.declared.expressions.CoreExpr.{CoreExpr}
+use Rattle.qs_core.specs.declared.labels.CoreLabel.{CoreLabel}
 use Rattle.qs_core.specs.declared.statements.CoreStmt.{CoreStmt}
 use Rattle.qs_core.specs.TreeOf.{core_expr, core_exprs, core_stmt, core_stmts}
 use Rattle.qs_core.specs.Trees.{CoreExprTree, CoreStmtTree, CoreStmts, stmts_of}
-use Rattle.qs_triples.specs.Rules.{Answer, CallSite, shape, of_sequence, of_branch, of_loop, of_callee, of_call}
+use Rattle.qs_triples.specs.Rules.{Answer, CallSite, shape, of_sequence, of_branch, of_loop, of_switch, of_callee, of_call}
 use Rattle.qs_triples.specs.declared.forms.Branches.{Branches}
+use Rattle.qs_triples.specs.declared.forms.Cases.{Cases}
 use Rattle.qs_triples.specs.declared.forms.Site.{Site}
 use Rattle.qs_triples.specs.declared.forms.Turns.{Turns}
 
@@ -41,6 +43,16 @@ IsLoopOf t s =
 
 abbrev pub IsNoLoop : CoreStmtTree → Type 0
 IsNoLoop s = (rule : CoreStmtTree → CoreStmtTree → Answer) → of_loop s rule ≡ Err (shape [])
+
+-- ---- switches
+
+abbrev pub IsSwitchOf : Cases → CoreStmtTree → Type 0
+IsSwitchOf c s =
+    (rule : CoreExprTree → List CoreLabel → CoreStmts → Answer)
+    → of_switch s rule ≡ rule (core_expr c.operand.now) c.labels.now (stmts_of (core_stmts c.parts.now))
+
+abbrev pub IsNoSwitch : CoreStmtTree → Type 0
+IsNoSwitch s = (rule : CoreExprTree → List CoreLabel → CoreStmts → Answer) → of_switch s rule ≡ Err (shape [])
 
 -- ---- calls of functions with a body
 

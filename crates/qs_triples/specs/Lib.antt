@@ -14,5 +14,6 @@ pub mod Told
 pub mod Views
 pub mod Forms
 pub mod Nodes
+pub mod Switches
 pub mod Walk
 pub mod Checking

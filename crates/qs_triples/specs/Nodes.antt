@@ -3,16 +3,18 @@ use Rattle.std.specs.Prelude.{◌≡◌, ℕ, ◌==◌, List, [], length, not, R
 use Rattle.std.specs.Borrow.{Bor}
 use Rattle.qs_base.specs.Results.{require}
 use Rattle.qs_assert.specs.Trees.{AssertionTree}
+use Rattle.qs_core.specs.declared.labels.CoreLabel.{CoreLabel}
 use Rattle.qs_core.specs.declared.statements.CoreStmt.{CoreStmt}
-use Rattle.qs_core.specs.TreeOf.{core_stmt, core_stmts}
+use Rattle.qs_core.specs.TreeOf.{core_expr, core_stmt, core_stmts}
 use Rattle.qs_core.specs.Trees.{CoreExprTree, CoreStmtTree, CoreStmts, stmts_of}
 use Rattle.qs_triples.specs.Derivations.{DerivationTree}
 use Rattle.qs_triples.specs.Forms.{IsBranchOf}
 use Rattle.qs_triples.specs.Mentions.{in_body, first_other}
-use Rattle.qs_triples.specs.Rules.{Answer, Scope, shape, unless, of_sequence, of_branch, of_loop, is_consequence, count_stmts}
+use Rattle.qs_triples.specs.Rules.{Answer, Scope, shape, unless, of_sequence, of_branch, of_loop, of_switch, is_consequence, count_stmts}
 use Rattle.qs_triples.specs.Told.{FailsAs}
 use Rattle.qs_triples.specs.declared.failure.Failure.{Failure}
 use Rattle.qs_triples.specs.declared.forms.Branches.{Branches}
+use Rattle.qs_triples.specs.declared.forms.Cases.{Cases}
 use Rattle.qs_triples.specs.declared.forms.Turns.{Turns}
 
 -- a variable of the invariant or assertion of a node that it may not mention comes before all else
@@ -35,6 +37,25 @@ HasNoParts failure s count = (rule : CoreStmts → Answer) → FailsAs failure (
 abbrev pub GivesParts : Result (Bor (List CoreStmt)) Failure → CoreStmt → (derivations : ℕ) → Type 0
 GivesParts result s count =
     MatchResult result (λ ss. HasParts ss.now (core_stmt s) count) (λ failure. HasNoParts failure (core_stmt s) count)
+
+-- ---- switches: the same
+
+abbrev pub of_cases : CoreStmtTree → (derivations : ℕ) → (CoreExprTree → List CoreLabel → CoreStmts → Answer) → Answer
+of_cases s count rule = of_switch s (λ e labels ss. require (count == count_stmts ss) (shape []) (rule e labels ss))
+
+abbrev pub HasCases : Cases → CoreStmtTree → (derivations : ℕ) → Type 0
+HasCases c s count =
+    (length c.parts.now ≡ count)
+    × ((rule : CoreExprTree → List CoreLabel → CoreStmts → Answer)
+    → of_cases s count rule ≡ rule (core_expr c.operand.now) c.labels.now (stmts_of (core_stmts c.parts.now)))
+
+abbrev pub HasNoCases : Failure → CoreStmtTree → (derivations : ℕ) → Type 0
+HasNoCases failure s count =
+    (rule : CoreExprTree → List CoreLabel → CoreStmts → Answer) → FailsAs failure (of_cases s count rule)
+
+abbrev pub GivesCases : Result Cases Failure → CoreStmt → (derivations : ℕ) → Type 0
+GivesCases result s count =
+    MatchResult result (λ c. HasCases c (core_stmt s) count) (λ failure. HasNoCases failure (core_stmt s) count)
 
 -- ---- conditionals
 

@@ -1,7 +1,8 @@
 -- The rules of derivations, one for each form of node. A rule gives the assertion that is enough before a statement,
 -- where the posts are enough behind it; or the first fault in the order of search.
-use Rattle.std.specs.Prelude.{ℕ, suc, ◌==◌, not, Bool, true, false, if◌then◌else◌, List, [], ◌∷◌, Option, Some, None, option_map, Result, Ok, Err}
+use Rattle.std.specs.Prelude.{ℕ, suc, ◌==◌, ◌&&◌, not, Bool, true, false, if◌then◌else◌, List, [], ◌∷◌, slice_index_or, Option, Some, None, option_map, Result, Ok, Err}
 use Rattle.qs_base.specs.Results.{bind, require}
+use Rattle.qs_memory.specs.declared.scalar.Scalar.{Scalar}
 use Rattle.qs_calls.specs.declared.callee.Callee.{Callee}
 use Rattle.qs_calls.specs.declared.callee.Callee.TheVariants.{Function, PutChar, GetChar}
 use Rattle.qs_assert.specs.declared.define.Define.{Define}
@@ -12,17 +13,21 @@ use Rattle.qs_assert.specs.Sameness.{same_assertion}
 use Rattle.qs_assert.specs.Substitution.{in_assertion}
 use Rattle.qs_assert.specs.Images.{assertion_image}
 use Rattle.qs_assert.specs.Simultaneous.{terms_for, first_without}
-use Rattle.qs_assert.specs.Trees.{TermTree, CondTree, AssertionTree, cost, total, greatest, choose, AssertionTrees, no_assertions, assertion_and}
+use Rattle.qs_assert.specs.Trees.{TermTree, number, CondTree, eq, AssertionTree, cost, total, greatest, choose, AssertionTrees, no_assertions, assertion_and}
 use Rattle.qs_entail.specs.Certificates.{CertTree}
 use Rattle.qs_entail.specs.Faults as certificates
 use Rattle.qs_entail.specs.Verdicts.{verdict}
+use Rattle.qs_core.specs.declared.labels.CoreLabel.{CoreLabel}
+use Rattle.qs_core.specs.declared.labels.CoreLabel.TheVariants.{Case, Default}
 use Rattle.qs_core.specs.declared.numbers.Target.{Target}
 use Rattle.qs_core.specs.declared.numbers.Target.TheVariants as targets
 use Rattle.qs_core.specs.Trees as core
 use Rattle.qs_core.specs.Trees.{CoreExprTree, CoreStmtTree, CoreStmts, no_stmts, stmt_and, CoreFunctionTree}
 use Rattle.qs_core.specs.Expressions.{type_of}
+use Rattle.qs_core.specs.Statements.{default_part}
+use Rattle.qs_core.specs.Terms.{literal_value}
 use Rattle.std.specs.List.{slice_get}
-use Rattle.qs_triples.specs.Derivations.{DerivationTree, leaf, sequence, conditional, loop, call, balanced_call, consequence, DerivationTrees, no_derivations, derivation_and, count_derivations, SpecTree}
+use Rattle.qs_triples.specs.Derivations.{DerivationTree, leaf, sequence, conditional, loop, switch, call, balanced_call, consequence, DerivationTrees, no_derivations, derivation_and, count_derivations, SpecTree}
 use Rattle.qs_triples.specs.ExpressionTerms.{var, expression_term, expression_condition}
 use Rattle.qs_triples.specs.Mentions.{in_body, first_other, first_of, first_of_destination, pre_images, post_images, first_without_argument, plain_variable, as_old}
 
@@ -146,6 +151,7 @@ leaf_rule (core.return e) q = returned_rule e q.on_return
 leaf_rule (core.seq ss) q = Err (shape [])
 leaf_rule (core.branch e s t) q = Err (shape [])
 leaf_rule (core.loop body step) q = Err (shape [])
+leaf_rule (core.switch e labels ss) q = Err (shape [])
 
 -- ---- conditional
 
@@ -171,6 +177,53 @@ step_posts i q =
 -- behind the body, and after a continue, comes the step
 abbrev pub body_posts : (before_step : AssertionTree) → Posts → Posts
 body_posts j q = record { next = j; on_break = q.next; on_continue = j; on_return = q.on_return }
+
+-- ---- switch
+
+-- a break leaves the switch; a continue and a return leave it to where they would go from there
+abbrev pub switch_posts : Posts → Posts
+switch_posts q = record q { on_break = q.next }
+
+-- what must be free before the part with this number; behind the last one it is what comes behind the switch
+abbrev pub before_part : (next : AssertionTree) → (before : List AssertionTree) → (part : ℕ) → AssertionTree
+before_part next before part = slice_index_or before part next
+
+-- the same where there may be no such part
+abbrev pub before_chosen : (next : AssertionTree) → (before : ℕ → AssertionTree) → Option ℕ → AssertionTree
+before_chosen next before None = next
+before_chosen next before (Some part) = before part
+
+-- whether d must be free at each case
+abbrev pub all_need : (d : AssertionTree) → (before : ℕ → AssertionTree) → List CoreLabel → Bool
+all_need d before [] = true
+all_need d before (Case n part ∷ labels) = same_assertion (before part) d && all_need d before labels
+all_need d before (Default part ∷ labels) = all_need d before labels
+
+-- the first case whose value the operand's term has decides, or else d is needed
+abbrev pub by_values : (d : AssertionTree) → (before : ℕ → AssertionTree) → Scalar → TermTree → List CoreLabel → AssertionTree
+by_values d before s t [] = d
+by_values d before s t (Case n part ∷ labels) =
+    choose (eq t (number (literal_value s n))) (before part) (by_values d before s t labels)
+by_values d before s t (Default part ∷ labels) = by_values d before s t labels
+
+-- what must be free at each case, and d behind them
+abbrev pub at_cases : (d : AssertionTree) → (before : ℕ → AssertionTree) → List CoreLabel → AssertionTrees
+at_cases d before [] = assertion_and d no_assertions
+at_cases d before (Case n part ∷ labels) = assertion_and (before part) (at_cases d before labels)
+at_cases d before (Default part ∷ labels) = at_cases d before labels
+
+-- without a term all must be paid for
+abbrev pub by_term : (d : AssertionTree) → (before : ℕ → AssertionTree) → Scalar → Option TermTree → List CoreLabel → AssertionTree
+by_term d before s (Some t) labels = by_values d before s t labels
+by_term d before s None labels = greatest (at_cases d before labels)
+
+-- where all are the same tree, that one; the operand has this type and this term, and d must be free at `default`
+abbrev pub by_labels : (d : AssertionTree) → (before : ℕ → AssertionTree) → Scalar → Option TermTree → List CoreLabel → AssertionTree
+by_labels d before s t labels = if all_need d before labels then d else by_term d before s t labels
+
+abbrev pub switched : (next : AssertionTree) → (before : ℕ → AssertionTree) → CoreExprTree → List CoreLabel → AssertionTree
+switched next before e labels =
+    by_labels (before_chosen next before (default_part labels)) before (type_of e) (expression_term e) labels
 
 -- ---- calls
 
@@ -205,6 +258,7 @@ of_sequence (core.fill contents to) rule = Err (shape [])
 of_sequence (core.call x g es) rule = Err (shape [])
 of_sequence (core.branch e s t) rule = Err (shape [])
 of_sequence (core.loop body step) rule = Err (shape [])
+of_sequence (core.switch e labels ss) rule = Err (shape [])
 of_sequence core.break rule = Err (shape [])
 of_sequence core.continue rule = Err (shape [])
 of_sequence (core.return e) rule = Err (shape [])
@@ -219,6 +273,7 @@ of_branch (core.copy size alignment to from) rule = Err (shape [])
 of_branch (core.fill contents to) rule = Err (shape [])
 of_branch (core.call x g es) rule = Err (shape [])
 of_branch (core.loop body step) rule = Err (shape [])
+of_branch (core.switch e labels ss) rule = Err (shape [])
 of_branch core.break rule = Err (shape [])
 of_branch core.continue rule = Err (shape [])
 of_branch (core.return e) rule = Err (shape [])
@@ -233,9 +288,25 @@ of_loop (core.copy size alignment to from) rule = Err (shape [])
 of_loop (core.fill contents to) rule = Err (shape [])
 of_loop (core.call x g es) rule = Err (shape [])
 of_loop (core.branch e s t) rule = Err (shape [])
+of_loop (core.switch e labels ss) rule = Err (shape [])
 of_loop core.break rule = Err (shape [])
 of_loop core.continue rule = Err (shape [])
 of_loop (core.return e) rule = Err (shape [])
+
+abbrev pub of_switch : CoreStmtTree → (CoreExprTree → List CoreLabel → CoreStmts → Answer) → Answer
+of_switch (core.switch e labels ss) rule = rule e labels ss
+of_switch core.skip rule = Err (shape [])
+of_switch (core.seq ss) rule = Err (shape [])
+of_switch (core.assign x e) rule = Err (shape [])
+of_switch (core.store s to e) rule = Err (shape [])
+of_switch (core.copy size alignment to from) rule = Err (shape [])
+of_switch (core.fill contents to) rule = Err (shape [])
+of_switch (core.call x g es) rule = Err (shape [])
+of_switch (core.branch e s t) rule = Err (shape [])
+of_switch (core.loop body step) rule = Err (shape [])
+of_switch core.break rule = Err (shape [])
+of_switch core.continue rule = Err (shape [])
+of_switch (core.return e) rule = Err (shape [])
 
 -- a call of a function with a body
 pub record CallSite : Type 0 where
@@ -258,6 +329,7 @@ of_call (core.copy size alignment to from) rule = Err (shape [])
 of_call (core.fill contents to) rule = Err (shape [])
 of_call (core.branch e s t) rule = Err (shape [])
 of_call (core.loop body step) rule = Err (shape [])
+of_call (core.switch e labels ss) rule = Err (shape [])
 of_call core.break rule = Err (shape [])
 of_call core.continue rule = Err (shape [])
 of_call (core.return e) rule = Err (shape [])
@@ -304,6 +376,7 @@ is_consequence leaf = false
 is_consequence (sequence ds) = false
 is_consequence (conditional d e) = false
 is_consequence (loop i w d e) = false
+is_consequence (switch ds) = false
 is_consequence (call a w) = false
 is_consequence balanced_call = false
 is_consequence (consequence r w d) = true
@@ -331,6 +404,10 @@ abbrev mutual
       (bind (part 1 (pre e c step (step_posts i q))) (λ j.
       bind (part 0 (pre d c body (body_posts j q))) (λ p.
       certified c.defines w i p i))))
+  pre (switch ds) c s q = of_switch s (λ e labels ss.
+      require (count_derivations ds == count_stmts ss) (shape [])
+      (parts_pre ds 0 c ss (switch_posts q) (λ before.
+      Ok (switched q.next (before_part q.next before) e labels))))
   pre (call a w) c s q = of_call s (λ site. known_callee c site (call_rule c a w q site))
   pre balanced_call c s q = of_call s (λ site. known_callee c site (balanced_rule q site))
   pre (consequence r w d) c s q =
@@ -346,3 +423,13 @@ abbrev mutual
   sequence_pre (derivation_and d ds) i c no_stmts q = Err (shape [])
   sequence_pre (derivation_and d ds) i c (stmt_and s ss) q =
       bind (sequence_pre ds (suc i) c ss q) (λ n. part i (pre d c s (with_next q n)))
+
+  -- the rule, where it gets what must be free before each part, which is found from the last to the first; behind each
+  -- part comes the next one
+  pub parts_pre : DerivationTrees → (i : ℕ) → Scope → CoreStmts → Posts → (rule : List AssertionTree → Answer) → Answer
+  parts_pre no_derivations i c no_stmts q rule = rule []
+  parts_pre no_derivations i c (stmt_and s ss) q rule = Err (shape [])
+  parts_pre (derivation_and d ds) i c no_stmts q rule = Err (shape [])
+  parts_pre (derivation_and d ds) i c (stmt_and s ss) q rule =
+      parts_pre ds (suc i) c ss q (λ before.
+      bind (part i (pre d c s (with_next q (before_part q.next before 0)))) (λ p. rule (p ∷ before)))

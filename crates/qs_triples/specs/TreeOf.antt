@@ -5,7 +5,7 @@ use Rattle.qs_triples.specs.declared.derivation.Derivation.{Derivation, Derivati
 use Rattle.qs_triples.specs.declared.derivation.Spec.{Spec}
 use Rattle.qs_triples.specs.declared.derivation.FunctionProof.{FunctionProof}
 use Rattle.qs_triples.specs.declared.derivation.Proofs.{Proofs}
-use Rattle.qs_triples.specs.Derivations.{DerivationTree, leaf, sequence, conditional, loop, call, balanced_call, consequence, DerivationTrees, no_derivations, derivation_and, SpecTree, EntryTree, ProofsTree}
+use Rattle.qs_triples.specs.Derivations.{DerivationTree, leaf, sequence, conditional, loop, switch, call, balanced_call, consequence, DerivationTrees, no_derivations, derivation_and, SpecTree, EntryTree, ProofsTree}
 
 abbrev pub derivations_of : List DerivationTree → DerivationTrees
 derivations_of [] = no_derivations
@@ -17,6 +17,7 @@ derivation_step Derivation-F.Leaf = leaf
 derivation_step (Derivation-F.Sequence ds) = sequence (derivations_of ds.items)
 derivation_step (Derivation-F.Conditional d e) = conditional d.value e.value
 derivation_step (Derivation-F.Loop i c d e) = loop i (cert_tree c) d.value e.value
+derivation_step (Derivation-F.Switch ds) = switch (derivations_of ds.items)
 derivation_step (Derivation-F.Call a c) = call a (cert_tree c)
 derivation_step Derivation-F.BalancedCall = balanced_call
 derivation_step (Derivation-F.Consequence r c d) = consequence r (cert_tree c) d.value

@@ -1,5 +1,7 @@
 -- What the code's walk over a body gives, of the code's values.
-use Rattle.std.specs.Prelude.{ℕ, true, List, Option, Result, option_map}
+use Rattle.std.specs.Prelude.{◌≡◌, ℕ, true, List, reverse, Option, Vec, Result, MatchResult, option_map}
+use Rattle.std.specs.declared.alloc.Global.{Global}
+use Rattle.qs_assert.specs.declared.tree.Assertion.{Assertion}
 use Rattle.qs_assert.specs.Simultaneous.{first_without}
 use Rattle.qs_assert.specs.Trees.{AssertionTree}
 use Rattle.qs_assert.specs.declared.variable.Var.{Var}
@@ -18,7 +20,7 @@ use Rattle.qs_triples.specs.Mentions.{first_without_argument, plain_variable}
 use Rattle.qs_triples.specs.Replacements.{first_missing, image, replaced}
 use Rattle.qs_triples.specs.Rules as rules
 use Rattle.qs_triples.specs.Rules.{Answer}
-use Rattle.qs_triples.specs.Told.{Carries, CarriesBehind, Follows}
+use Rattle.qs_triples.specs.Told.{Carries, CarriesBehind, FailsAs, Follows}
 use Rattle.qs_triples.specs.Views.{known_view, posts_view, scope_view}
 use Rattle.qs_triples.specs.declared.failure.Failure.{Failure}
 use Rattle.qs_triples.specs.declared.forms.Site.{Site}
@@ -36,6 +38,17 @@ body_pre_of d c body q = rules.pre d (scope_view c) (seq (stmts_of (core_stmts b
 
 abbrev pub sequence_pre_of : DerivationTrees → Scope → List CoreStmt → Posts → Answer
 sequence_pre_of ds c ss q = rules.sequence_pre ds 0 (scope_view c) (stmts_of (core_stmts ss)) (posts_view q)
+
+-- the rule that gets what must be free before each part of a switch
+abbrev pub parts_pre_of : DerivationTrees → Scope → List CoreStmt → Posts → (rule : List AssertionTree → Answer) → Answer
+parts_pre_of ds c ss q rule = rules.parts_pre ds 0 (scope_view c) (stmts_of (core_stmts ss)) (posts_view q) rule
+
+-- it gets these, the last one first, or fails whatever it is
+abbrev pub GivesBefore : Result (Vec Assertion Global) Failure → DerivationTrees → Scope → List CoreStmt → Posts → Type 0
+GivesBefore result ds c ss q =
+    MatchResult result
+    (λ before. (rule : List AssertionTree → Answer) → parts_pre_of ds c ss q rule ≡ rule (reverse before.items))
+    (λ failure. (rule : List AssertionTree → Answer) → FailsAs failure (parts_pre_of ds c ss q rule))
 
 -- the derivation of a call with this frame
 abbrev pub call_with : (frame : AssertionTree) → Certificate → DerivationTree

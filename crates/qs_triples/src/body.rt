@@ -2,15 +2,17 @@
 ghost use Rattle.std.specs.Prelude.{◌≡◌, length};
 ghost use Rattle.qs_triples.specs.Told.{Follows};
 ghost use Rattle.qs_triples.specs.TreeOf.{derivation_tree, derivation_trees};
-ghost use Rattle.qs_triples.specs.Walk.{body_pre_of, pre_of, sequence_pre_of};
+ghost use Rattle.qs_triples.specs.Walk.{GivesBefore, body_pre_of, pre_of, sequence_pre_of};
 
 use crate::derivation::Derivation;
 use crate::failure::{Cause, Failure};
 use crate::leaf::leaf_rule;
 use crate::nodes::{
     balanced_pre, call_pre, chosen, concluded, conditional_at, loop_at, may_draw, sequence_at,
+    switch_at, switched,
 };
-use crate::posts::{Posts, Scope, body_posts, step_posts, with_next};
+use crate::posts::{Posts, Scope, body_posts, step_posts, switch_posts, with_next};
+use crate::switches::{Before, before_part, put};
 use crate::walk::{failed, part};
 use qs_assert::Assertion;
 use qs_core::CoreStmt;
@@ -45,6 +47,11 @@ pub fn pre(
             let p = part(0, pre(alloc, body, c, turns.body, body_posts(&j, q)))?;
             concluded(alloc, c, certificate, invariant, &p)
         }
+        Derivation::Switch(ds) => {
+            let cases = switch_at(alloc, s, ds.len())?;
+            let before = parts_pre(alloc, ds, c, cases.parts, switch_posts(q))?;
+            switched(alloc, cases, q.next, &before)
+        }
         Derivation::Call(frame, certificate) => call_pre(alloc, frame, certificate, c, s, q),
         Derivation::BalancedCall => balanced_pre(alloc, c, s, q),
         Derivation::Consequence(r, certificate, inner) => {
@@ -76,6 +83,35 @@ fn sequence_pre(
     Ok(next)
 }
 
+// What must be free before each part, from the last to the first; behind each comes the next one.
+#[cycle(pre)]
+fn parts_pre(
+    alloc: Global,
+    ds: &[Derivation],
+    c: Scope<'_>,
+    ss: &[CoreStmt],
+    q: Posts<'_>,
+) -> Result<Vec<Assertion>, Failure>
+    requires { length ds.now ≡ length ss.now }
+    ensures { GivesBefore result (derivation_trees ds.now) c.entry ss.now q.entry }
+{
+    let mut before = Vec::new(alloc);
+    let mut i = ds.len();
+    while i > 0 {
+        i -= 1;
+        let b = Before {
+            next: q.next,
+            parts: &before,
+        };
+        let p = part(
+            i,
+            pre(alloc, &ds[i], c, &ss[i], with_next(q, before_part(b, 0))),
+        )?;
+        put(&mut before, p)?;
+    }
+    Ok(before)
+}
+
 /// What must be free before a body, which is a sequence.
 pub fn body_pre(
     alloc: Global,
@@ -101,6 +137,7 @@ pub fn body_pre(
         Derivation::Leaf => Err(failed(alloc, Cause::Shape)),
         Derivation::Conditional(_, _) => Err(failed(alloc, Cause::Shape)),
         Derivation::Loop(_, _, _, _) => Err(failed(alloc, Cause::Shape)),
+        Derivation::Switch(_) => Err(failed(alloc, Cause::Shape)),
         Derivation::Call(_, _) => Err(failed(alloc, Cause::Shape)),
         Derivation::BalancedCall => Err(failed(alloc, Cause::Shape)),
     }

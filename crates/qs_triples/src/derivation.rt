@@ -16,6 +16,8 @@ pub enum Derivation {
     /// a loop: its invariant, which the certificate shows to be at least what the body needs; its
     /// body, its step
     Loop(Assertion, Certificate, Box<Derivation>, Box<Derivation>),
+    /// a switch, with a part for each of its parts
+    Switch(Vec<Derivation>),
     /// a call, beside which the frame stays free; the certificate shows that what is free after the
     /// call is at least what comes next
     Call(Assertion, Certificate),
@@ -36,6 +38,7 @@ impl Drop for Derivation {
             Derivation::Sequence(_) => {}
             Derivation::Conditional(_, _) => {}
             Derivation::Loop(_, _, _, _) => {}
+            Derivation::Switch(_) => {}
             Derivation::Call(_, _) => {}
             Derivation::BalancedCall => {}
             Derivation::Consequence(_, _, _) => {}

@@ -82,6 +82,7 @@ fn is_return(s: &CoreStmt) -> bool
         CoreStmt::Call(_, _, _) => false,
         CoreStmt::If(_, _, _) => false,
         CoreStmt::Loop(_, _) => false,
+        CoreStmt::Switch(_, _, _) => false,
         CoreStmt::Break => false,
         CoreStmt::Continue => false,
     }

@@ -1,11 +1,12 @@
 // The forms of statements that rules ask for.
 ghost use Rattle.qs_triples.specs.Forms.{TellsForm, TellsCallee, IsSequenceOf, IsNoSequence};
 ghost use Rattle.qs_triples.specs.Forms.{IsBranchOf, IsNoBranch, IsLoopOf, IsNoLoop};
+ghost use Rattle.qs_triples.specs.Forms.{IsSwitchOf, IsNoSwitch};
 ghost use Rattle.qs_triples.specs.Forms.{IsCallOf, IsNoCall};
 
 use qs_base::FnId;
 use qs_calls::Callee;
-use qs_core::{CoreExpr, CoreStmt};
+use qs_core::{CoreExpr, CoreLabel, CoreStmt};
 
 /// A conditional.
 #[derive(Clone, Copy)]
@@ -25,6 +26,17 @@ pub struct Turns<'a> {
     pub body: &'a CoreStmt,
     /// its step
     pub step: &'a CoreStmt,
+}
+
+/// A switch.
+#[derive(Clone, Copy)]
+pub struct Cases<'a> {
+    /// its operand
+    pub operand: &'a CoreExpr,
+    /// its labels
+    pub labels: &'a [CoreLabel],
+    /// its parts
+    pub parts: &'a [CoreStmt],
 }
 
 /// A call of a function with a body.
@@ -56,6 +68,7 @@ pub fn branches_of<'a>(s: &'a CoreStmt) -> Option<Branches<'a>>
         CoreStmt::Fill(_, _) => None,
         CoreStmt::Call(_, _, _) => None,
         CoreStmt::Loop(_, _) => None,
+        CoreStmt::Switch(_, _, _) => None,
         CoreStmt::Break => None,
         CoreStmt::Continue => None,
         CoreStmt::Return(_) => None,
@@ -76,6 +89,32 @@ pub fn turns_of<'a>(s: &'a CoreStmt) -> Option<Turns<'a>>
         CoreStmt::Fill(_, _) => None,
         CoreStmt::Call(_, _, _) => None,
         CoreStmt::If(_, _, _) => None,
+        CoreStmt::Switch(_, _, _) => None,
+        CoreStmt::Break => None,
+        CoreStmt::Continue => None,
+        CoreStmt::Return(_) => None,
+    }
+}
+
+/// A switch.
+pub fn cases_of<'a>(s: &'a CoreStmt) -> Option<Cases<'a>>
+    ensures { TellsForm result IsNoSwitch IsSwitchOf s.now }
+{
+    match s {
+        CoreStmt::Switch(operand, labels, parts) => Some(Cases {
+            operand,
+            labels,
+            parts,
+        }),
+        CoreStmt::Skip => None,
+        CoreStmt::Seq(_) => None,
+        CoreStmt::Assign(_, _) => None,
+        CoreStmt::Store(_, _, _) => None,
+        CoreStmt::Copy { .. } => None,
+        CoreStmt::Fill(_, _) => None,
+        CoreStmt::Call(_, _, _) => None,
+        CoreStmt::If(_, _, _) => None,
+        CoreStmt::Loop(_, _) => None,
         CoreStmt::Break => None,
         CoreStmt::Continue => None,
         CoreStmt::Return(_) => None,
@@ -96,6 +135,7 @@ pub fn parts_of<'a>(s: &'a CoreStmt) -> Option<&'a [CoreStmt]>
         CoreStmt::Call(_, _, _) => None,
         CoreStmt::If(_, _, _) => None,
         CoreStmt::Loop(_, _) => None,
+        CoreStmt::Switch(_, _, _) => None,
         CoreStmt::Break => None,
         CoreStmt::Continue => None,
         CoreStmt::Return(_) => None,
@@ -130,6 +170,7 @@ pub fn site_of<'a>(s: &'a CoreStmt) -> Option<Site<'a>>
         CoreStmt::Fill(_, _) => None,
         CoreStmt::If(_, _, _) => None,
         CoreStmt::Loop(_, _) => None,
+        CoreStmt::Switch(_, _, _) => None,
         CoreStmt::Break => None,
         CoreStmt::Continue => None,
         CoreStmt::Return(_) => None,

@@ -114,5 +114,6 @@ pub fn leaf_rule(alloc: Global, s: &CoreStmt, q: Posts<'_>) -> Result<Assertion,
         CoreStmt::Seq(_) => Err(failed(alloc, Cause::Shape)),
         CoreStmt::If(_, _, _) => Err(failed(alloc, Cause::Shape)),
         CoreStmt::Loop(_, _) => Err(failed(alloc, Cause::Shape)),
+        CoreStmt::Switch(_, _, _) => Err(failed(alloc, Cause::Shape)),
     }
 }

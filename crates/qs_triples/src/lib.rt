@@ -1,5 +1,5 @@
 //! Derivations of stack bounds: which are right, that these bound the weight of every run, and
-//! their check.
+//! their check, with the walk over a body, for what shows it.
 #![tactic(auto)]
 
 mod body;
@@ -17,10 +17,16 @@ mod mentions;
 mod nodes;
 mod posts;
 mod replacements;
+mod switches;
 mod terms;
 mod walk;
 
+pub use body::{body_pre, pre};
+pub use calls::{entry_in, with_frame};
 pub use check::{check_function, check_in_order, defines_in_order};
 pub use derivation::{Derivation, FunctionProof, Proofs, Spec};
+pub use failure::{Cause, Failure};
 pub use fault::{DerivFault, Place};
 pub use laws::derivations_bound_runs;
+pub use posts::{Posts, Scope, body_posts, step_posts, with_next};
+pub use replacements::{Replacement, replaced};

@@ -3,8 +3,9 @@ ghost use Rattle.std.specs.Prelude.{◌≡◌, Ok};
 ghost use Rattle.qs_core.specs.TreeOf.{core_expr};
 ghost use Rattle.qs_triples.specs.Derivations.{balanced_call};
 ghost use Rattle.qs_triples.specs.ExpressionTerms.{expression_condition};
-ghost use Rattle.qs_triples.specs.Nodes.{GivesBranches, GivesParts, GivesTurns, MayDraw};
+ghost use Rattle.qs_triples.specs.Nodes.{GivesBranches, GivesCases, GivesParts, GivesTurns, MayDraw};
 ghost use Rattle.qs_triples.specs.Rules as rules;
+ghost use Rattle.qs_triples.specs.Switches.{switched_view};
 ghost use Rattle.qs_triples.specs.Told.{Follows};
 ghost use Rattle.qs_triples.specs.TreeOf.{derivation_tree};
 ghost use Rattle.qs_triples.specs.Views.{scope_view};
@@ -14,9 +15,10 @@ use crate::call_rules::{balanced_rule, call_rule};
 use crate::calls::{certified, either, known_callee, none_found};
 use crate::derivation::Derivation;
 use crate::failure::{Cause, Failure};
-use crate::forms::{Branches, Turns, branches_of, parts_of, site_of, turns_of};
+use crate::forms::{Branches, Cases, Turns, branches_of, cases_of, parts_of, site_of, turns_of};
 use crate::mentions::{Standing, first_other};
 use crate::posts::{Posts, Scope};
+use crate::switches::{Before, by_labels};
 use crate::terms::expression_condition;
 use crate::walk::failed;
 use qs_assert::Assertion;
@@ -72,6 +74,26 @@ pub fn loop_at<'a>(
     Ok(turns)
 }
 
+/// A switch that has so many parts.
+#[tactic(auto, using(crate::proofs::NodeLaws::has_cases, crate::proofs::NodeLaws::other_cases))]
+pub fn switch_at<'a>(
+    alloc: Global,
+    s: &'a CoreStmt,
+    derivations: usize,
+) -> Result<Cases<'a>, Failure>
+    ensures { GivesCases result s.now derivations }
+{
+    let Some(cases) = cases_of(s) else {
+        return Err(failed(alloc, Cause::Shape));
+    };
+    let parts = cases.parts;
+    if parts.len() == derivations {
+        Ok(cases)
+    } else {
+        Err(failed(alloc, Cause::Shape))
+    }
+}
+
 // ---- consequences
 
 fn is_consequence(d: &Derivation) -> bool
@@ -82,6 +104,7 @@ fn is_consequence(d: &Derivation) -> bool
         Derivation::Sequence(_) => false,
         Derivation::Conditional(_, _) => false,
         Derivation::Loop(_, _, _, _) => false,
+        Derivation::Switch(_) => false,
         Derivation::Call(_, _) => false,
         Derivation::BalancedCall => false,
         Derivation::Consequence(_, _, _) => true,
@@ -121,6 +144,22 @@ pub fn chosen(alloc: Global, e: &CoreExpr, a: Assertion, b: Assertion) -> Result
 {
     let condition = expression_condition(alloc, e)?;
     Ok(either(alloc, condition, a, b)?)
+}
+
+/// What a switch needs, by what its parts need, the last one first.
+pub fn switched(
+    alloc: Global,
+    cases: Cases<'_>,
+    next: &Assertion,
+    before: &[Assertion],
+) -> Result<Assertion, Failure>
+    ensures { Follows result (Ok (switched_view cases.entry next.now before.now)) }
+{
+    let b = Before {
+        next,
+        parts: before,
+    };
+    Ok(by_labels(alloc, b, cases.operand, cases.labels)?)
 }
 
 /// What must be free before a call with a frame.

@@ -68,6 +68,18 @@ pub fn step_posts<'a>(invariant: &'a Assertion, q: Posts<'a>) -> Posts<'a>
     }
 }
 
+/// Those of the parts of a switch.
+pub fn switch_posts<'a>(q: Posts<'a>) -> Posts<'a>
+    ensures { posts_view result ≡ rules.switch_posts (posts_view q.entry) }
+{
+    Posts {
+        next: q.next,
+        on_break: q.next,
+        on_continue: q.on_continue,
+        on_return: q.on_return,
+    }
+}
+
 /// Those of the body of a loop, before whose step this must be free.
 pub fn body_posts<'a>(before_step: &'a Assertion, q: Posts<'a>) -> Posts<'a>
     ensures { posts_view result ≡ rules.body_posts before_step.now (posts_view q.entry) }

@@ -1,15 +1,18 @@
-use Rattle.std.proofs.Common.{◌≡◌, ℕ, ◌-◌, suc, length, sym, ap, ◌∙◌, subst, arith}
+use Rattle.std.proofs.Common.{◌≡◌, ℕ, ◌-◌, suc, List, [], ◌∷◌, length, reverse, sym, ap, ◌∙◌, subst, arith}
+use Rattle.std.proofs.lemmas.List.{reverse-append}
 use Rattle.std.proofs.lemmas.Result.{err_from_is_err_and}
 use Rattle.qs_core.specs.TreeOf.{core_stmt}
 use Rattle.qs_entail.specs.View.{cert_tree}
 use Rattle.qs_triples.specs.Derivations.{DerivationTree}
-use Rattle.qs_triples.specs.Nodes.{HasParts, HasNoParts}
-use Rattle.qs_triples.specs.Rules.{pre}
+use Rattle.qs_triples.specs.Nodes.{HasParts, HasNoParts, HasCases, HasNoCases}
+use Rattle.qs_assert.specs.Trees.{AssertionTree}
+use Rattle.qs_triples.specs.Rules.{before_part, pre}
 use Rattle.qs_triples.specs.Told.{FailsAs, Follows}
 use Rattle.qs_triples.specs.TreeOf.{derivation_tree}
 use Rattle.qs_triples.specs.Views.{posts_view, scope_view}
-use Rattle.qs_triples.proofs.NodeLaws.{no_parts, sequence_follows, no_turns, step_fails, body_fails, turns_follow, sequence_of, loop_of}
-use Rattle.qs_triples.proofs.WalkLaws.{turn_fails}
+use Rattle.qs_triples.proofs.NodeLaws.{no_parts, sequence_follows, no_cases, parts_fail, switch_is, no_turns, step_fails, body_fails, turns_follow, sequence_of, loop_of, switch_of}
+use Rattle.qs_triples.proofs.Answers.{follows_by}
+use Rattle.qs_triples.proofs.WalkLaws.{turn_fails, parts_turn, parts_turn_fails}
 use Rattle.qs_triples.proofs.body.+pre.Goals as goal
 
 -- ---- sequences
@@ -73,6 +76,39 @@ pre-returns-in_ok-p-in-Loop t c =
     (turns_follow c.concluded.result c.in_ok-turns-in-Loop.turns c.in-Loop.invariant (cert_tree c.in-Loop.certificate) (derivation_tree c.in-Loop.body.value) (derivation_tree c.in-Loop.step.value) (scope_view c.args.c) (core_stmt c.args.s.now) (posts_view c.args.q) c.in_ok-j-in-Loop.j c.in_ok-p-in-Loop.p
     c.in_ok-turns-in-Loop.ensures (c.in_ok-j-in-Loop.ensures _ k) (c.in_ok-p-in-Loop.ensures _ l) c.concluded.ensures)
 
+-- ---- switches
+
+pub pre-returns-in_err-cases-in-Switch : goal.pre-returns-in_err-cases-in-Switch
+pre-returns-in_err-cases-in-Switch t c =
+    let p = err_from_is_err_and c.from_residual-in_err-cases-in-Switch.result c.from_residual-in_err-cases-in-Switch.ensures.1 in
+    let e = ap derivation_tree c.in-Switch.is ∙ switch_of c.in-Switch.ds in
+    let n : c.len-in-Switch.result ≡ length c.in-Switch.ds.items = omega (arith, c.len-in-Switch.ensures, c.in-Switch.ds.ok.0) in
+    rw (p.1, p.2)
+    (subst (λ (z : DerivationTree). FailsAs c.in_err-cases-in-Switch.field-0.0 (pre z (scope_view c.args.c) (core_stmt c.args.s.now) (posts_view c.args.q))) (sym e)
+    (no_cases c.in_err-cases-in-Switch.field-0.0 c.in-Switch.ds.items (scope_view c.args.c) (core_stmt c.args.s.now) (posts_view c.args.q)
+    (subst (λ (m : ℕ). HasNoCases c.in_err-cases-in-Switch.field-0.0 (core_stmt c.args.s.now) m) n c.in_err-cases-in-Switch.ensures)))
+
+pub pre-returns-in_err-before-in-Switch : goal.pre-returns-in_err-before-in-Switch
+pre-returns-in_err-before-in-Switch t c =
+    let p = err_from_is_err_and c.from_residual-in_err-before-in-Switch.result c.from_residual-in_err-before-in-Switch.ensures.1 in
+    let e = ap derivation_tree c.in-Switch.is ∙ switch_of c.in-Switch.ds in
+    let n : c.len-in-Switch.result ≡ length c.in-Switch.ds.items = omega (arith, c.len-in-Switch.ensures, c.in-Switch.ds.ok.0) in
+    let h = subst (λ (m : ℕ). HasCases c.in_ok-cases-in-Switch.cases (core_stmt c.args.s.now) m) n c.in_ok-cases-in-Switch.ensures in
+    rw (p.1, p.2)
+    (subst (λ (z : DerivationTree). FailsAs c.in_err-before-in-Switch.field-0.0 (pre z (scope_view c.args.c) (core_stmt c.args.s.now) (posts_view c.args.q))) (sym e)
+    (parts_fail c.in_err-before-in-Switch.field-0.0 c.in_ok-cases-in-Switch.cases c.in-Switch.ds.items (scope_view c.args.c) (core_stmt c.args.s.now) (posts_view c.args.q) h
+    (rw (c.deref-in-Switch.ensures.value, c.switch_posts.ensures) at c.in_err-before-in-Switch.ensures)))
+
+pub pre-returns-in_ok-before-in-Switch : goal.pre-returns-in_ok-before-in-Switch
+pre-returns-in_ok-before-in-Switch t c =
+    let e = ap derivation_tree c.in-Switch.is ∙ switch_of c.in-Switch.ds in
+    let n : c.len-in-Switch.result ≡ length c.in-Switch.ds.items = omega (arith, c.len-in-Switch.ensures, c.in-Switch.ds.ok.0) in
+    let h = subst (λ (m : ℕ). HasCases c.in_ok-cases-in-Switch.cases (core_stmt c.args.s.now) m) n c.in_ok-cases-in-Switch.ensures in
+    let k = rw (c.deref-in-Switch.ensures.value, c.switch_posts.ensures) at c.in_ok-before-in-Switch.ensures in
+    let is = switch_is c.in_ok-cases-in-Switch.cases c.in-Switch.ds.items (scope_view c.args.c) (core_stmt c.args.s.now) (posts_view c.args.q) (reverse c.in_ok-before-in-Switch.before.items) h k in
+    follows_by c.switched.result _ _ (ap (λ (z : DerivationTree). pre z (scope_view c.args.c) (core_stmt c.args.s.now) (posts_view c.args.q)) e ∙ is)
+    (rw c.deref-in-Switch-2.ensures.value at c.switched.ensures)
+
 -- ---- parts of a sequence
 
 pub sequence_pre-returns-in_err-next-2 : goal.sequence_pre-returns-in_err-next-2
@@ -83,3 +119,30 @@ sequence_pre-returns-in_err-next-2 t c =
     rw (p.1, p.2)
     (turn_fails c.in_err-next-2.field-0.0 c.args.ds.now c.args.ss.now (scope_view c.args.c) (posts_view c.args.q) (c.loop-i.i - 1) c.loop-i.i c.index-ds-i.result c.index-ss-i.result c.loop-i.next
     c.loop-i.invariant.same e (omega arith) c.index-ds-i.is c.index-ss-i.is c.loop-i.invariant.needed (c.in_err-next-2.ensures _ k))
+
+-- ---- parts of a switch
+
+pub parts_pre-returns-in_err-p : goal.parts_pre-returns-in_err-p
+parts_pre-returns-in_err-p t c =
+    let p = err_from_is_err_and c.from_residual.result c.from_residual.ensures.1 in
+    let e : c.loop-i.i ≡ suc (c.loop-i.i - 1) = omega arith in
+    let b : c.before_part.result.now ≡ before_part c.args.q.next.now (reverse c.deref.result.now) 0 = c.before_part.ensures in
+    let k = rw (c.with_next.ensures, b, c.deref.ensures.value) at c.pre.ensures in
+    rw (p.1, p.2)
+    (parts_turn_fails c.in_err-p.field-0.0 c.args.ds.now c.args.ss.now (scope_view c.args.c) (posts_view c.args.q) (c.loop-i.i - 1) c.loop-i.i c.index-ds-i.result c.index-ss-i.result (reverse c.loop-i.before.items)
+    c.loop-i.invariant.same e (omega arith) c.index-ds-i.is c.index-ss-i.is c.loop-i.invariant.needed (c.in_err-p.ensures _ k))
+
+pub parts_pre-loop-i-preserved : goal.parts_pre-loop-i-preserved
+parts_pre-loop-i-preserved t c =
+    let e : c.loop-i.i ≡ suc (c.loop-i.i - 1) = omega arith in
+    let b : c.before_part.result.now ≡ before_part c.args.q.next.now (reverse c.deref.result.now) 0 = c.before_part.ensures in
+    let k = rw (c.with_next.ensures, b, c.deref.ensures.value) at c.pre.ensures in
+    let turned = ap (λ (l : List AssertionTree). reverse l) c.in_ok-put.ensures ∙ reverse-append c.loop-i.before.items (c.in_ok-p.p ∷ []) in
+    record {
+      within = omega arith;
+      same = c.loop-i.invariant.same;
+      needed = λ rule.
+          parts_turn c.args.ds.now c.args.ss.now (scope_view c.args.c) (posts_view c.args.q) (c.loop-i.i - 1) c.loop-i.i c.index-ds-i.result c.index-ss-i.result (reverse c.loop-i.before.items) c.in_ok-p.p
+          e (omega arith) (omega arith) c.index-ds-i.is c.index-ss-i.is c.loop-i.invariant.needed (c.in_ok-p.ensures _ k) rule
+          ∙ ap rule (sym turned);
+    }

@@ -1,5 +1,5 @@
 -- Turns of the loops that read statements and units.
-use Rattle.std.proofs.Common.{◌≡◌, ℕ, zero, suc, ◌+◌, ◌-◌, ◌<◌, ◌≤◌, cond, List, [], ◌∷◌, ◌++◌, Result, Ok, Err, Option, refl, ap, ◌∙◌, arith, Some, None, Box, Global, sym}
+use Rattle.std.proofs.Common.{◌≡◌, ℕ, zero, suc, ◌+◌, ◌-◌, ◌<◌, ◌≤◌, cond, Bool, List, [], ◌∷◌, ◌++◌, Result, Ok, Err, Option, refl, ap, ◌∙◌, arith, Some, None, Box, Global, sym}
 use Rattle.std.specs.Prelude.{max}
 use Rattle.std.proofs.lemmas.List.{map_push}
 use Rattle.qs_syntax_vocabulary.specs.declared.terminal.Terminal.{Terminal}
@@ -11,7 +11,7 @@ use Rattle.qs_parser.specs.Turns.{TurnTree, step_and_body, turn_of}
 use Rattle.qs_parser_expressions.specs.declared.halt.Halt.{Halt}
 use Rattle.qs_parser_expressions.specs.declared.halt.Halt.TheVariants as halts
 use Rattle.qs_parser_grammar.specs.Parse.{Parse, Stop, read_on, unexpected, deep, expect}
-use Rattle.qs_parser_grammar.specs.ParseStatements.{S, optional, start_of, begins_statement, after_for, item, items, statement_at, statement}
+use Rattle.qs_parser_grammar.specs.ParseStatements.{S, optional, start_of, begins_statement, begins_label, ends_switch, after_for, item, items, switch_item, switch_items, switch_block_at, statement_at, statement, switch_block}
 use Rattle.qs_syntax.specs.TreeOf.{expr_tree, stmt_tree, else_tree, stmt_step}
 use Rattle.qs_syntax.specs.declared.expressions.Expr.{Expr}
 use Rattle.qs_syntax.specs.declared.nodes.Node.{Node}
@@ -29,10 +29,10 @@ unfolding statement
 statement_none zero ts e = refl
 statement_none (suc n) ts e = absurd (omega arith)
 
-pub statement_more : (n : ℕ) (ts : List Terminal) → 0 < n → statement n ts ≡ statement_at (n - 1) (statement (n - 1)) ts
+pub statement_more : (n : ℕ) (ts : List Terminal) → 0 < n → statement n ts ≡ statement_at (n - 1) (statement (n - 1)) (switch_block (n - 1)) ts
 unfolding statement
 statement_more zero ts h = absurd (omega arith)
-statement_more (suc n) ts h = let e : n ≡ suc n - 1 = omega arith in ap (λ (k : ℕ). statement_at k (statement k) ts) e
+statement_more (suc n) ts h = let e : n ≡ suc n - 1 = omega arith in ap (λ (k : ℕ). statement_at k (statement k) (switch_block k) ts) e
 
 pub items_more : (m : ℕ) (inner : Parse S) (n i : ℕ) (done : List StmtTree) (h : ℕ) (ts : List Terminal) → i < n
     → items m inner (n - i) done h ts
@@ -43,6 +43,21 @@ items_more m inner n i done h ts lt = ap (λ k. items m inner k done h ts) (left
 pub items_end : (m : ℕ) (inner : Parse S) (n i : ℕ) (done : List StmtTree) (h : ℕ) (ts : List Terminal) → n ≤ i → items m inner (n - i) done h ts ≡ unexpected ts
 unfolding items
 items_end m inner n i done h ts le = ap (λ k. items m inner k done h ts) (no_turns n i le)
+
+pub switch_block_more : (n : ℕ) (ts : List Terminal) → 0 < n → switch_block n ts ≡ switch_block_at (n - 1) (statement (n - 1)) ts
+unfolding switch_block
+switch_block_more zero ts h = absurd (omega arith)
+switch_block_more (suc n) ts h = let e : n ≡ suc n - 1 = omega arith in ap (λ (k : ℕ). switch_block_at k (statement k) ts) e
+
+pub switch_items_more : (m : ℕ) (inner : Parse S) (n i : ℕ) (labelled : Bool) (done : List StmtTree) (h : ℕ) (ts : List Terminal) → i < n
+    → switch_items m inner (n - i) labelled done h ts
+    ≡ cond (ends_switch labelled ts) (read_on (expect punctuators.CloseBrace ts) (λ _ us. Ok ((done, h), us))) (read_on (switch_item m inner labelled ts) (λ s us. switch_items m inner (n - (i + 1)) (begins_label ts) (done ++ s.0 ∷ []) (max h s.1) us))
+unfolding switch_items
+switch_items_more m inner n i labelled done h ts lt = ap (λ k. switch_items m inner k labelled done h ts) (left_turns n i lt)
+
+pub switch_items_end : (m : ℕ) (inner : Parse S) (n i : ℕ) (labelled : Bool) (done : List StmtTree) (h : ℕ) (ts : List Terminal) → n ≤ i → switch_items m inner (n - i) labelled done h ts ≡ unexpected ts
+unfolding switch_items
+switch_items_end m inner n i labelled done h ts le = ap (λ k. switch_items m inner k labelled done h ts) (no_turns n i le)
 
 -- how a `for` goes on behind its start
 turn_is : (m : ℕ) (inner : Parse S) (at : ℕ) (a : StartTree × ℕ) (ts : List Terminal)
@@ -88,6 +103,10 @@ for_ends m inner at ts us vs ws a t node h p q r is high = for_goes m inner at t
 pub ruleset statement_cases = (statement_none, statement_more)
 
 pub ruleset item_steps = (items_more, items_end, map_push)
+
+pub ruleset switch_steps = (switch_items_more, switch_items_end, map_push)
+
+pub ruleset block_cases = (switch_block_more)
 
 -- ---- the tree of an `if`
 

@@ -1,12 +1,15 @@
 -- Nodes of statements that are read, not yet numbered, each with its first token.
-use Rattle.std.specs.Prelude.{ℕ, Option, Box}
+use Rattle.std.specs.Prelude.{ℕ, List, Option, Box}
 use Rattle.std.specs.declared.alloc.Global.{Global}
 use Rattle.qs_syntax.specs.declared.expressions.Expr.{Expr}
 use Rattle.qs_syntax.specs.declared.statements.Start.{Start}
 use Rattle.qs_syntax.specs.declared.statements.Stmt.{Stmt}
-use Rattle.qs_syntax.specs.Trees.{unnumbered, StmtTree, branch, while_loop, do_loop, for_loop}
+use Rattle.qs_syntax.specs.Trees.{unnumbered, StmtTree, stmts_of, switch, branch, while_loop, do_loop, for_loop}
 use Rattle.qs_syntax.specs.TreeOf.{expr_tree, option_tree, start_tree, else_tree}
 use Rattle.qs_parser.specs.UnitView.{boxed_stmt}
+
+abbrev pub switch_tree : ℕ → Expr → List StmtTree → StmtTree
+switch_tree token operand items = switch (unnumbered token) (expr_tree operand) (stmts_of items)
 
 -- `if`, with what follows `else`, and the loops
 abbrev pub branch_tree : ℕ → Expr → Box Stmt Global → Option (Box Stmt Global) → StmtTree

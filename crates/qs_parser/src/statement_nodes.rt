@@ -4,7 +4,7 @@ ghost use Rattle.qs_syntax.specs.Trees as trees;
 ghost use Rattle.qs_syntax.specs.Trees.{stmts_of, unnumbered};
 ghost use Rattle.qs_syntax.specs.TreeOf.{expr_tree, option_tree, stmt_tree};
 ghost use Rattle.qs_parser_expressions.specs.View.{listed};
-ghost use Rattle.qs_parser.specs.StatementNodes.{branch_tree, while_tree, do_tree, for_tree};
+ghost use Rattle.qs_parser.specs.StatementNodes.{switch_tree, branch_tree, while_tree, do_tree, for_tree};
 
 use qs_syntax::{Expr, Node, Start, Stmt};
 
@@ -27,6 +27,31 @@ pub fn block(items: Vec<Stmt>) -> Stmt
     ensures { stmt_tree result ≡ trees.block (stmts_of (listed stmt_tree items)) }
 {
     Stmt::Block(items)
+}
+
+/// `switch`.
+pub fn switch_of(token: u32, operand: Expr, items: Vec<Stmt>) -> Stmt
+    ensures { stmt_tree result ≡ switch_tree token operand (listed stmt_tree items) }
+{
+    Stmt::Switch {
+        node: Node { id: 0, token },
+        operand,
+        items,
+    }
+}
+
+/// `case`.
+pub fn case_label(token: u32, value: Expr) -> Stmt
+    ensures { stmt_tree result ≡ trees.case_label (unnumbered token) (expr_tree value) }
+{
+    Stmt::Case(Node { id: 0, token }, value)
+}
+
+/// `default`.
+pub fn default_label(token: u32) -> Stmt
+    ensures { stmt_tree result ≡ trees.default_label (unnumbered token) }
+{
+    Stmt::Default(Node { id: 0, token })
 }
 
 /// `if`, with what follows `else`.

@@ -1,16 +1,19 @@
 // Statements (C11 6.8). In all functions at most `context.room` levels are left for the parts of a
 // node, and each answers what is read, how high it is, and what stands behind it. `at` is the place
 // of a first token.
-ghost use Rattle.std.specs.Prelude.{◌≡◌, ◌+◌, ◌≤◌, ◌∷◌, IfOk};
+ghost use Rattle.std.specs.Prelude.{◌≡◌, ◌+◌, ◌<◌, ◌≤◌, ◌∷◌, IfOk};
 ghost use Rattle.qs_syntax.specs.TreeOf.{expr_tree, option_tree, start_tree, stmt_tree};
 ghost use Rattle.qs_parser_grammar.specs.ParseStatements.{optional, condition, start_of, begins_statement};
+ghost use Rattle.qs_parser_grammar.specs.ParseStatements.{begins_label, case_of, default_of};
+ghost use Rattle.qs_parser_grammar.specs.ParseStatements.{after_switch, ends_switch, switch_block};
 ghost use Rattle.qs_parser_grammar.specs.ParseStatements.{item, items, in_block, otherwise, after_if};
 ghost use Rattle.qs_parser_grammar.specs.ParseStatements.{after_while, expect_while, after_do, after_for};
 ghost use Rattle.qs_parser_grammar.specs.ParseStatements.{after_return, running, statement_at, statement};
-ghost use Rattle.qs_parser_expressions.specs.View.{Gives, Reads, ReadsList, rest_of};
+ghost use Rattle.qs_parser_expressions.specs.View.{Gives, Reads, ReadsList, listed, rest_of};
 ghost use Rattle.qs_parser.specs.UnitView.{boxed_stmt, second_tree};
 ghost use Rattle.qs_parser_expressions.specs.Heads.{is_nesting};
-ghost use Rattle.qs_parser.specs.UnitReaders.{with_statements, plain_statement, keyword_statement};
+ghost use Rattle.qs_parser.specs.UnitReaders.{with_statements, with_blocks, switch_item, switch_items};
+ghost use Rattle.qs_parser.specs.UnitReaders.{plain_statement, keyword_statement};
 ghost use Rattle.qs_parser.specs.Turns.{step_tree, turn_tree, step_and_body, turn_of};
 
 use crate::declarations::declaration_within;
@@ -78,6 +81,7 @@ fn begins_statement(tokens: &[Terminal]) -> bool
         || starts_with(Keyword::While, tokens)
         || starts_with(Keyword::Do, tokens)
         || starts_with(Keyword::For, tokens)
+        || starts_with(Keyword::Switch, tokens)
         || starts_with(Keyword::Break, tokens)
         || starts_with(Keyword::Continue, tokens)
         || starts_with(Keyword::Return, tokens)
@@ -152,7 +156,52 @@ fn plain_statement<'a>(
     running(context, tokens)
 }
 
-/// Whether the token is `if`, `while`, `do` or `for` (C11 6.8.4, 6.8.5).
+/// `case`, with the colon behind its expression (C11 6.8.1).
+fn case_of(context: Context, tokens: &[Terminal]) -> Result<(Stmt, u32, &[Terminal]), Halt>
+    ensures gives { Reads stmt_tree result (with_statements context case_of tokens.now) }
+    ensures low { IfOk result (λ x. x.1 ≤ context.room) }
+{
+    let [_, rest @ ..] = tokens else {
+        return Err(Halt::Unexpected(0));
+    };
+    if context.room < 2 {
+        return Err(Halt::TooDeep(tokens.len()));
+    }
+    let (value, height, rest) = part(context.inner(), Form::Conditional, rest)?;
+    let (value, rest) = followed(value, Punctuator::Colon, rest)?;
+    Ok((nodes::case_label(place(tokens), value), height + 1, rest))
+}
+
+/// `default` and its colon (C11 6.8.1).
+fn default_of(context: Context, tokens: &[Terminal]) -> Result<(Stmt, u32, &[Terminal]), Halt>
+    ensures gives { Reads stmt_tree result (with_statements context default_of tokens.now) }
+    ensures low { IfOk result (λ x. x.1 ≤ context.room) }
+{
+    let [_, rest @ ..] = tokens else {
+        return Err(Halt::Unexpected(0));
+    };
+    if context.room == 0 {
+        return Err(Halt::TooDeep(tokens.len()));
+    }
+    let rest = expect(Punctuator::Colon, rest)?;
+    Ok((nodes::default_label(place(tokens)), 1, rest))
+}
+
+/// Whether a label of a switch begins here.
+fn begins_label(tokens: &[Terminal]) -> bool
+    ensures { result ≡ begins_label tokens.now }
+{
+    starts_with(Keyword::Case, tokens) || starts_with(Keyword::Default, tokens)
+}
+
+/// Whether the brace at the end of a switch stands here, and no label before it.
+fn ends_switch(labelled: bool, tokens: &[Terminal]) -> bool
+    ensures { result ≡ ends_switch labelled tokens.now }
+{
+    !labelled && starts(Punctuator::CloseBrace, tokens)
+}
+
+/// Whether the token is `if`, `while`, `do`, `for` or `switch` (C11 6.8.4, 6.8.5).
 fn is_nesting(first: &Terminal) -> bool
     ensures { result ≡ is_nesting first.now }
 {
@@ -160,6 +209,7 @@ fn is_nesting(first: &Terminal) -> bool
         || is_keyword(Keyword::While, first)
         || is_keyword(Keyword::Do, first)
         || is_keyword(Keyword::For, first)
+        || is_keyword(Keyword::Switch, first)
 }
 
 /// A statement that is at most `context.room` high.
@@ -231,6 +281,89 @@ fn in_block(context: Context, tokens: &[Terminal]) -> Result<(Stmt, u32, &[Termi
 {
     let (items, height, rest) = items(context, tokens)?;
     Ok((nodes::block(items), height + 1, rest))
+}
+
+/// A label, a declaration where no label stands before it, or a statement (C11 6.8.1, 6.8.4.2).
+#[cycle(statement)]
+fn switch_item(
+    context: Context,
+    labelled: bool,
+    tokens: &[Terminal],
+) -> Result<(Stmt, u32, &[Terminal]), Halt>
+    ensures gives { Reads stmt_tree result (switch_item context labelled tokens.now) }
+    ensures low { IfOk result (λ x. x.1 ≤ context.room) }
+{
+    if starts_with(Keyword::Case, tokens) {
+        return case_of(context, tokens);
+    }
+    if starts_with(Keyword::Default, tokens) {
+        return default_of(context, tokens);
+    }
+    if labelled {
+        return statement(context, tokens);
+    }
+    item(context, tokens)
+}
+
+/// The items of a switch, and the brace behind them, which stands behind no label.
+#[cycle(statement)]
+#[tactic(auto, using(crate::proofs::CodeStatements::switch_steps))]
+fn switch_items(
+    context: Context,
+    tokens: &[Terminal],
+) -> Result<(Vec<Stmt>, u32, &[Terminal]), Halt>
+    ensures gives { Reads (listed stmt_tree) result (switch_items context tokens.now) }
+    ensures low { IfOk result (λ x. x.1 ≤ context.room) }
+{
+    let mut items = Vec::new(context.alloc);
+    let mut height: u32 = 0;
+    let mut labelled = false;
+    let mut rest = tokens;
+    for _ in 0..tokens.len() {
+        if ends_switch(labelled, rest) {
+            let behind = expect(Punctuator::CloseBrace, rest)?;
+            return Ok((items, height, behind));
+        }
+        let (found, high, after) = switch_item(context, labelled, rest)?;
+        items.push(found)?;
+        height = height.max(high);
+        labelled = begins_label(rest);
+        rest = after;
+    }
+    Err(Halt::Unexpected(rest.len()))
+}
+
+/// The braces of a switch, with what stands between them.
+#[cycle(statement)]
+#[tactic(auto, using(crate::proofs::CodeStatements::block_cases))]
+fn switch_block(
+    context: Context,
+    tokens: &[Terminal],
+) -> Result<(Vec<Stmt>, u32, &[Terminal]), Halt>
+    requires some { 0 < context.room }
+    ensures gives { Reads (listed stmt_tree) result (switch_block context.room tokens.now) }
+    ensures low { IfOk result (λ x. x.1 ≤ context.room) }
+{
+    let rest = expect(Punctuator::OpenBrace, tokens)?;
+    let (items, height, rest) = switch_items(context.inner(), rest)?;
+    Ok((items, height + 1, rest))
+}
+
+/// `switch`, behind its keyword (C11 6.8.4.2).
+#[cycle(statement)]
+fn after_switch(
+    context: Context,
+    at: u32,
+    tokens: &[Terminal],
+) -> Result<(Stmt, u32, &[Terminal]), Halt>
+    requires some { 0 < context.room }
+    ensures gives { Reads stmt_tree result (with_blocks context after_switch at tokens.now) }
+    ensures low { IfOk result (λ x. x.1 ≤ context.room + 1) }
+{
+    let (operand, height, rest) = condition(context, tokens)?;
+    let (items, high, rest) = switch_block(context, rest)?;
+    let node = nodes::switch_of(at, operand, items);
+    Ok((node, height.max(high) + 1, rest))
 }
 
 /// `else` and what follows it, if it stands here.
@@ -391,13 +524,16 @@ fn keyword_statement<'a>(
     if is_keyword(Keyword::For, first) {
         return after_for(context, at, rest);
     }
+    if is_keyword(Keyword::Switch, first) {
+        return after_switch(context, at, rest);
+    }
     plain_statement(context, first, rest, tokens)
 }
 
 /// A statement (C11 6.8) with at most `context.room` levels for its parts.
 #[cycle(statement)]
 fn statement_at(context: Context, tokens: &[Terminal]) -> Result<(Stmt, u32, &[Terminal]), Halt>
-    ensures gives { Reads stmt_tree result (with_statements context statement_at tokens.now) }
+    ensures gives { Reads stmt_tree result (with_blocks context statement_at tokens.now) }
     ensures low { IfOk result (λ x. x.1 ≤ context.room + 1) }
 {
     let [first, rest @ ..] = tokens else {

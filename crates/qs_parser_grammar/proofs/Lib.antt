@@ -20,6 +20,7 @@ pub mod DeclarationsMembersComplete
 pub mod DeclarationsParametersComplete
 pub mod StatementsComplete
 pub mod UnitsComplete
+pub mod SwitchExamples
 pub mod UnitsExamples
 pub mod NodeCounts
 pub mod Local

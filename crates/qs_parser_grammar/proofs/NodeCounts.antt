@@ -1,6 +1,6 @@
 -- What tokens are read as has at most as many nodes as there are tokens.
 use Rattle.std.proofs.Common.{◌≡◌, ℕ, ◌+◌, ◌≤◌, List, [], ◌∷◌, ◌++◌, length, arith, length-append}
-use Rattle.std.specs.Prelude.{Option}
+use Rattle.std.specs.Prelude.{Bool, Option}
 use Rattle.qs_syntax_vocabulary.specs.declared.terminal.Terminal.{Terminal}
 use Rattle.qs_syntax_vocabulary.specs.declared.terminal.Terminal.TheVariants as terminals
 use Rattle.qs_syntax_vocabulary.specs.declared.punctuator.Punctuator.TheVariants as punctuators
@@ -14,7 +14,7 @@ use Rattle.qs_syntax.specs.Reads.{Form, Reads, a_name, an_empty_call, a_call, a_
 use Rattle.qs_syntax.specs.ReadsDeclarations as ds
 use Rattle.qs_syntax.specs.ReadsDeclarations.{ReadsGiven, ReadsLengths, ReadsDeclarator, ReadsInitialiser, ReadsInitialisers, ReadsVariable, ReadsVariables, ReadsDeclaration, ReadsOuterDeclaration, ReadsDeclarators, ReadsMembers, ReadsAllMembers, ReadsParameter, ReadsParameters, ReadsHead}
 use Rattle.qs_syntax.specs.ReadsStatements as ss
-use Rattle.qs_syntax.specs.ReadsStatements.{ReadsOptional, ReadsStart, ReadsStatement, ReadsItem, ReadsItems}
+use Rattle.qs_syntax.specs.ReadsStatements.{ReadsOptional, ReadsStart, ReadsStatement, ReadsItem, ReadsItems, ReadsLabel, ReadsSwitchBlock, ReadsSwitchItem, ReadsSwitchItems}
 use Rattle.qs_syntax.specs.ReadsUnits as us
 use Rattle.qs_syntax.specs.ReadsUnits.{ReadsExternal, ReadsUnit, a_plain_external, ReadsDefined, ReadsExternals, ReadsPlain, ReadsTypeNames, a_known_type, a_last_name, a_name_before, a_struct_with_tag, a_struct_without_tag, a_typedef}
 use Rattle.qs_syntax_vocabulary.specs.Marks.{NameSet}
@@ -140,6 +140,10 @@ counted_start (ss.a_start_declaration r) = counted_declaration r
 counted_start (ss.a_start_expression {ts = ts} s r) = let n = counted r in omega (arith, joined ts (terminals.Punctuator s punctuators.Semicolon ∷ []))
 counted_start (ss.no_start_at_all s) = omega arith
 
+counted_label : {h : ℕ} {ts : List Terminal} {s : StmtTree} → ReadsLabel h ts s → stmt_count s ≤ length ts
+counted_label (ss.a_case {ts = ts} at c r) = let n = counted r in omega (arith, joined ts (terminals.Punctuator c punctuators.Colon ∷ []))
+counted_label (ss.a_default at c) = omega arith
+
 mutual
   counted_statement : {h : ℕ} {ts : List Terminal} {s : StmtTree} → ReadsStatement h ts s → stmt_count s ≤ length ts
   counted_statement (ss.a_block {ts = ts} o c r) = let n = counted_items r in omega (arith, joined ts (terminals.Punctuator c punctuators.CloseBrace ∷ []))
@@ -162,6 +166,7 @@ mutual
       let k = counted_optional u in
       let l = counted_statement s in
       omega (arith, joined ws (xs ++ terminals.Punctuator n punctuators.Semicolon ∷ (ys ++ terminals.Punctuator c punctuators.CloseParenthesis ∷ zs)), joined xs (terminals.Punctuator n punctuators.Semicolon ∷ (ys ++ terminals.Punctuator c punctuators.CloseParenthesis ∷ zs)), joined ys (terminals.Punctuator c punctuators.CloseParenthesis ∷ zs))
+  counted_statement (ss.a_switch {xs = xs} {ys = ys} at o c r s) = let n = counted r in let m = counted_braces s in omega (arith, joined xs (terminals.Punctuator c punctuators.CloseParenthesis ∷ ys))
   counted_statement (ss.a_break at s) = omega arith
   counted_statement (ss.a_continue at s) = omega arith
   counted_statement (ss.a_return {ts = ts} at s r) = let n = counted_optional r in omega (arith, joined ts (terminals.Punctuator s punctuators.Semicolon ∷ []))
@@ -173,6 +178,18 @@ mutual
   counted_items : {h : ℕ} {ts : List Terminal} {l : Stmts} → ReadsItems h ts l → stmts_count l ≤ length ts
   counted_items ss.no_item = omega arith
   counted_items (ss.an_item {xs = xs} {ys = ys} r s) = let n = counted_item r in let m = counted_items s in omega (arith, joined xs ys)
+
+  counted_braces : {h : ℕ} {ts : List Terminal} {l : Stmts} → ReadsSwitchBlock h ts l → stmts_count l ≤ length ts
+  counted_braces (ss.in_braces {ts = ts} o c r) = let n = counted_switch_items r in omega (arith, joined ts (terminals.Punctuator c punctuators.CloseBrace ∷ []))
+
+  counted_switch_item : {labelled labels : Bool} {h : ℕ} {ts : List Terminal} {s : StmtTree} → ReadsSwitchItem labelled labels h ts s → stmt_count s ≤ length ts
+  counted_switch_item (ss.a_label r) = counted_label r
+  counted_switch_item (ss.a_switch_statement r) = counted_statement r
+  counted_switch_item (ss.a_switch_declaration r) = counted_declaration r
+
+  counted_switch_items : {labelled : Bool} {h : ℕ} {ts : List Terminal} {l : Stmts} → ReadsSwitchItems labelled h ts l → stmts_count l ≤ length ts
+  counted_switch_items ss.no_switch_item = omega arith
+  counted_switch_items (ss.a_switch_item {xs = xs} {ys = ys} r s) = let n = counted_switch_item r in let m = counted_switch_items s in omega (arith, joined xs ys)
 
 counted_plain : {h : ℕ} {ts : List Terminal} {d : DeclTree} → ReadsPlain h ts d → decl_count d ≤ length ts
 counted_plain (us.a_struct_with_members {ts = ts} at o c s name r) = let k = counted_groups r in omega (arith, joined ts (terminals.Punctuator c punctuators.CloseBrace ∷ terminals.Punctuator s punctuators.Semicolon ∷ []))

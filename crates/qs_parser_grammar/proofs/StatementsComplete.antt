@@ -1,20 +1,21 @@
 -- What has a reading as a statement is read so, where no `else` follows that would belong to it.
-use Rattle.std.proofs.Common.{◌≡◌, ℕ, zero, suc, ◌+◌, ◌<◌, ◌≤◌, max, List, [], ◌∷◌, ◌++◌, length, Result, Ok, Option, refl, sym, ap, ◌∙◌, append_assoc, add-one, length-append, true, false, true≢false, arith}
-use Rattle.std.proofs.lemmas.Bool.{false_from_ne_true}
+use Rattle.std.proofs.Common.{◌≡◌, ℕ, zero, suc, ◌+◌, ◌<◌, ◌≤◌, max, List, [], ◌∷◌, ◌++◌, length, Result, Ok, Option, refl, sym, ap, ◌∙◌, append_assoc, add-one, length-append, Bool, true, false, true≢false, arith}
+use Rattle.std.specs.Prelude.{◌-◌, ◌==◌, not, ◌&&◌}
+use Rattle.std.proofs.lemmas.Bool.{false_from_ne_true, le-leb, ne_eqb}
 use Rattle.qs_syntax_vocabulary.specs.declared.terminal.Terminal.{Terminal}
 use Rattle.qs_syntax_vocabulary.specs.declared.terminal.Terminal.TheVariants.{Keyword, Punctuator}
 use Rattle.qs_base.specs.declared.keyword.Keyword as key
 use Rattle.qs_base.specs.declared.keyword.Keyword.TheVariants as keywords
 use Rattle.qs_syntax_vocabulary.specs.declared.punctuator.Punctuator as punctuator
 use Rattle.qs_syntax_vocabulary.specs.declared.punctuator.Punctuator.TheVariants as punctuators
-use Rattle.qs_syntax.specs.Trees.{unnumbered, ExprTree, DeclarationTree, StartTree, StmtTree, expression, declaration, block, while_loop, do_loop, for_loop, return, else_by, Stmts, no_stmts, stmt_and, stmts_of, branch, no_else}
+use Rattle.qs_syntax.specs.Trees.{unnumbered, ExprTree, DeclarationTree, StartTree, StmtTree, expression, declaration, block, switch, while_loop, do_loop, for_loop, return, else_by, Stmts, no_stmts, stmt_and, stmts_of, branch, no_else}
 use Rattle.qs_syntax_vocabulary.specs.Operators.{comma_precedence}
-use Rattle.qs_syntax.specs.Reads.{Reads, Expression, place}
+use Rattle.qs_syntax.specs.Reads.{Reads, Conditional, Expression, place}
 use Rattle.qs_syntax.specs.ReadsDeclarations.{ReadsDeclaration}
-use Rattle.qs_syntax.specs.ReadsStatements.{is_open, ReadsOptional, nothing_there, something_there, ReadsStart, a_start_declaration, a_start_expression, no_start_at_all, ReadsStatement, a_block, an_empty, an_expression, an_if, an_if_with_else, a_while, a_do, a_for, a_break, a_continue, a_return, ReadsItem, a_statement, a_declared, ReadsItems, no_item, an_item}
+use Rattle.qs_syntax.specs.ReadsStatements.{is_open, ReadsOptional, nothing_there, something_there, ReadsStart, a_start_declaration, a_start_expression, no_start_at_all, ReadsStatement, a_block, an_empty, an_expression, an_if, an_if_with_else, a_while, a_do, a_for, a_switch, a_break, a_continue, a_return, ReadsItem, a_statement, a_declared, ReadsItems, no_item, an_item, ReadsLabel, a_case, a_default, ReadsSwitchBlock, in_braces, ReadsSwitchItem, a_label, a_switch_statement, a_switch_declaration, ReadsSwitchItems, no_switch_item, a_switch_item}
 use Rattle.qs_parser_grammar.specs.Heads.{starts, starts_with, begins_type}
 use Rattle.qs_parser_grammar.specs.Parse.{Stop, Parse, read_on, expect, E, begins_one, part}
-use Rattle.qs_parser_grammar.specs.ParseStatements.{S, optional, condition, start_of, item, items, after_then, statement_at, statement}
+use Rattle.qs_parser_grammar.specs.ParseStatements.{S, optional, condition, start_of, begins_label, item, items, switch_item, switch_items, after_then, statement_at, statement, switch_block}
 use Rattle.qs_parser_grammar.specs.Stops.{precedence_at}
 use Rattle.qs_parser_grammar.proofs.HeadsLaws.{starts_with_is}
 use Rattle.qs_parser_grammar.proofs.ExpressionsBegin.{begins, begins_no_type, place_more, high}
@@ -53,34 +54,49 @@ finds_start (no_start_at_all s) m le rest = refl
 
 -- ---- how statements begin
 
--- a statement begins neither a type, nor with `else`, nor with the brace at the end of a block
+-- a statement begins neither a type, nor with `else`, nor with a label, nor with the brace at the end of a block
 record Begins (ts : List Terminal) : Type 0 where
   no_type : begins_type ts ≡ false
   no_else : starts_with keywords.Else ts ≡ false
+  no_case : starts_with keywords.Case ts ≡ false
+  no_default : starts_with keywords.Default ts ≡ false
   no_end : starts punctuators.CloseBrace ts ≡ false
 
 expression_begins : {h : ℕ} {ts : List Terminal} {e : ExprTree} → Reads Expression h ts e → (us : List Terminal) → Begins (ts ++ us)
 expression_begins {h} {ts} r us = record {
   no_type = begins_no_type r us;
   no_else = not_begun_with keywords.Else (λ at us. refl) (ts ++ us) (begins r us);
+  no_case = not_begun_with keywords.Case (λ at us. refl) (ts ++ us) (begins r us);
+  no_default = not_begun_with keywords.Default (λ at us. refl) (ts ++ us) (begins r us);
   no_end = not_begun punctuators.CloseBrace (λ at us. refl) (ts ++ us) (begins r us);
 }
 
 statement_begins : {h : ℕ} {ts : List Terminal} {s : StmtTree} → ReadsStatement h ts s → (us : List Terminal) → Begins (ts ++ us)
-statement_begins (a_block o c r) us = record { no_type = refl; no_else = refl; no_end = refl }
-statement_begins (an_empty at) us = record { no_type = refl; no_else = refl; no_end = refl }
+statement_begins (a_block o c r) us = record { no_type = refl; no_else = refl; no_case = refl; no_default = refl; no_end = refl }
+statement_begins (an_empty at) us = record { no_type = refl; no_else = refl; no_case = refl; no_default = refl; no_end = refl }
 statement_begins (an_expression {ts = ts} s r) us = rw (append_assoc ts (Punctuator s punctuators.Semicolon ∷ []) us) (expression_begins r (Punctuator s punctuators.Semicolon ∷ us))
-statement_begins (an_if at o c r q) us = record { no_type = refl; no_else = refl; no_end = refl }
-statement_begins (an_if_with_else at o c n r q f p) us = record { no_type = refl; no_else = refl; no_end = refl }
-statement_begins (a_while at o c r q) us = record { no_type = refl; no_else = refl; no_end = refl }
-statement_begins (a_do at w o c n q r) us = record { no_type = refl; no_else = refl; no_end = refl }
-statement_begins (a_for at o n c a r q p) us = record { no_type = refl; no_else = refl; no_end = refl }
-statement_begins (a_break at s) us = record { no_type = refl; no_else = refl; no_end = refl }
-statement_begins (a_continue at s) us = record { no_type = refl; no_else = refl; no_end = refl }
-statement_begins (a_return at s r) us = record { no_type = refl; no_else = refl; no_end = refl }
+statement_begins (an_if at o c r q) us = record { no_type = refl; no_else = refl; no_case = refl; no_default = refl; no_end = refl }
+statement_begins (an_if_with_else at o c n r q f p) us = record { no_type = refl; no_else = refl; no_case = refl; no_default = refl; no_end = refl }
+statement_begins (a_while at o c r q) us = record { no_type = refl; no_else = refl; no_case = refl; no_default = refl; no_end = refl }
+statement_begins (a_do at w o c n q r) us = record { no_type = refl; no_else = refl; no_case = refl; no_default = refl; no_end = refl }
+statement_begins (a_for at o n c a r q p) us = record { no_type = refl; no_else = refl; no_case = refl; no_default = refl; no_end = refl }
+statement_begins (a_switch at o c r q) us = record { no_type = refl; no_else = refl; no_case = refl; no_default = refl; no_end = refl }
+statement_begins (a_break at s) us = record { no_type = refl; no_else = refl; no_case = refl; no_default = refl; no_end = refl }
+statement_begins (a_continue at s) us = record { no_type = refl; no_else = refl; no_case = refl; no_default = refl; no_end = refl }
+statement_begins (a_return at s r) us = record { no_type = refl; no_else = refl; no_case = refl; no_default = refl; no_end = refl }
+
+-- a keyword that begins no type does not stand where one begins
+not_typed_with : (k : key.Keyword) → ((at : ℕ) (us : List Terminal) → begins_type (Keyword at k ∷ us) ≡ false) → (ts : List Terminal) → begins_type ts ≡ true → starts_with k ts ≡ false
+not_typed_with k no_keyword ts e = false_from_ne_true (starts_with k ts) (λ s. let is = starts_with_is k ts s in true≢false (sym e ∙ ap begins_type is.2 ∙ no_keyword is.0 is.1))
 
 no_else_typed : (ts : List Terminal) → begins_type ts ≡ true → NoElse ts
-no_else_typed ts e = false_from_ne_true (starts_with keywords.Else ts) (λ s. let is = starts_with_is keywords.Else ts s in true≢false (sym e ∙ ap begins_type is.2))
+no_else_typed = not_typed_with keywords.Else (λ at us. refl)
+
+no_case_typed : (ts : List Terminal) → begins_type ts ≡ true → starts_with keywords.Case ts ≡ false
+no_case_typed = not_typed_with keywords.Case (λ at us. refl)
+
+no_default_typed : (ts : List Terminal) → begins_type ts ≡ true → starts_with keywords.Default ts ≡ false
+no_default_typed = not_typed_with keywords.Default (λ at us. refl)
 
 item_no_else : {h : ℕ} {ts : List Terminal} {s : StmtTree} → ReadsItem h ts s → (us : List Terminal) → NoElse (ts ++ us)
 item_no_else (a_statement r) us = (statement_begins r us).no_else
@@ -95,6 +111,38 @@ items_no_else : {h : ℕ} {ts : List Terminal} {ss : Stmts} → ReadsItems h ts 
 items_no_else no_item c us = refl
 items_no_else (an_item {xs = xs} {ys = ys} r s) c us = rw (append_assoc xs ys (Punctuator c punctuators.CloseBrace ∷ us)) (item_no_else r (ys ++ Punctuator c punctuators.CloseBrace ∷ us))
 
+-- what an item of a switch begins with
+label_no_else : {h : ℕ} {ts : List Terminal} {s : StmtTree} → ReadsLabel h ts s → (us : List Terminal) → NoElse (ts ++ us)
+label_no_else (a_case at c r) us = refl
+label_no_else (a_default at c) us = refl
+
+label_no_end : {h : ℕ} {ts : List Terminal} {s : StmtTree} → ReadsLabel h ts s → (us : List Terminal) → starts punctuators.CloseBrace (ts ++ us) ≡ false
+label_no_end (a_case at c r) us = refl
+label_no_end (a_default at c) us = refl
+
+label_begins : {h : ℕ} {ts : List Terminal} {s : StmtTree} → ReadsLabel h ts s → (us : List Terminal) → begins_label (ts ++ us) ≡ true
+label_begins (a_case at c r) us = refl
+label_begins (a_default at c) us = refl
+
+switch_item_no_else : {labelled labels : Bool} {h : ℕ} {ts : List Terminal} {s : StmtTree} → ReadsSwitchItem labelled labels h ts s → (us : List Terminal) → NoElse (ts ++ us)
+switch_item_no_else (a_label r) us = label_no_else r us
+switch_item_no_else (a_switch_statement r) us = (statement_begins r us).no_else
+switch_item_no_else (a_switch_declaration {ts = ts} r) us = no_else_typed (ts ++ us) (declaration_begins r us)
+
+switch_item_no_end : {labelled labels : Bool} {h : ℕ} {ts : List Terminal} {s : StmtTree} → ReadsSwitchItem labelled labels h ts s → (us : List Terminal) → starts punctuators.CloseBrace (ts ++ us) ≡ false
+switch_item_no_end (a_label r) us = label_no_end r us
+switch_item_no_end (a_switch_statement r) us = (statement_begins r us).no_end
+switch_item_no_end (a_switch_declaration {ts = ts} r) us = not_typed punctuators.CloseBrace (ts ++ us) (declaration_begins r us)
+
+switch_item_labels : {labelled labels : Bool} {h : ℕ} {ts : List Terminal} {s : StmtTree} → ReadsSwitchItem labelled labels h ts s → (us : List Terminal) → begins_label (ts ++ us) ≡ labels
+switch_item_labels (a_label r) us = label_begins r us
+switch_item_labels (a_switch_statement r) us = rw ((statement_begins r us).no_case, (statement_begins r us).no_default) refl
+switch_item_labels (a_switch_declaration {ts = ts} r) us = rw (no_case_typed (ts ++ us) (declaration_begins r us), no_default_typed (ts ++ us) (declaration_begins r us)) refl
+
+switch_items_no_else : {labelled : Bool} {h : ℕ} {ts : List Terminal} {ss : Stmts} → ReadsSwitchItems labelled h ts ss → (c : ℕ) (us : List Terminal) → NoElse (ts ++ Punctuator c punctuators.CloseBrace ∷ us)
+switch_items_no_else no_switch_item c us = refl
+switch_items_no_else (a_switch_item {xs = xs} {ys = ys} r s) c us = rw (append_assoc xs ys (Punctuator c punctuators.CloseBrace ∷ us)) (switch_item_no_else r (ys ++ Punctuator c punctuators.CloseBrace ∷ us))
+
 -- a statement takes a token at least, and is a level at least
 statement_high : {h : ℕ} {ts : List Terminal} {s : StmtTree} → ReadsStatement h ts s → 0 < h
 statement_high (a_block o c r) = omega arith
@@ -105,6 +153,7 @@ statement_high (an_if_with_else at o c n r q f p) = omega arith
 statement_high (a_while at o c r q) = omega arith
 statement_high (a_do at w o c n q r) = omega arith
 statement_high (a_for at o n c a r q p) = omega arith
+statement_high (a_switch at o c r q) = omega arith
 statement_high (a_break at s) = omega arith
 statement_high (a_continue at s) = omega arith
 statement_high (a_return at s r) = omega arith
@@ -121,7 +170,7 @@ Out = Result (S × List Terminal) Stop
 
 -- what reading comes to where m levels are left for parts
 abbrev Claim : ℕ → List Terminal → StmtTree → Type 0
-Claim h f s = (m : ℕ) → h ≤ suc m → (rest : List Terminal) → (is_open s ≡ true → NoElse rest) → statement_at m (statement m) (f ++ rest) ≡ Ok ((s, h), rest)
+Claim h f s = (m : ℕ) → h ≤ suc m → (rest : List Terminal) → (is_open s ≡ true → NoElse rest) → statement_at m (statement m) (switch_block m) (f ++ rest) ≡ Ok ((s, h), rest)
 
 finds_at : (h : ℕ) (f : List Terminal) (s : StmtTree) → 0 < h → Claim h f s → (n : ℕ) → h ≤ n → (rest : List Terminal) → (is_open s ≡ true → NoElse rest) → statement n (f ++ rest) ≡ Ok ((s, h), rest)
 unfolding statement
@@ -151,9 +200,9 @@ for_block h ts ss o c r m le rest stop =
     rw (append_assoc ts (Punctuator c punctuators.CloseBrace ∷ []) rest, r m (length (ts ++ Punctuator c punctuators.CloseBrace ∷ rest)) (omega arith) (omega (arith, length-append ts (Punctuator c punctuators.CloseBrace ∷ rest))) [] 0 c rest) (block_answer h ss rest)
 
 -- tokens that begin an expression are read as one
-running_at : (m : ℕ) (p : Parse S) (ts : List Terminal) → begins_one ts ≡ true → statement_at m p ts ≡ read_on (part m Expression ts) (λ e us. read_on (expect punctuators.Semicolon us) (λ _ vs. Ok ((expression (unnumbered (place ts)) e.0, e.1 + 1), vs)))
-running_at m p [] e = absurd (true≢false (sym e))
-running_at m p (t ∷ ts) e =
+running_at : (m : ℕ) (p : Parse S) (braces : Parse (List StmtTree × ℕ)) (ts : List Terminal) → begins_one ts ≡ true → statement_at m p braces ts ≡ read_on (part m Expression ts) (λ e us. read_on (expect punctuators.Semicolon us) (λ _ vs. Ok ((expression (unnumbered (place ts)) e.0, e.1 + 1), vs)))
+running_at m p braces [] e = absurd (true≢false (sym e))
+running_at m p braces (t ∷ ts) e =
     rw (
       not_begun punctuators.Semicolon (λ at us. refl) (t ∷ ts) e,
       not_begun punctuators.OpenBrace (λ at us. refl) (t ∷ ts) e,
@@ -161,6 +210,7 @@ running_at m p (t ∷ ts) e =
       not_begun_with keywords.While (λ at us. refl) (t ∷ ts) e,
       not_begun_with keywords.Do (λ at us. refl) (t ∷ ts) e,
       not_begun_with keywords.For (λ at us. refl) (t ∷ ts) e,
+      not_begun_with keywords.Switch (λ at us. refl) (t ∷ ts) e,
       not_begun_with keywords.Break (λ at us. refl) (t ∷ ts) e,
       not_begun_with keywords.Continue (λ at us. refl) (t ∷ ts) e,
       not_begun_with keywords.Return (λ at us. refl) (t ∷ ts) e,
@@ -168,8 +218,8 @@ running_at m p (t ∷ ts) e =
 
 for_expression : (h : ℕ) (ts : List Terminal) (e : ExprTree) (s : ℕ) → Reads Expression h ts e → Claim (suc h) (ts ++ Punctuator s punctuators.Semicolon ∷ []) (expression (unnumbered (place ts)) e)
 for_expression h ts e s r m le rest stop =
-    ap (statement_at m (statement m)) (append_assoc ts (Punctuator s punctuators.Semicolon ∷ []) rest)
-    ∙ running_at m (statement m) (ts ++ Punctuator s punctuators.Semicolon ∷ rest) (begins r (Punctuator s punctuators.Semicolon ∷ rest))
+    ap (statement_at m (statement m) (switch_block m)) (append_assoc ts (Punctuator s punctuators.Semicolon ∷ []) rest)
+    ∙ running_at m (statement m) (switch_block m) (ts ++ Punctuator s punctuators.Semicolon ∷ rest) (begins r (Punctuator s punctuators.Semicolon ∷ rest))
     ∙ rw (found r m (omega arith) s punctuators.Semicolon rest (omega arith), place_more r (Punctuator s punctuators.Semicolon ∷ rest), add-one h) refl
 
 no_else_then : (m : ℕ) (p : Parse S) (at : ℕ) (e : E) (s : S) (rest : List Terminal) → NoElse rest → after_then m p at e s rest ≡ Ok ((branch (unnumbered at) e.0 s.0 no_else, max e.1 s.1 + 1), rest)
@@ -234,6 +284,72 @@ for_for h i j k ws xs ys zs a e u s at o n c r1 r2 r3 p q (suc m) le rest stop =
       add-one (max h (max i (max j k))),
     ) refl
 
+-- ---- switches
+
+abbrev SwitchItemClaim : Bool → ℕ → List Terminal → StmtTree → Type 0
+SwitchItemClaim labelled h f s = (m : ℕ) → h ≤ m → (rest : List Terminal) → (is_open s ≡ true → NoElse rest) → switch_item m (statement m) labelled (f ++ rest) ≡ Ok ((s, h), rest)
+
+abbrev SwitchItemsClaim : Bool → ℕ → List Terminal → Stmts → Type 0
+SwitchItemsClaim labelled h f ss =
+    (m n : ℕ) → h ≤ m → length f < n → (done : List StmtTree) (j c : ℕ) (rest : List Terminal) → switch_items m (statement m) n labelled done j (f ++ Punctuator c punctuators.CloseBrace ∷ rest) ≡ Items (done ++ items_in ss) (max j h) rest
+
+abbrev BracesClaim : ℕ → List Terminal → Stmts → Type 0
+BracesClaim h f ss = (n : ℕ) → h ≤ n → (rest : List Terminal) → ◌≡◌ {A = Result ((List StmtTree × ℕ) × List Terminal) Stop} (switch_block n (f ++ rest)) (Ok ((items_in ss, h), rest))
+
+for_label : (labelled : Bool) {h : ℕ} {ts : List Terminal} {s : StmtTree} → ReadsLabel h ts s → SwitchItemClaim labelled h ts s
+for_label labelled (a_case {h = h} {ts = ts} {e = e} at c r) m le rest stop =
+    let some = high r in
+    rw (le-leb 2 m (omega arith), append_assoc ts (Punctuator c punctuators.Colon ∷ []) rest, finds (m - 1) Conditional h ts e r (omega arith) (Punctuator c punctuators.Colon ∷ rest) (omega arith), add-one h) refl
+for_label labelled (a_default at c) m le rest stop = let room : (m == 0) ≡ false = ne_eqb m 0 (λ e. omega arith) in rw room refl
+
+for_switch_statement : (labelled : Bool) (h : ℕ) (ts : List Terminal) (s : StmtTree) → ReadsStatement h ts s → Claim h ts s → SwitchItemClaim labelled h ts s
+for_switch_statement true h ts s r c m le rest stop = rw ((statement_begins r rest).no_case, (statement_begins r rest).no_default) (finds_at h ts s (statement_high r) c m le rest stop)
+for_switch_statement false h ts s r c m le rest stop = rw ((statement_begins r rest).no_case, (statement_begins r rest).no_default, (statement_begins r rest).no_type) (finds_at h ts s (statement_high r) c m le rest stop)
+
+for_switch_declaration : (h : ℕ) (ts : List Terminal) (d : DeclarationTree) → ReadsDeclaration h ts d → SwitchItemClaim false h ts (declaration d)
+for_switch_declaration h ts d r m le rest stop =
+    rw (no_case_typed (ts ++ rest) (declaration_begins r rest), no_default_typed (ts ++ rest) (declaration_begins r rest), declaration_begins r rest, finds_declaration r m le rest) refl
+
+for_no_switch_item : SwitchItemsClaim false 0 [] no_stmts
+unfolding switch_items
+for_no_switch_item m zero le enough done j c rest = absurd (omega arith)
+for_no_switch_item m (suc n) le enough done j c rest = nothing_more done j rest
+
+-- no switch ends where its brace does not stand
+not_ended : (labelled b : Bool) → b ≡ false → (not labelled && b) ≡ false
+not_ended true b e = refl
+not_ended false b e = e
+
+for_switch_items : (labelled labels : Bool) (h k : ℕ) (xs ys : List Terminal) (s : StmtTree) (ss : Stmts) → ReadsSwitchItem labelled labels h xs s → ReadsSwitchItems labels k ys ss → SwitchItemClaim labelled h xs s → SwitchItemsClaim labels k ys ss
+    → SwitchItemsClaim labelled (max h k) (xs ++ ys) (stmt_and s ss)
+unfolding switch_items
+for_switch_items labelled labels h k xs ys s ss r q c d m zero le enough done j e rest = absurd (omega arith)
+for_switch_items labelled labels h k xs ys s ss r q c d m (suc n) le enough done j e rest =
+    let some = some_token xs rest e (switch_item_no_end r (Punctuator e punctuators.CloseBrace ∷ rest)) in
+    rw (
+      append_assoc xs ys (Punctuator e punctuators.CloseBrace ∷ rest),
+      not_ended labelled _ (switch_item_no_end r (ys ++ Punctuator e punctuators.CloseBrace ∷ rest)),
+      c m (omega arith) (ys ++ Punctuator e punctuators.CloseBrace ∷ rest) (λ _. switch_items_no_else q e rest),
+      switch_item_labels r (ys ++ Punctuator e punctuators.CloseBrace ∷ rest),
+    ) (d m n (omega arith) (omega (arith, length-append xs ys)) (done ++ s ∷ []) (max j h) e rest ∙ one_more done (items_in ss) s j h k rest)
+
+for_braces : (h : ℕ) (ts : List Terminal) (ss : Stmts) (o c : ℕ) → SwitchItemsClaim false h ts ss → BracesClaim (suc h) (Punctuator o punctuators.OpenBrace ∷ (ts ++ Punctuator c punctuators.CloseBrace ∷ [])) ss
+unfolding switch_block
+for_braces h ts ss o c r zero le rest = absurd (omega arith)
+for_braces h ts ss o c r (suc m) le rest =
+    rw (
+      append_assoc ts (Punctuator c punctuators.CloseBrace ∷ []) rest,
+      r m (length (ts ++ Punctuator c punctuators.CloseBrace ∷ rest)) (omega arith) (omega (arith, length-append ts (Punctuator c punctuators.CloseBrace ∷ rest))) [] 0 c rest,
+      from_zero h,
+      add-one h,
+    ) refl
+
+for_switch : (h k : ℕ) (xs ys : List Terminal) (e : ExprTree) (ss : Stmts) (at o c : ℕ) → Reads Expression h xs e → BracesClaim k ys ss
+    → Claim (suc (max h k)) (Keyword at keywords.Switch ∷ Punctuator o punctuators.OpenParenthesis ∷ (xs ++ Punctuator c punctuators.CloseParenthesis ∷ ys)) (switch (unnumbered at) e ss)
+for_switch h k xs ys e ss at o c r q zero le rest stop = let some = high r in absurd (omega arith)
+for_switch h k xs ys e ss at o c r q (suc m) le rest stop =
+    rw (has_room m, append_assoc xs (Punctuator c punctuators.CloseParenthesis ∷ ys) rest, finds_condition r (suc m) (omega arith) o c (ys ++ rest), q (suc m) (omega arith) rest, items_back ss, add-one (max h k)) refl
+
 for_return : (h : ℕ) (ts : List Terminal) (e : Option ExprTree) (at s : ℕ) → ReadsOptional h ts e → Claim (suc h) (Keyword at keywords.Return ∷ (ts ++ Punctuator s punctuators.Semicolon ∷ [])) (return (unnumbered at) e)
 for_return h ts e at s r m le rest stop = rw (append_assoc ts (Punctuator s punctuators.Semicolon ∷ []) rest, finds_optional_semicolon r m (omega arith) s rest, add-one h) refl
 
@@ -268,6 +384,7 @@ mutual
   claim (a_do {h = h} {k = k} {xs = xs} {ys = ys} {s = s} {e = e} at w o c n q r) = for_do h k xs ys s e at w o c n (statement_high q) (claim q) r
   claim (a_for {h = h} {i = i} {j = j} {k = k} {ws = ws} {xs = xs} {ys = ys} {zs = zs} {start = a} {e = e} {u = u} {s = s} at o n c r1 r2 r3 q) =
       for_for h i j k ws xs ys zs a e u s at o n c r1 r2 r3 (statement_high q) (claim q)
+  claim (a_switch {h = h} {k = k} {xs = xs} {ys = ys} {e = e} {ss = ss} at o c r q) = for_switch h k xs ys e ss at o c r (claim_braces q)
   claim (a_break at s) = λ m le rest stop. refl
   claim (a_continue at s) = λ m le rest stop. refl
   claim (a_return {h = h} {ts = ts} {e = e} at s r) = for_return h ts e at s r
@@ -279,6 +396,18 @@ mutual
   claim_items : {h : ℕ} {ts : List Terminal} {ss : Stmts} → ReadsItems h ts ss → ItemsClaim h ts ss
   claim_items no_item = for_no_item
   claim_items (an_item {h = h} {k = k} {xs = xs} {ys = ys} {s = s} {ss = ss} r q) = for_items h k xs ys s ss r q (claim_item r) (claim_items q)
+
+  claim_braces : {h : ℕ} {ts : List Terminal} {ss : Stmts} → ReadsSwitchBlock h ts ss → BracesClaim h ts ss
+  claim_braces (in_braces {h = h} {ts = ts} {ss = ss} o c r) = for_braces h ts ss o c (claim_switch_items r)
+
+  claim_switch_item : {labelled labels : Bool} {h : ℕ} {ts : List Terminal} {s : StmtTree} → ReadsSwitchItem labelled labels h ts s → SwitchItemClaim labelled h ts s
+  claim_switch_item (a_label {labelled = labelled} r) = for_label labelled r
+  claim_switch_item (a_switch_statement {labelled = labelled} {h = h} {ts = ts} {s = s} r) = for_switch_statement labelled h ts s r (claim r)
+  claim_switch_item (a_switch_declaration {h = h} {ts = ts} {d = d} r) = for_switch_declaration h ts d r
+
+  claim_switch_items : {labelled : Bool} {h : ℕ} {ts : List Terminal} {ss : Stmts} → ReadsSwitchItems labelled h ts ss → SwitchItemsClaim labelled h ts ss
+  claim_switch_items no_switch_item = for_no_switch_item
+  claim_switch_items (a_switch_item {labelled = labelled} {labels = labels} {h = h} {k = k} {xs = xs} {ys = ys} {s = s} {ss = ss} r q) = for_switch_items labelled labels h k xs ys s ss r q (claim_switch_item r) (claim_switch_items q)
 
 -- all the items of a block, with the brace behind them
 pub finds_items : {h : ℕ} {ts : List Terminal} {ss : Stmts} → ReadsItems h ts ss → (m : ℕ) → h ≤ m → (c : ℕ) (rest : List Terminal)

@@ -1,6 +1,6 @@
 -- What the parser of statements and units answers depends on no token behind the one at which it stops.
 use Rattle.std.proofs.Common.{◌≡◌, ℕ, zero, suc, ◌+◌, ◌<◌, ◌≤◌, Bool, true, false, cond, List, [], ◌∷◌, ◌++◌, length, Result, Ok, Err, refl, sym, ap, subst, ◌∙◌, arith, inl, inr, length-append, None, Some, Option}
-use Rattle.std.specs.Prelude.{◌⊎◌, max, ◌==◌}
+use Rattle.std.specs.Prelude.{◌⊎◌, ◌-◌, max, nat_le, ◌==◌}
 use Rattle.qs_syntax_vocabulary.specs.declared.terminal.Terminal.{Terminal}
 use Rattle.qs_syntax_vocabulary.specs.declared.terminal.Terminal.TheVariants.{Name, TypeName, Keyword, Constant, Text, Punctuator}
 use Rattle.qs_base.specs.declared.keyword.Keyword.TheVariants as keywords
@@ -8,25 +8,25 @@ use Rattle.qs_syntax_vocabulary.specs.declared.punctuator.Punctuator as punctuat
 use Rattle.qs_syntax_vocabulary.specs.declared.punctuator.Punctuator.TheVariants as punctuators
 use Rattle.qs_syntax.specs.declared.types.Base.{Base}
 use Rattle.qs_syntax.specs.declared.types.Base.TheVariants as bases
-use Rattle.qs_syntax.specs.Trees.{unnumbered, ParameterTree, DeclarationTree, StmtTree, expression, DeclTree, DefinedTree, of_base, DeclaratorTree}
+use Rattle.qs_syntax.specs.Trees.{unnumbered, ParameterTree, DeclarationTree, StmtTree, expression, case_label, default_label, DeclTree, DefinedTree, of_base, DeclaratorTree}
 use Rattle.qs_syntax.specs.Trees as trees
 use Rattle.qs_syntax_vocabulary.specs.Operators.{number_of}
-use Rattle.qs_syntax.specs.Reads.{Expression}
+use Rattle.qs_syntax.specs.Reads.{Conditional, Expression}
 use Rattle.qs_syntax.specs.ReadsDeclarations.{ReadsDeclaration, a_declaration}
-use Rattle.qs_syntax.specs.ReadsStatements.{ReadsStatement, a_block, an_empty, an_expression, an_if, an_if_with_else, a_while, a_do, a_for, a_break, a_continue, a_return}
-use Rattle.qs_parser_grammar.specs.Heads.{is_punctuator, is_keyword, starts, begins_type}
+use Rattle.qs_syntax.specs.ReadsStatements.{ReadsStatement, a_block, an_empty, an_expression, an_if, an_if_with_else, a_while, a_do, a_for, a_switch, a_break, a_continue, a_return, ReadsLabel, a_case, a_default, ReadsSwitchItem, a_label, a_switch_statement, a_switch_declaration}
+use Rattle.qs_parser_grammar.specs.Heads.{is_punctuator, is_keyword, starts, starts_with, begins_type}
 use Rattle.qs_parser_grammar.specs.Parse.{Stop, Parse, read_on, E, unexpected, deep, expect, skip_consts, tagged, stars, part, expect_name, type}
 use Rattle.qs_parser_grammar.specs.ParseDeclarations.{outer_type, declaration_within, declared, declarator, groups, head}
-use Rattle.qs_parser_grammar.specs.ParseStatements.{S, optional, condition, start_of, begins_statement, item, items, after_then, after_if, after_while, expect_while, after_do, after_for, running, plain_statement, keyword_statement, statement_at, statement, is_named, struct_of, forward_of, body_of, function_of, typed, external, is_empty, externals, unit, braced, has_members, in_marks, known_type, struct_defined, type_names, typedef_of, plain, defined}
+use Rattle.qs_parser_grammar.specs.ParseStatements.{S, optional, condition, start_of, begins_statement, begins_label, ends_switch, item, items, case_of, default_of, switch_item, switch_items, switch_block_at, after_then, after_if, after_while, expect_while, after_do, after_for, running, after_switch, plain_statement, keyword_statement, statement_at, statement, switch_block, is_named, struct_of, forward_of, body_of, function_of, typed, external, is_empty, externals, unit, braced, has_members, in_marks, known_type, struct_defined, type_names, typedef_of, plain, defined}
 use Rattle.qs_parser_grammar.proofs.HeadsLaws.{keyword_is, finds_name}
 use Rattle.qs_parser_grammar.proofs.NodeCounts.{type_some}
 use Rattle.qs_parser_grammar.proofs.DeclarationsSound.{sound_declaration_within}
-use Rattle.qs_parser_grammar.proofs.StatementsSound.{sound_statement}
+use Rattle.qs_parser_grammar.proofs.StatementsSound.{takes_statement, sound_statement, sound_switch_item}
 use Rattle.qs_parser_grammar.proofs.UnitsSound.{sound_external}
 use Rattle.qs_parser_grammar.proofs.UnitsComplete.{external_takes}
 use Rattle.qs_parser_grammar.proofs.ExpressionsLocal.{Local-skip, Local-tagged, Local-stars, Local-part, Local-type}
 use Rattle.qs_parser_grammar.proofs.DeclarationsLocal.{Local-outer_type, Local-named, named_fewer, Local-declared, declared_left, Local-declaration_within, Local-groups, Local-head, Local-declarator, declarator_nothing}
-use Rattle.qs_parser_grammar.proofs.Local.{left, Local, read_on-left, Local-read_on, Local-look, Local-weak, Local-cons, Local-cond, Local-ok, Local-here, Local-unexpected, Local-deep, Local-unexpected-all, Local-deep-all, Local-if, Local-starts, Local-punctuator, Local-name, Looks, cond-left, Local-two, Local-far, read_on_same, read_on_nothing, cond_same, Turns, Local-same, Local-turns, sound_takes, Local-after, after_same, leaves_less}
+use Rattle.qs_parser_grammar.proofs.Local.{left, Local, read_on-left, Local-read_on, Local-look, Local-first, Local-weak, Local-cons, Local-cond, Local-ok, Local-here, Local-unexpected, Local-deep, Local-unexpected-all, Local-deep-all, Local-if, Local-starts, Local-punctuator, Local-name, Looks, cond-left, Local-two, Local-far, read_on_same, read_on_nothing, cond_same, Turns, Local-same, Local-turns, sound_takes, Local-after, after_same, leaves_less}
 use Rattle.qs_syntax.specs.ReadsTypes.{Any, Plain, ReadsName, a_plain_name, a_name_of_a_type}
 use Rattle.qs_syntax.specs.ReadsUnits.{names_behind}
 use Rattle.qs_syntax_vocabulary.specs.Marks.{NameSet}
@@ -56,9 +56,19 @@ statement_some (an_if_with_else at o c n r s closed t) = omega arith
 statement_some (a_while at o c r s) = omega arith
 statement_some (a_do at w o c n s r) = omega arith
 statement_some (a_for at o n c a e u s) = omega arith
+statement_some (a_switch at o c r s) = omega arith
 statement_some (a_break at s) = omega arith
 statement_some (a_continue at s) = omega arith
 statement_some (a_return at s r) = omega arith
+
+label_some : {h : ℕ} {ts : List Terminal} {s : StmtTree} → ReadsLabel h ts s → 0 < length ts
+label_some (a_case at c r) = omega arith
+label_some (a_default at c) = omega arith
+
+switch_item_some : {labelled labels : Bool} {h : ℕ} {ts : List Terminal} {s : StmtTree} → ReadsSwitchItem labelled labels h ts s → 0 < length ts
+switch_item_some (a_label r) = label_some r
+switch_item_some (a_switch_statement r) = statement_some r
+switch_item_some (a_switch_declaration r) = declaration_some r
 
 declaration_takes : (n : ℕ) (ts : List Terminal) (x : DeclarationTree × ℕ) (us : List Terminal) → declaration_within n ts ≡ Ok (x, us) → length us < length ts
 declaration_takes n ts x us e = sound_takes ts (declaration_within n ts) (sound_declaration_within n ts) (λ x l r. declaration_some r.0) x us e
@@ -123,18 +133,62 @@ module _ (m : ℕ) (inner : Parse S) (good : Local 0 inner) (nothing : inner [] 
       (Local-cond (is_keyword keywords.Continue t) _ _ (Local-weak _ (Local-punctuator punctuators.Semicolon _ (λ _. Local-ok _)))
       (Local-cond (is_keyword keywords.Return t) _ _ (Local-weak _ (Local-read_on _ (λ e. Local-ok _) (optional m punctuators.Semicolon) (Local-optional m punctuators.Semicolon))) (Local-running t)))
 
-  Local-keyword : (at : ℕ) (t : Terminal) → Local 1 (keyword_statement m inner at t)
-  Local-keyword at t =
-      Local-cond (is_keyword keywords.If t) _ _ (Local-cond (m == 0) _ _ Local-deep (Local-weak _ (Local-if_behind at)))
-      (Local-cond (is_keyword keywords.While t) _ _ (Local-cond (m == 0) _ _ Local-deep (Local-weak _ (Local-while at)))
-      (Local-cond (is_keyword keywords.Do t) _ _ (Local-cond (m == 0) _ _ Local-deep (Local-weak _ (Local-do at)))
-      (Local-cond (is_keyword keywords.For t) _ _ (Local-cond (m == 0) _ _ Local-deep (Local-weak _ (Local-for at)))
-      (Local-plain at t))))
+  Local-case : Local 0 (case_of m inner)
+  Local-case = Local-look (case_of m inner) refl
+      (λ t. Local-cond (nat_le 2 m) _ _ (Local-weak _ (Local-read_on _ (λ e. Local-punctuator punctuators.Colon _ (λ _. Local-ok (case_label (unnumbered (number_of t)) e.0, e.1 + 1))) (part (m - 1) Conditional) (Local-part (m - 1) Conditional))) Local-deep)
 
-  Local-at : Local 0 (statement_at m inner)
-  Local-at = Local-look (statement_at m inner) refl
-      (λ t. Local-cond (is_punctuator punctuators.Semicolon t) _ _ (Local-weak _ (Local-ok _))
-      (Local-cond (is_punctuator punctuators.OpenBrace t) _ _ (Local-weak _ (Local-read_on _ (λ ss. Local-ok _) (λ ts. items m inner (length ts) [] 0 ts) Local-items)) (Local-keyword (number_of t) t)))
+  Local-default : Local 0 (default_of m inner)
+  Local-default = Local-look (default_of m inner) refl (λ t. Local-cond (m == 0) _ _ Local-deep (Local-weak _ (Local-punctuator punctuators.Colon _ (λ _. Local-ok (default_label (unnumbered (number_of t)), 1)))))
+
+  Local-switch_item : (labelled : Bool) → Local 0 (switch_item m inner labelled)
+  Local-switch_item labelled = Local-if (starts_with keywords.Case) (λ t ts us. refl) _ _ Local-case
+      (Local-if (starts_with keywords.Default) (λ t ts us. refl) _ _ Local-default (Local-cond labelled _ _ good Local-item))
+
+  abbrev SwitchItems : Type 0
+  SwitchItems = Bool × List StmtTree × ℕ
+
+  abbrev behind_item : (SwitchItems → Parse (List StmtTree × ℕ)) → SwitchItems → Bool → Parse (List StmtTree × ℕ)
+  behind_item f x labels ts = read_on (switch_item m inner x.0 ts) (λ s us. f (labels, x.1 ++ s.0 ∷ [], max x.2 s.1) us)
+
+  abbrev switch_turn : (SwitchItems → Parse (List StmtTree × ℕ)) → SwitchItems → Parse (List StmtTree × ℕ)
+  switch_turn f x ts = cond (ends_switch x.0 ts) (read_on (expect punctuators.CloseBrace ts) (λ _ us. Ok ((x.1, x.2), us))) (behind_item f x (begins_label ts) ts)
+
+  no_switch_turn : (f : SwitchItems → Parse (List StmtTree × ℕ)) (labelled : Bool) (done : List StmtTree) (h : ℕ) → switch_turn f (labelled, done, h) [] ≡ unexpected []
+  no_switch_turn f true done h = read_on_nothing _ nothing
+  no_switch_turn f false done h = read_on_nothing _ nothing
+
+  module _ (switch_item_takes : (labelled : Bool) (ts : List Terminal) (x : S) (us : List Terminal) → switch_item m inner labelled ts ≡ Ok (x, us) → length us < length ts) where
+    switch_turns : Turns (λ n (x : SwitchItems). switch_items m inner n x.0 x.1 x.2) switch_turn
+    unfolding switch_items
+    switch_turns = record {
+      turn = λ n x ts. refl;
+      none = λ x. no_switch_turn (λ (y : SwitchItems). switch_items m inner zero y.0 y.1 y.2) x.0 x.1 x.2;
+      takes = λ f g x ts same. cond_same (ends_switch x.0 ts) refl (read_on_same (switch_item m inner x.0 ts) _ _ (λ s us read. same _ us (switch_item_takes x.0 ts s us read)));
+      last = λ x. Local-unexpected-all;
+      further = λ f local x. Local-if (ends_switch x.0) (λ t ts us. refl) _ (λ ts. behind_item f x (begins_label ts) ts) (Local-punctuator punctuators.CloseBrace _ (λ _. Local-ok _))
+          (Local-first begins_label (λ t ts us. refl) (behind_item f x) (λ labels. Local-read_on _ (λ s. local _) (switch_item m inner x.0) (Local-switch_item x.0)));
+    }
+
+    Local-switch_block_at : Local 0 (switch_block_at m inner)
+    Local-switch_block_at = Local-punctuator punctuators.OpenBrace _ (λ _. Local-read_on _ (λ ss. Local-ok _) (λ us. switch_items m inner (length us) false [] 0 us) (Local-turns _ _ switch_turns (false, [], 0)))
+
+  module _ (braces : Parse (List StmtTree × ℕ)) (closed : Local 0 braces) where
+    Local-switch : (at : ℕ) → Local 0 (after_switch m inner braces at)
+    Local-switch at = Local-read_on _ (λ e. Local-read_on _ (λ ss. Local-ok _) braces closed) (condition m) (Local-condition m)
+
+    Local-keyword : (at : ℕ) (t : Terminal) → Local 1 (keyword_statement m inner braces at t)
+    Local-keyword at t =
+        Local-cond (is_keyword keywords.If t) _ _ (Local-cond (m == 0) _ _ Local-deep (Local-weak _ (Local-if_behind at)))
+        (Local-cond (is_keyword keywords.While t) _ _ (Local-cond (m == 0) _ _ Local-deep (Local-weak _ (Local-while at)))
+        (Local-cond (is_keyword keywords.Do t) _ _ (Local-cond (m == 0) _ _ Local-deep (Local-weak _ (Local-do at)))
+        (Local-cond (is_keyword keywords.For t) _ _ (Local-cond (m == 0) _ _ Local-deep (Local-weak _ (Local-for at)))
+        (Local-cond (is_keyword keywords.Switch t) _ _ (Local-cond (m == 0) _ _ Local-deep (Local-weak _ (Local-switch at)))
+        (Local-plain at t)))))
+
+    Local-at : Local 0 (statement_at m inner braces)
+    Local-at = Local-look (statement_at m inner braces) refl
+        (λ t. Local-cond (is_punctuator punctuators.Semicolon t) _ _ (Local-weak _ (Local-ok _))
+        (Local-cond (is_punctuator punctuators.OpenBrace t) _ _ (Local-weak _ (Local-read_on _ (λ ss. Local-ok _) (λ ts. items m inner (length ts) [] 0 ts) Local-items)) (Local-keyword (number_of t) t)))
 
 begins_statement_same : (t : Terminal) (ts us : List Terminal) → begins_statement (t ∷ ts) ≡ begins_statement (t ∷ us)
 begins_statement_same (Name at x) ts us = refl
@@ -152,10 +206,20 @@ statement_nothing (suc n) = refl
 statement_takes : (n : ℕ) (ts : List Terminal) (x : S) (us : List Terminal) → statement n ts ≡ Ok (x, us) → length us < length ts
 statement_takes n ts x us e = sound_takes ts (statement n ts) (sound_statement n ts) (λ x l r. statement_some r.0) x us e
 
-pub Local-statement : (n : ℕ) → Local 0 (statement n)
-unfolding statement
-Local-statement zero = Local-if begins_statement begins_statement_same deep unexpected Local-deep-all Local-unexpected-all
-Local-statement (suc m) = Local-at m (statement m) (Local-statement m) (statement_nothing m) (statement_takes m)
+switch_item_takes : (m : ℕ) (labelled : Bool) (ts : List Terminal) (x : S) (us : List Terminal) → switch_item m (statement m) labelled ts ≡ Ok (x, us) → length us < length ts
+switch_item_takes m labelled ts x us e =
+    sound_takes ts (switch_item m (statement m) labelled ts) (sound_switch_item m (statement m) (λ vs. takes_statement m vs) (λ vs. sound_statement m vs) labelled ts) (λ x l r. switch_item_some r.0) x us e
+
+mutual
+  unfolding statement switch_block
+
+  pub Local-statement : (n : ℕ) → Local 0 (statement n)
+  Local-statement zero = Local-if begins_statement begins_statement_same deep unexpected Local-deep-all Local-unexpected-all
+  Local-statement (suc m) = Local-at m (statement m) (Local-statement m) (statement_nothing m) (statement_takes m) (switch_block m) (Local-switch_block m)
+
+  Local-switch_block : (n : ℕ) → Local 0 (switch_block n)
+  Local-switch_block zero = Local-starts punctuators.OpenBrace deep unexpected Local-deep-all Local-unexpected-all
+  Local-switch_block (suc m) = Local-switch_block_at m (statement m) (Local-statement m) (statement_nothing m) (statement_takes m) (switch_item_takes m)
 
 -- ---- units
 

@@ -1,6 +1,6 @@
 -- With more room a statement or a unit is answered in the same way, but for what was too deep.
-use Rattle.std.proofs.Common.{◌≡◌, ℕ, zero, suc, ◌+◌, ◌≤◌, Bool, true, false, cond, List, [], ◌∷◌, ◌++◌, length, refl, arith, Err, None, Some, Option}
-use Rattle.std.specs.Prelude.{max, ◌&&◌}
+use Rattle.std.proofs.Common.{◌≡◌, ℕ, zero, suc, ◌+◌, ◌≤◌, Bool, true, false, cond, List, [], ◌∷◌, ◌++◌, length, Result, refl, arith, Err, None, Some, Option}
+use Rattle.std.specs.Prelude.{◌-◌, max, ◌&&◌}
 use Rattle.std.proofs.lemmas.Bool.{or_parts}
 use Rattle.qs_syntax_vocabulary.specs.declared.terminal.Terminal.{Terminal}
 use Rattle.qs_base.specs.declared.keyword.Keyword.TheVariants as keywords
@@ -8,12 +8,12 @@ use Rattle.qs_syntax_vocabulary.specs.declared.punctuator.Punctuator as punctuat
 use Rattle.qs_syntax_vocabulary.specs.declared.punctuator.Punctuator.TheVariants as punctuators
 use Rattle.qs_syntax.specs.declared.types.Base.{Base}
 use Rattle.qs_syntax.specs.Trees.{StmtTree, ParameterTree, DeclTree, DeclaratorTree}
-use Rattle.qs_syntax.specs.Reads.{Expression, place}
+use Rattle.qs_syntax.specs.Reads.{Conditional, Expression, place}
 use Rattle.qs_parser_grammar.specs.Heads.{is_punctuator, is_keyword, starts, starts_with, begins_type}
-use Rattle.qs_parser_grammar.specs.Parse.{Parse, Unexpected, E, unexpected, deep, expect, expect_name, stars, begins_one}
+use Rattle.qs_parser_grammar.specs.Parse.{Parse, Stop, Unexpected, E, unexpected, deep, expect, expect_name, stars, begins_one}
 use Rattle.qs_parser_grammar.specs.ParseDeclarations.{outer_type, declarator}
-use Rattle.qs_parser_grammar.specs.ParseStatements.{S, optional, condition, start_of, begins_statement, item, items, after_then, after_if, after_while, expect_while, after_do, after_for, plain_statement, keyword_statement, statement_at, statement, is_named, struct_of, body_of, function_of, typed, external, is_empty, externals, unit, braced, has_members, type_names, typedef_of, plain, defined}
-use Rattle.qs_parser_grammar.proofs.MoreRoom.{DeepOrSame, DeepOrSame-refl, DeepOrSame-deep, DeepOrSame-read_on, DeepOrSame-then, DeepOrSame-last, DeepOrSame-some, DeepOrSame-cond, DeepOrSame-unexpected}
+use Rattle.qs_parser_grammar.specs.ParseStatements.{S, optional, condition, start_of, begins_statement, begins_label, ends_switch, item, items, case_of, default_of, switch_item, switch_items, switch_block_at, after_then, after_if, after_while, expect_while, after_do, after_for, after_switch, plain_statement, keyword_statement, statement_at, statement, switch_block, is_named, struct_of, body_of, function_of, typed, external, is_empty, externals, unit, braced, has_members, type_names, typedef_of, plain, defined}
+use Rattle.qs_parser_grammar.proofs.MoreRoom.{DeepOrSame, DeepOrSame-refl, DeepOrSame-deep, DeepOrSame-read_on, DeepOrSame-then, DeepOrSame-last, DeepOrSame-some, DeepOrSame-above, DeepOrSame-cond, DeepOrSame-unexpected}
 use Rattle.qs_parser_grammar.proofs.ExpressionsMoreRoom.{not_begun, more_room_part}
 use Rattle.qs_parser_grammar.proofs.DeclarationsMoreRoom.{more_room_declared, more_room_declaration_within, more_room_groups, more_room_head, more_room_declarator}
 use Rattle.qs_syntax.specs.ReadsTypes.{Any, Plain}
@@ -39,6 +39,26 @@ module _ (m n : ℕ) (le : m ≤ n) where
     unfolding items
     more_room_items zero done h ts = DeepOrSame-refl
     more_room_items (suc k) done h ts = DeepOrSame-cond (starts punctuators.CloseBrace ts) DeepOrSame-refl (DeepOrSame-read_on _ _ (more_room_item ts) (λ s us. more_room_items k (done ++ s.0 ∷ []) (max h s.1) us))
+
+    more_room_case : (ts : List Terminal) → DeepOrSame (case_of m p ts) (case_of n q ts)
+    more_room_case [] = DeepOrSame-refl
+    more_room_case (t ∷ ts) = DeepOrSame-above (suc (length ts)) 2 m n le (DeepOrSame-last _ (more_room_part (m - 1) (n - 1) (omega arith) Conditional ts))
+
+    more_room_default : (ts : List Terminal) → DeepOrSame (default_of m p ts) (default_of n q ts)
+    more_room_default [] = DeepOrSame-refl
+    more_room_default (t ∷ ts) = DeepOrSame-some (suc (length ts)) m n le DeepOrSame-refl
+
+    more_room_switch_item : (labelled : Bool) (ts : List Terminal) → DeepOrSame (switch_item m p labelled ts) (switch_item n q labelled ts)
+    more_room_switch_item labelled ts = DeepOrSame-cond (starts_with keywords.Case ts) (more_room_case ts) (DeepOrSame-cond (starts_with keywords.Default ts) (more_room_default ts) (DeepOrSame-cond labelled (g ts) (more_room_item ts)))
+
+    more_room_switch_items : (k : ℕ) (labelled : Bool) (done : List StmtTree) (h : ℕ) (ts : List Terminal) → DeepOrSame (switch_items m p k labelled done h ts) (switch_items n q k labelled done h ts)
+    unfolding switch_items
+    more_room_switch_items zero labelled done h ts = DeepOrSame-refl
+    more_room_switch_items (suc k) labelled done h ts =
+        DeepOrSame-cond (ends_switch labelled ts) DeepOrSame-refl (DeepOrSame-read_on _ _ (more_room_switch_item labelled ts) (λ s us. more_room_switch_items k (begins_label ts) (done ++ s.0 ∷ []) (max h s.1) us))
+
+    more_room_switch_block_at : (ts : List Terminal) → DeepOrSame (switch_block_at m p ts) (switch_block_at n q ts)
+    more_room_switch_block_at ts = DeepOrSame-then (expect punctuators.OpenBrace ts) _ _ (λ _ us. DeepOrSame-last _ (more_room_switch_items (length us) false [] 0 us))
 
     more_room_after_then : (at : ℕ) (e : E) (s : S) (ts : List Terminal) → DeepOrSame (after_then m p at e s ts) (after_then n q at e s ts)
     more_room_after_then at e s [] = DeepOrSame-refl
@@ -67,18 +87,28 @@ module _ (m n : ℕ) (le : m ≤ n) where
         (DeepOrSame-cond (is_keyword keywords.Continue t) DeepOrSame-refl
         (DeepOrSame-cond (is_keyword keywords.Return t) (DeepOrSame-last _ (more_room_optional punctuators.Semicolon ts)) (DeepOrSame-last _ (more_room_part m n le Expression (t ∷ ts)))))
 
-    more_room_keyword : (at : ℕ) (t : Terminal) (ts : List Terminal) → DeepOrSame (keyword_statement m p at t ts) (keyword_statement n q at t ts)
-    more_room_keyword at t ts =
-        DeepOrSame-cond (is_keyword keywords.If t) (DeepOrSame-some (suc (length ts)) m n le (more_room_if at ts))
-        (DeepOrSame-cond (is_keyword keywords.While t) (DeepOrSame-some (suc (length ts)) m n le (more_room_while at ts))
-        (DeepOrSame-cond (is_keyword keywords.Do t) (DeepOrSame-some (suc (length ts)) m n le (more_room_do at ts))
-        (DeepOrSame-cond (is_keyword keywords.For t) (DeepOrSame-some (suc (length ts)) m n le (more_room_for at ts))
-        (more_room_plain at t ts))))
+    module _ (b c : Parse (List StmtTree × ℕ)) (braces : (ts : List Terminal) → DeepOrSame (b ts) (c ts)) where
+      more_room_switch : (at : ℕ) (ts : List Terminal) → DeepOrSame (after_switch m p b at ts) (after_switch n q c at ts)
+      more_room_switch at ts = DeepOrSame-read_on _ _ (more_room_condition ts) (λ e us. DeepOrSame-last _ (braces us))
 
-    more_room_at : (ts : List Terminal) → DeepOrSame (statement_at m p ts) (statement_at n q ts)
-    more_room_at [] = DeepOrSame-refl
-    more_room_at (t ∷ ts) =
-        DeepOrSame-cond (is_punctuator punctuators.Semicolon t) DeepOrSame-refl (DeepOrSame-cond (is_punctuator punctuators.OpenBrace t) (DeepOrSame-last _ (more_room_items (length ts) [] 0 ts)) (more_room_keyword (place (t ∷ ts)) t ts))
+      more_room_keyword : (at : ℕ) (t : Terminal) (ts : List Terminal) → DeepOrSame (keyword_statement m p b at t ts) (keyword_statement n q c at t ts)
+      more_room_keyword at t ts =
+          DeepOrSame-cond (is_keyword keywords.If t) (DeepOrSame-some (suc (length ts)) m n le (more_room_if at ts))
+          (DeepOrSame-cond (is_keyword keywords.While t) (DeepOrSame-some (suc (length ts)) m n le (more_room_while at ts))
+          (DeepOrSame-cond (is_keyword keywords.Do t) (DeepOrSame-some (suc (length ts)) m n le (more_room_do at ts))
+          (DeepOrSame-cond (is_keyword keywords.For t) (DeepOrSame-some (suc (length ts)) m n le (more_room_for at ts))
+          (DeepOrSame-cond (is_keyword keywords.Switch t) (DeepOrSame-some (suc (length ts)) m n le (more_room_switch at ts))
+          (more_room_plain at t ts)))))
+
+      more_room_at : (ts : List Terminal) → DeepOrSame (statement_at m p b ts) (statement_at n q c ts)
+      more_room_at [] = DeepOrSame-refl
+      more_room_at (t ∷ ts) =
+          DeepOrSame-cond (is_punctuator punctuators.Semicolon t) DeepOrSame-refl (DeepOrSame-cond (is_punctuator punctuators.OpenBrace t) (DeepOrSame-last _ (more_room_items (length ts) [] 0 ts)) (more_room_keyword (place (t ∷ ts)) t ts))
+
+-- where no level is left: what may begin is too deep, and nothing else is read with more room
+deep_or_same : {A : Type 0} (b : Bool) (ts : List Terminal) (r : Result (A × List Terminal) Stop) → (b ≡ false → r ≡ unexpected ts) → DeepOrSame (cond b (deep ts) (unexpected ts)) r
+deep_or_same true ts r none = DeepOrSame-deep
+deep_or_same false ts r none = rw (none refl) DeepOrSame-refl
 
 -- what begins no statement
 no_statement : (n : ℕ) (ts : List Terminal) → begins_statement ts ≡ false → statement n ts ≡ unexpected ts
@@ -93,19 +123,30 @@ no_statement (suc n) (t ∷ ts) e =
     let f = or_parts (starts_with keywords.While (t ∷ ts)) _ d.1 in
     let g = or_parts (starts_with keywords.Do (t ∷ ts)) _ f.1 in
     let h = or_parts (starts_with keywords.For (t ∷ ts)) _ g.1 in
-    let i = or_parts (starts_with keywords.Break (t ∷ ts)) _ h.1 in
-    let j = or_parts (starts_with keywords.Continue (t ∷ ts)) _ i.1 in
-    rw (c.0, b.0, d.0, f.0, g.0, h.0, i.0, j.0, j.1, not_begun n Expression (t ∷ ts) a.0) refl
+    let i = or_parts (starts_with keywords.Switch (t ∷ ts)) _ h.1 in
+    let j = or_parts (starts_with keywords.Break (t ∷ ts)) _ i.1 in
+    let k = or_parts (starts_with keywords.Continue (t ∷ ts)) _ j.1 in
+    rw (c.0, b.0, d.0, f.0, g.0, h.0, i.0, j.0, k.0, k.1, not_begun n Expression (t ∷ ts) a.0) refl
 
-pub more_room_statement : (m n : ℕ) → m ≤ n → (ts : List Terminal) → DeepOrSame (statement m ts) (statement n ts)
-unfolding statement
-more_room_statement zero n le ts = by_case (begins_statement ts) refl
-  where
-    by_case : (b : Bool) → begins_statement ts ≡ b → DeepOrSame (cond b (deep ts) (unexpected ts)) (statement n ts)
-    by_case true e = DeepOrSame-deep
-    by_case false e = rw (no_statement n ts e) DeepOrSame-refl
-more_room_statement (suc m) zero le ts = absurd (omega arith)
-more_room_statement (suc m) (suc n) le ts = more_room_at m n (omega arith) (statement m) (statement n) (λ us. more_room_statement m n (omega arith) us) ts
+no_switch_block : (n : ℕ) (ts : List Terminal) → starts punctuators.OpenBrace ts ≡ false → switch_block n ts ≡ unexpected ts
+unfolding switch_block
+no_switch_block zero ts e = rw e refl
+no_switch_block (suc n) [] e = refl
+no_switch_block (suc n) (t ∷ ts) e = rw e refl
+
+mutual
+  unfolding statement switch_block
+
+  pub more_room_statement : (m n : ℕ) → m ≤ n → (ts : List Terminal) → DeepOrSame (statement m ts) (statement n ts)
+  more_room_statement zero n le ts = deep_or_same (begins_statement ts) ts (statement n ts) (λ e. no_statement n ts e)
+  more_room_statement (suc m) zero le ts = absurd (omega arith)
+  more_room_statement (suc m) (suc n) le ts =
+      more_room_at m n (omega arith) (statement m) (statement n) (λ us. more_room_statement m n (omega arith) us) (switch_block m) (switch_block n) (λ us. more_room_switch_block m n (omega arith) us) ts
+
+  more_room_switch_block : (m n : ℕ) → m ≤ n → (ts : List Terminal) → DeepOrSame (switch_block m ts) (switch_block n ts)
+  more_room_switch_block zero n le ts = deep_or_same (starts punctuators.OpenBrace ts) ts (switch_block n ts) (λ e. no_switch_block n ts e)
+  more_room_switch_block (suc m) zero le ts = absurd (omega arith)
+  more_room_switch_block (suc m) (suc n) le ts = more_room_switch_block_at m n (omega arith) (statement m) (statement n) (λ us. more_room_statement m n (omega arith) us) ts
 
 -- ---- units
 

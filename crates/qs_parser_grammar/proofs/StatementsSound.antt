@@ -1,5 +1,6 @@
 -- What is read as a statement has that reading; an `else` is taken where it can be.
-use Rattle.std.proofs.Common.{◌≡◌, ℕ, zero, suc, ◌+◌, ◌≤◌, max, List, [], ◌∷◌, ◌++◌, length, Result, Ok, Err, Option, refl, sym, ap, ◌∙◌, append_assoc, append-nil, add-one, Bool, true, false, true≢false, cond, arith, ◌==◌}
+use Rattle.std.proofs.Common.{◌≡◌, ℕ, zero, suc, ◌+◌, ◌-◌, ◌≤◌, max, List, [], ◌∷◌, ◌++◌, length, Result, Ok, Err, Option, refl, sym, ap, ◌∙◌, append_assoc, append-nil, add-one, Bool, true, false, true≢false, cond, arith, ◌==◌}
+use Rattle.std.specs.Prelude.{◌||◌}
 use Rattle.std.proofs.lemmas.Bool.{false_from_ne_true}
 use Rattle.qs_syntax_vocabulary.specs.declared.terminal.Terminal.{Terminal}
 use Rattle.qs_syntax_vocabulary.specs.declared.terminal.Terminal.TheVariants.{Keyword, Punctuator}
@@ -8,18 +9,19 @@ use Rattle.qs_base.specs.declared.keyword.Keyword.TheVariants as keywords
 use Rattle.qs_syntax_vocabulary.specs.declared.punctuator.Punctuator as punctuator
 use Rattle.qs_syntax_vocabulary.specs.declared.punctuator.Punctuator.TheVariants as punctuators
 use Rattle.qs_syntax_vocabulary.specs.Operators.{number_of}
-use Rattle.qs_syntax.specs.Trees.{unnumbered, ExprTree, StartTree, StmtTree, expression, block, branch, while_loop, do_loop, for_loop, break, continue, return, stmts_of, no_else, else_by}
-use Rattle.qs_syntax.specs.Reads.{Reads, Expression, place}
-use Rattle.qs_syntax.specs.ReadsStatements.{is_open, ReadsOptional, nothing_there, something_there, ReadsStart, a_start_declaration, a_start_expression, no_start_at_all, ReadsStatement, a_block, an_empty, an_expression, an_if, an_if_with_else, a_while, a_do, a_for, a_break, a_continue, a_return, ReadsItem, a_statement, a_declared, ReadsItems, no_item, an_item}
+use Rattle.qs_syntax.specs.Trees.{unnumbered, ExprTree, StartTree, StmtTree, expression, block, switch, case_label, branch, while_loop, do_loop, for_loop, break, continue, return, stmts_of, no_else, else_by}
+use Rattle.qs_syntax.specs.Reads.{Reads, Conditional, Expression, place}
+use Rattle.qs_syntax.specs.ReadsStatements.{is_open, ReadsOptional, nothing_there, something_there, ReadsStart, a_start_declaration, a_start_expression, no_start_at_all, ReadsStatement, a_block, an_empty, an_expression, an_if, an_if_with_else, a_while, a_do, a_for, a_switch, a_break, a_continue, a_return, ReadsItem, a_statement, a_declared, ReadsItems, no_item, an_item, a_case, a_default, ReadsSwitchBlock, in_braces, ReadsSwitchItem, a_label, a_switch_statement, a_switch_declaration, ReadsSwitchItems, no_switch_item, a_switch_item}
 use Rattle.qs_parser_grammar.specs.Heads.{is_punctuator, is_keyword, starts, starts_with, begins_type}
 use Rattle.qs_parser_grammar.specs.Parse.{Stop, Parse, read_on, unexpected, expect, E, part}
-use Rattle.qs_parser_grammar.specs.ParseStatements.{S, optional, condition, start_of, begins_statement, item, items, after_then, expect_while, keyword_statement, statement_at, statement}
+use Rattle.qs_parser_grammar.specs.ParseStatements.{S, optional, condition, start_of, begins_statement, begins_label, item, items, case_of, default_of, switch_item, switch_items, switch_block_at, after_then, expect_while, keyword_statement, statement_at, statement, switch_block}
 use Rattle.qs_parser_grammar.proofs.HeadsLaws.{keyword_is, punctuator_is}
 use Rattle.qs_parser_grammar.proofs.Sound.{Sound, Sound-ok, Sound-err, at_end, Sound-mono}
-use Rattle.qs_parser_grammar.proofs.SoundSteps.{Sound-if}
+use Rattle.qs_parser_grammar.proofs.SoundSteps.{Sound-if, Sound-above}
 use Rattle.qs_parser_grammar.proofs.ExpressionsSound.{IsRead, sound_part}
 use Rattle.qs_parser_grammar.proofs.ExpressionsBegin.{place_more}
 use Rattle.qs_parser_grammar.proofs.DeclarationsSteps.{Sound-first, Sound-punctuator-next, Sound-part, Sound-part-is, Sound-last}
+use Rattle.qs_parser_grammar.proofs.Viable.{some_room}
 use Rattle.qs_parser_grammar.proofs.DeclarationsLists.{Closed, Ends, all_closed}
 use Rattle.qs_parser_grammar.proofs.DeclarationsSound.{sound_declaration_within}
 
@@ -59,8 +61,8 @@ module _ (m : ℕ) (inner : Parse S) (takes : (ts : List Terminal) → Takes (in
       (λ _. takes_last (inner ts) (λ t. (branch (unnumbered at) e.0 s.0 (else_by t.0), max e.1 (max s.1 t.1) + 1)) (λ t. refl) (takes ts))
       (λ no o. no)
 
-  takes_keyword : (t : Terminal) (ts : List Terminal) → Takes (keyword_statement m inner (place (t ∷ ts)) t ts)
-  takes_keyword t ts =
+  takes_keyword : (braces : Parse (List StmtTree × ℕ)) (t : Terminal) (ts : List Terminal) → Takes (keyword_statement m inner braces (place (t ∷ ts)) t ts)
+  takes_keyword braces t ts =
       takes_if (is_keyword keywords.If t) _ _
       (λ _. takes_if (m == 0) _ _ (λ _. tt) (λ _. takes_read_on (condition m ts) _ (λ e us. takes_read_on (inner us) _ (λ s vs. takes_after_then (number_of t) e s vs))))
       (λ _. takes_if (is_keyword keywords.While t) _ _
@@ -70,21 +72,23 @@ module _ (m : ℕ) (inner : Parse S) (takes : (ts : List Terminal) → Takes (in
       (λ _. takes_if (is_keyword keywords.For t) _ _
       (λ _. takes_if (m == 0) _ _ (λ _. tt) (λ _. takes_read_on (expect punctuators.OpenParenthesis ts) _ (λ _ us. takes_read_on (start_of m us) _ (λ a vs. takes_read_on (optional m punctuators.Semicolon vs) _ (λ e ws. takes_read_on (optional m punctuators.CloseParenthesis ws) _
       (λ u xs. takes_last (inner xs) (λ s. (for_loop (unnumbered (number_of t)) a.0 e.0 u.0 s.0, max a.1 (max e.1 (max u.1 s.1)) + 1)) (λ s. refl) (takes xs)))))))
+      (λ _. takes_if (is_keyword keywords.Switch t) _ _
+      (λ _. takes_if (m == 0) _ _ (λ _. tt) (λ _. takes_read_on (condition m ts) _ (λ e us. takes_closed (braces us) (λ ss. (switch (unnumbered (number_of t)) e.0 (stmts_of ss.0), max e.1 ss.1 + 1)) (λ ss. refl))))
       (λ _. takes_if (is_keyword keywords.Break t) _ _ (λ _. takes_closed (expect punctuators.Semicolon ts) (λ _. (break (unnumbered (number_of t)), 1)) (λ _. refl))
       (λ _. takes_if (is_keyword keywords.Continue t) _ _ (λ _. takes_closed (expect punctuators.Semicolon ts) (λ _. (continue (unnumbered (number_of t)), 1)) (λ _. refl))
       (λ _. takes_if (is_keyword keywords.Return t) _ _ (λ _. takes_closed (optional m punctuators.Semicolon ts) (λ e. (return (unnumbered (number_of t)) e.0, e.1 + 1)) (λ e. refl))
-      (λ _. takes_read_on (part m Expression (t ∷ ts)) _ (λ e us. takes_closed (expect punctuators.Semicolon us) (λ _. (expression (unnumbered (number_of t)) e.0, e.1 + 1)) (λ _. refl)))))))))
+      (λ _. takes_read_on (part m Expression (t ∷ ts)) _ (λ e us. takes_closed (expect punctuators.Semicolon us) (λ _. (expression (unnumbered (number_of t)) e.0, e.1 + 1)) (λ _. refl))))))))))
 
-  takes_statement_at : (ts : List Terminal) → Takes (statement_at m inner ts)
-  takes_statement_at [] = tt
-  takes_statement_at (t ∷ ts) =
+  takes_statement_at : (braces : Parse (List StmtTree × ℕ)) (ts : List Terminal) → Takes (statement_at m inner braces ts)
+  takes_statement_at braces [] = tt
+  takes_statement_at braces (t ∷ ts) =
       takes_if (is_punctuator punctuators.Semicolon t) _ _ (λ _ o. absurd (true≢false (sym o)))
-      (λ _. takes_if (is_punctuator punctuators.OpenBrace t) _ _ (λ _. takes_closed (items m inner (length ts) [] 0 ts) (λ ss. (block (stmts_of ss.0), ss.1 + 1)) (λ ss. refl)) (λ _. takes_keyword t ts))
+      (λ _. takes_if (is_punctuator punctuators.OpenBrace t) _ _ (λ _. takes_closed (items m inner (length ts) [] 0 ts) (λ ss. (block (stmts_of ss.0), ss.1 + 1)) (λ ss. refl)) (λ _. takes_keyword braces t ts))
 
 pub takes_statement : (n : ℕ) (ts : List Terminal) → Takes (statement n ts)
 unfolding statement
 takes_statement zero ts = takes_if (begins_statement ts) _ _ (λ _. tt) (λ _. tt)
-takes_statement (suc m) ts = takes_statement_at m (statement m) (λ us. takes_statement m us) ts
+takes_statement (suc m) ts = takes_statement_at m (statement m) (λ us. takes_statement m us) (switch_block m) ts
 
 -- ---- readings
 
@@ -141,6 +145,18 @@ IsItem m x l = ReadsItem x.1 l x.0 × (x.1 ≤ m)
 abbrev pub AreItems : ℕ → List StmtTree → ℕ → List StmtTree × ℕ → List Terminal → Type 0
 AreItems m done h x l = Closed punctuators.CloseBrace AllItems m done h x l
 
+abbrev pub IsSwitchItem : ℕ → Bool → Bool → S → List Terminal → Type 0
+IsSwitchItem m labelled labels x l = ReadsSwitchItem labelled labels x.1 l x.0 × (x.1 ≤ m)
+
+abbrev AllSwitchItems : Bool → ℕ → List Terminal → List StmtTree → Type 0
+AllSwitchItems labelled h l ss = ReadsSwitchItems labelled h l (stmts_of ss)
+
+abbrev AreSwitchItems : ℕ → Bool → List StmtTree → ℕ → List StmtTree × ℕ → List Terminal → Type 0
+AreSwitchItems m labelled done h x l = Closed punctuators.CloseBrace (AllSwitchItems labelled) m done h x l
+
+abbrev pub IsSwitchBlock : ℕ → List StmtTree × ℕ → List Terminal → Type 0
+IsSwitchBlock n x l = ReadsSwitchBlock x.1 l (stmts_of x.0) × (x.1 ≤ n)
+
 -- ---- one production each
 
 no_items : (m : ℕ) (done : List StmtTree) (h c : ℕ) → AreItems m done h (done, h) (Punctuator c punctuators.CloseBrace ∷ [])
@@ -164,6 +180,39 @@ block_read m o x l r = go (all_closed punctuators.CloseBrace AllItems m x l r)
   where
     go : Ends punctuators.CloseBrace AllItems m x l → IsStatement (suc m) (block (stmts_of x.0), x.1 + 1) (Punctuator o punctuators.OpenBrace ∷ l)
     go (inside, c, e, q, le) = (rw (e, add-one x.1) (a_block o c q), omega arith)
+
+-- what may stand in a block may stand in a switch where no label stands before it
+pub as_switch_item : {h : ℕ} {ts : List Terminal} {s : StmtTree} → ReadsItem h ts s → ReadsSwitchItem false false h ts s
+as_switch_item (a_statement r) = a_switch_statement r
+as_switch_item (a_declared r) = a_switch_declaration r
+
+case_read : (m at c : ℕ) (labelled : Bool) (e : E) (front : List Terminal) → 2 ≤ m → IsRead (m - 1) Conditional e front → IsSwitchItem m labelled true (case_label (unnumbered at) e.0, e.1 + 1) (Keyword at keywords.Case ∷ (front ++ Punctuator c punctuators.Colon ∷ []))
+case_read m at c labelled e front two (r, le) = (rw (add-one e.1) (a_label (a_case at c r)), omega arith)
+
+no_switch_items : (m : ℕ) (done : List StmtTree) (h c : ℕ) → AreSwitchItems m false done h (done, h) (Punctuator c punctuators.CloseBrace ∷ [])
+no_switch_items m done h c = ([], 0, [], c, sym (append-nil done), omega arith, refl, no_switch_item, omega arith)
+
+further_switch_item : (m : ℕ) (labelled labels : Bool) (done : List StmtTree) (h : ℕ) (s : S) (front : List Terminal) → IsSwitchItem m labelled labels s front → (y : List StmtTree × ℕ) (l : List Terminal) → AreSwitchItems m labels (done ++ s.0 ∷ []) (max h s.1) y l → AreSwitchItems m labelled done h y (front ++ l)
+further_switch_item m labelled labels done h s front (r, le) y l (ss, k, inside, c, p, q, e, i, low) = (
+  s.0 ∷ ss,
+  max s.1 k,
+  front ++ inside,
+  c,
+  p ∙ append_assoc done (s.0 ∷ []) ss,
+  omega arith,
+  ap (λ l. front ++ l) e ∙ sym (append_assoc front inside (Punctuator c punctuators.CloseBrace ∷ [])),
+  a_switch_item r i,
+  omega arith,
+)
+
+switch_block_read : (m o : ℕ) (x : List StmtTree × ℕ) (l : List Terminal) → AreSwitchItems m false [] 0 x l → IsSwitchBlock (suc m) (x.0, x.1 + 1) (Punctuator o punctuators.OpenBrace ∷ l)
+switch_block_read m o x l r = go (all_closed punctuators.CloseBrace (AllSwitchItems false) m x l r)
+  where
+    go : Ends punctuators.CloseBrace (AllSwitchItems false) m x l → IsSwitchBlock (suc m) (x.0, x.1 + 1) (Punctuator o punctuators.OpenBrace ∷ l)
+    go (inside, c, e, q, le) = (rw (e, add-one x.1) (in_braces o c q), omega arith)
+
+pub switch_read : (m at : ℕ) (e : E) (x : List StmtTree × ℕ) (c ys : List Terminal) → IsCondition m e c → IsSwitchBlock m x ys → IsStatement (suc m) (switch (unnumbered at) e.0 (stmts_of x.0), max e.1 x.1 + 1) (Keyword at keywords.Switch ∷ (c ++ ys))
+switch_read m at e x c ys (inside, o, p, is, r, le) (q, low) = (rw (is, append_assoc inside (Punctuator p punctuators.CloseParenthesis ∷ []) ys, add-one (max e.1 x.1)) (a_switch at o p r q), omega arith)
 
 pub if_read : (m at : ℕ) (e : E) (s : S) (c ys : List Terminal) → IsCondition m e c → IsStatement m s ys → IsStatement (suc m) (branch (unnumbered at) e.0 s.0 no_else, max e.1 s.1 + 1) (Keyword at keywords.If ∷ (c ++ ys))
 if_read m at e s c ys (inside, o, p, is, r, le) (q, low) = (rw (is, append_assoc inside (Punctuator p punctuators.CloseParenthesis ∷ []) ys, add-one (max e.1 s.1)) (an_if at o p r q), omega arith)
@@ -209,6 +258,43 @@ module _ (m : ℕ) (inner : Parse S) (takes : (ts : List Terminal) → Takes (in
       (λ _. Sound-punctuator-next punctuators.CloseBrace ts _ (λ c us. Sound-ok (no_items m done h c)))
       (λ _. Sound-part _ (sound_item ts) (λ s front us r. Sound-mono (further_item m done h s front r) (sound_items n (done ++ s.0 ∷ []) (max h s.1) us)))
 
+  -- a label whose keyword stands first
+  sound_case : (labelled : Bool) (ts : List Terminal) → starts_with keywords.Case ts ≡ true → Sound (IsSwitchItem m labelled true) [] ts (case_of m inner ts)
+  sound_case labelled [] e = Sound-err at_end
+  sound_case labelled (t ∷ ts) e =
+      Sound-above m 2 (Sound-err at_end)
+      (λ two. Sound-keyword keywords.Case t ts e (Sound-part _ (sound_part (m - 1) Conditional ts) (λ x front us r. Sound-punctuator-next punctuators.Colon us _ (λ c vs. Sound-ok (case_read m (number_of t) c labelled x front two r)))))
+
+  sound_default : (labelled : Bool) (ts : List Terminal) → starts_with keywords.Default ts ≡ true → Sound (IsSwitchItem m labelled true) [] ts (default_of m inner ts)
+  sound_default labelled [] e = Sound-err at_end
+  sound_default labelled (t ∷ ts) e =
+      Sound-if (m == 0) (λ _. Sound-err at_end) (λ some. Sound-keyword keywords.Default t ts e (Sound-punctuator-next punctuators.Colon ts _ (λ c us. Sound-ok (a_label (a_default (number_of t) c), some_room m some))))
+
+  sound_no_label : (labelled : Bool) (ts : List Terminal) → Sound (IsSwitchItem m labelled false) [] ts (cond labelled (inner ts) (item m inner ts))
+  sound_no_label true ts = Sound-mono (λ x l r. (a_switch_statement r.0, r.1)) (sound ts)
+  sound_no_label false ts = Sound-mono (λ x l r. (as_switch_item r.0, r.1)) (sound_item ts)
+
+  pub sound_switch_item : (labelled : Bool) (ts : List Terminal) → Sound (IsSwitchItem m labelled (begins_label ts)) [] ts (switch_item m inner labelled ts)
+  sound_switch_item labelled ts = by_case (starts_with keywords.Case ts) (starts_with keywords.Default ts) refl refl
+    where
+      by_case : (b c : Bool) → starts_with keywords.Case ts ≡ b → starts_with keywords.Default ts ≡ c → Sound (IsSwitchItem m labelled (b || c)) [] ts (cond b (case_of m inner ts) (cond c (default_of m inner ts) (cond labelled (inner ts) (item m inner ts))))
+      by_case true c e d = sound_case labelled ts e
+      by_case false true e d = sound_default labelled ts d
+      by_case false false e d = sound_no_label labelled ts
+
+  sound_switch_items : (n : ℕ) (labelled : Bool) (done : List StmtTree) (h : ℕ) (ts : List Terminal) → Sound (AreSwitchItems m labelled done h) [] ts (switch_items m inner n labelled done h ts)
+  unfolding switch_items
+  sound_switch_items zero labelled done h ts = Sound-err at_end
+  sound_switch_items (suc n) true done h ts =
+      Sound-part _ (sound_switch_item true ts) (λ s front us r. Sound-mono (further_switch_item m true (begins_label ts) done h s front r) (sound_switch_items n (begins_label ts) (done ++ s.0 ∷ []) (max h s.1) us))
+  sound_switch_items (suc n) false done h ts =
+      Sound-if (starts punctuators.CloseBrace ts)
+      (λ _. Sound-punctuator-next punctuators.CloseBrace ts _ (λ c us. Sound-ok (no_switch_items m done h c)))
+      (λ _. Sound-part _ (sound_switch_item false ts) (λ s front us r. Sound-mono (further_switch_item m false (begins_label ts) done h s front r) (sound_switch_items n (begins_label ts) (done ++ s.0 ∷ []) (max h s.1) us)))
+
+  sound_switch_block_at : (ts : List Terminal) → Sound (IsSwitchBlock (suc m)) [] ts (switch_block_at m inner ts)
+  sound_switch_block_at ts = Sound-punctuator-next punctuators.OpenBrace ts _ (λ o us. Sound-last _ (sound_switch_items (length us) false [] 0 us) (switch_block_read m o))
+
   pub taken_there : (ts us : List Terminal) (s : S) → inner ts ≡ Ok (s, us) → is_open s.0 ≡ true → NoElse us
   taken_there ts us s e = rw e at (takes ts)
 
@@ -221,39 +307,49 @@ module _ (m : ℕ) (inner : Parse S) (takes : (ts : List Terminal) → Takes (in
       (λ u zs z. else_read m at (number_of t) e s u c ys zs r q (false_from_ne_true (is_open s.0) (λ o. true≢false (sym yes ∙ end o))) z)))
       (λ _. Sound-ok (rw (append-nil ys) (if_read m at e s c ys r q)))
 
-  sound_keyword : (t : Terminal) (ts : List Terminal) → Sound (IsStatement (suc m)) [] (t ∷ ts) (keyword_statement m inner (place (t ∷ ts)) t ts)
-  sound_keyword t ts =
-      Sound-if (is_keyword keywords.If t)
-      (λ is. Sound-if (m == 0) (λ _. Sound-err at_end) (λ _. Sound-keyword keywords.If t ts is
-      (Sound-part _ (sound_condition m ts) (λ e c us r. Sound-part-is _ (sound us) (λ s ys vs read _ q. sound_after_then (number_of t) e s c ys r q vs (taken_there us vs s read))))))
-      (λ _. Sound-if (is_keyword keywords.While t)
-      (λ is. Sound-if (m == 0) (λ _. Sound-err at_end) (λ _. Sound-keyword keywords.While t ts is
-      (Sound-part _ (sound_condition m ts) (λ e c us r. Sound-last _ (sound us) (λ s ys q. while_read m (number_of t) e s c ys r q)))))
-      (λ _. Sound-if (is_keyword keywords.Do t)
-      (λ is. Sound-if (m == 0) (λ _. Sound-err at_end) (λ _. Sound-keyword keywords.Do t ts is
-      (Sound-part _ (sound ts) (λ s xs us q. Sound-while-next m inner us _ (λ w vs. Sound-part _ (sound_condition m vs) (λ e c ws r. Sound-punctuator-next punctuators.Semicolon ws _ (λ n ys. Sound-ok (do_read m (number_of t) w n s e xs c q r))))))))
-      (λ _. Sound-if (is_keyword keywords.For t)
-      (λ is. Sound-if (m == 0) (λ _. Sound-err at_end) (λ _. Sound-keyword keywords.For t ts is
-      (Sound-punctuator-next punctuators.OpenParenthesis ts _ (λ o us. Sound-part _ (sound_start m us) (λ a ws vs r1. Sound-part _ (sound_optional m punctuators.Semicolon vs) (λ e xs ws' r2. Sound-part _ (sound_optional m punctuators.CloseParenthesis ws')
-      (λ u ys xs' r3. Sound-last _ (sound xs') (λ s zs q. for_read m (number_of t) o a e u s ws xs ys zs r1 r2 r3 q))))))))
-      (λ _. Sound-if (is_keyword keywords.Break t)
-      (λ is. Sound-keyword keywords.Break t ts is (Sound-punctuator-next punctuators.Semicolon ts _ (λ s us. Sound-ok (a_break (number_of t) s, omega arith))))
-      (λ _. Sound-if (is_keyword keywords.Continue t)
-      (λ is. Sound-keyword keywords.Continue t ts is (Sound-punctuator-next punctuators.Semicolon ts _ (λ s us. Sound-ok (a_continue (number_of t) s, omega arith))))
-      (λ _. Sound-if (is_keyword keywords.Return t)
-      (λ is. Sound-keyword keywords.Return t ts is (Sound-last _ (sound_optional m punctuators.Semicolon ts) (λ e xs r. return_read m (number_of t) e xs r)))
-      (λ _. Sound-part-is _ (sound_part m Expression (t ∷ ts)) (λ e front us _ split r. Sound-punctuator-next punctuators.Semicolon us _ (λ s vs. Sound-ok (expression_read m (t ∷ ts) us e front split r s))))))))))
+  module _ (braces : Parse (List StmtTree × ℕ)) (sound_braces : (ts : List Terminal) → Sound (IsSwitchBlock m) [] ts (braces ts)) where
+    sound_keyword : (t : Terminal) (ts : List Terminal) → Sound (IsStatement (suc m)) [] (t ∷ ts) (keyword_statement m inner braces (place (t ∷ ts)) t ts)
+    sound_keyword t ts =
+        Sound-if (is_keyword keywords.If t)
+        (λ is. Sound-if (m == 0) (λ _. Sound-err at_end) (λ _. Sound-keyword keywords.If t ts is
+        (Sound-part _ (sound_condition m ts) (λ e c us r. Sound-part-is _ (sound us) (λ s ys vs read _ q. sound_after_then (number_of t) e s c ys r q vs (taken_there us vs s read))))))
+        (λ _. Sound-if (is_keyword keywords.While t)
+        (λ is. Sound-if (m == 0) (λ _. Sound-err at_end) (λ _. Sound-keyword keywords.While t ts is
+        (Sound-part _ (sound_condition m ts) (λ e c us r. Sound-last _ (sound us) (λ s ys q. while_read m (number_of t) e s c ys r q)))))
+        (λ _. Sound-if (is_keyword keywords.Do t)
+        (λ is. Sound-if (m == 0) (λ _. Sound-err at_end) (λ _. Sound-keyword keywords.Do t ts is
+        (Sound-part _ (sound ts) (λ s xs us q. Sound-while-next m inner us _ (λ w vs. Sound-part _ (sound_condition m vs) (λ e c ws r. Sound-punctuator-next punctuators.Semicolon ws _ (λ n ys. Sound-ok (do_read m (number_of t) w n s e xs c q r))))))))
+        (λ _. Sound-if (is_keyword keywords.For t)
+        (λ is. Sound-if (m == 0) (λ _. Sound-err at_end) (λ _. Sound-keyword keywords.For t ts is
+        (Sound-punctuator-next punctuators.OpenParenthesis ts _ (λ o us. Sound-part _ (sound_start m us) (λ a ws vs r1. Sound-part _ (sound_optional m punctuators.Semicolon vs) (λ e xs ws' r2. Sound-part _ (sound_optional m punctuators.CloseParenthesis ws')
+        (λ u ys xs' r3. Sound-last _ (sound xs') (λ s zs q. for_read m (number_of t) o a e u s ws xs ys zs r1 r2 r3 q))))))))
+        (λ _. Sound-if (is_keyword keywords.Switch t)
+        (λ is. Sound-if (m == 0) (λ _. Sound-err at_end) (λ _. Sound-keyword keywords.Switch t ts is
+        (Sound-part _ (sound_condition m ts) (λ e c us r. Sound-last _ (sound_braces us) (λ x ys q. switch_read m (number_of t) e x c ys r q)))))
+        (λ _. Sound-if (is_keyword keywords.Break t)
+        (λ is. Sound-keyword keywords.Break t ts is (Sound-punctuator-next punctuators.Semicolon ts _ (λ s us. Sound-ok (a_break (number_of t) s, omega arith))))
+        (λ _. Sound-if (is_keyword keywords.Continue t)
+        (λ is. Sound-keyword keywords.Continue t ts is (Sound-punctuator-next punctuators.Semicolon ts _ (λ s us. Sound-ok (a_continue (number_of t) s, omega arith))))
+        (λ _. Sound-if (is_keyword keywords.Return t)
+        (λ is. Sound-keyword keywords.Return t ts is (Sound-last _ (sound_optional m punctuators.Semicolon ts) (λ e xs r. return_read m (number_of t) e xs r)))
+        (λ _. Sound-part-is _ (sound_part m Expression (t ∷ ts)) (λ e front us _ split r. Sound-punctuator-next punctuators.Semicolon us _ (λ s vs. Sound-ok (expression_read m (t ∷ ts) us e front split r s)))))))))))
 
-  sound_statement_at : (ts : List Terminal) → Sound (IsStatement (suc m)) [] ts (statement_at m inner ts)
-  sound_statement_at [] = Sound-err at_end
-  sound_statement_at (t ∷ ts) =
-      Sound-if (is_punctuator punctuators.Semicolon t)
-      (λ is. rw (punctuator_is punctuators.Semicolon t is) (Sound-first (Sound-ok (an_empty (number_of t), omega arith))))
-      (λ _. Sound-if (is_punctuator punctuators.OpenBrace t)
-      (λ is. rw (punctuator_is punctuators.OpenBrace t is) (Sound-first (Sound-last _ (sound_items (length ts) [] 0 ts) (block_read m (number_of t)))))
-      (λ _. sound_keyword t ts))
+    sound_statement_at : (ts : List Terminal) → Sound (IsStatement (suc m)) [] ts (statement_at m inner braces ts)
+    sound_statement_at [] = Sound-err at_end
+    sound_statement_at (t ∷ ts) =
+        Sound-if (is_punctuator punctuators.Semicolon t)
+        (λ is. rw (punctuator_is punctuators.Semicolon t is) (Sound-first (Sound-ok (an_empty (number_of t), omega arith))))
+        (λ _. Sound-if (is_punctuator punctuators.OpenBrace t)
+        (λ is. rw (punctuator_is punctuators.OpenBrace t is) (Sound-first (Sound-last _ (sound_items (length ts) [] 0 ts) (block_read m (number_of t)))))
+        (λ _. sound_keyword t ts))
 
-pub sound_statement : (n : ℕ) (ts : List Terminal) → Sound (IsStatement n) [] ts (statement n ts)
-unfolding statement
-sound_statement zero ts = Sound-if (begins_statement ts) (λ _. Sound-err at_end) (λ _. Sound-err at_end)
-sound_statement (suc m) ts = sound_statement_at m (statement m) (λ us. takes_statement m us) (λ us. sound_statement m us) ts
+mutual
+  unfolding statement switch_block
+
+  pub sound_statement : (n : ℕ) (ts : List Terminal) → Sound (IsStatement n) [] ts (statement n ts)
+  sound_statement zero ts = Sound-if (begins_statement ts) (λ _. Sound-err at_end) (λ _. Sound-err at_end)
+  sound_statement (suc m) ts = sound_statement_at m (statement m) (λ us. takes_statement m us) (λ us. sound_statement m us) (switch_block m) (λ us. sound_switch_block m us) ts
+
+  pub sound_switch_block : (n : ℕ) (ts : List Terminal) → Sound (IsSwitchBlock n) [] ts (switch_block n ts)
+  sound_switch_block zero ts = Sound-if (starts punctuators.OpenBrace ts) (λ _. Sound-err at_end) (λ _. Sound-err at_end)
+  sound_switch_block (suc m) ts = sound_switch_block_at m (statement m) (λ us. takes_statement m us) (λ us. sound_statement m us) ts

@@ -1,6 +1,6 @@
 -- The tokens before a fault in a statement begin one that is low enough.
-use Rattle.std.proofs.Common.{◌≡◌, ℕ, zero, suc, ◌+◌, ◌<◌, ◌≤◌, max, Bool, true, false, true≢false, cond, List, [], ◌∷◌, ◌++◌, length, Ok, Option, Some, None, refl, sym, subst, ◌∙◌, append_assoc, arith}
-use Rattle.std.specs.Prelude.{◌||◌}
+use Rattle.std.proofs.Common.{◌≡◌, ℕ, zero, suc, ◌+◌, ◌<◌, ◌≤◌, max, Bool, true, false, true≢false, cond, List, [], ◌∷◌, ◌++◌, length, Ok, Option, Some, None, refl, sym, subst, ◌∙◌, append_assoc, add-one, arith}
+use Rattle.std.specs.Prelude.{◌-◌, ◌||◌}
 use Rattle.std.proofs.lemmas.Bool.{false_from_ne_true}
 use Rattle.qs_syntax_vocabulary.specs.declared.terminal.Terminal.{Terminal}
 use Rattle.qs_syntax_vocabulary.specs.declared.terminal.Terminal.TheVariants.{Keyword, Punctuator}
@@ -10,20 +10,20 @@ use Rattle.qs_syntax_vocabulary.specs.declared.punctuator.Punctuator as punctuat
 use Rattle.qs_syntax_vocabulary.specs.declared.punctuator.Punctuator.TheVariants as punctuators
 use Rattle.qs_syntax_vocabulary.specs.Operators.{number_of}
 use Rattle.qs_syntax.specs.Trees as trees
-use Rattle.qs_syntax.specs.Trees.{ExprTree, StartTree, StmtTree, Stmts}
-use Rattle.qs_syntax.specs.Reads.{Expression}
-use Rattle.qs_syntax.specs.ReadsStatements.{is_open, nothing_there, something_there, a_start_declaration, a_start_expression, no_start_at_all, ReadsStart, ReadsStatement, a_block, an_empty, an_expression, a_break, a_continue, ReadsItem, a_statement, a_declared, ReadsItems, no_item, an_item}
+use Rattle.qs_syntax.specs.Trees.{unnumbered, ExprTree, StartTree, StmtTree, Stmts}
+use Rattle.qs_syntax.specs.Reads.{Conditional, Expression}
+use Rattle.qs_syntax.specs.ReadsStatements.{is_open, nothing_there, something_there, a_start_declaration, a_start_expression, no_start_at_all, ReadsStart, ReadsStatement, a_block, an_empty, an_expression, a_switch, a_break, a_continue, ReadsItem, a_statement, a_declared, ReadsItems, no_item, an_item, a_case, a_default, ReadsSwitchBlock, in_braces, ReadsSwitchItem, a_label, a_switch_statement, a_switch_declaration, ReadsSwitchItems, no_switch_item, a_switch_item}
 use Rattle.qs_parser_grammar.specs.Heads.{is_punctuator, is_keyword, starts, starts_with, begins_type}
 use Rattle.qs_parser_grammar.specs.Parse.{Parse, read_on, unexpected, E, begins_one}
 use Rattle.qs_parser_grammar.specs.ParseDeclarations.{declaration_within}
-use Rattle.qs_parser_grammar.specs.ParseStatements.{S, optional, condition, start_of, begins_statement, item, items, in_block, after_then, after_if, after_while, expect_while, after_do, after_for, plain_statement, keyword_statement, statement_at, statement}
+use Rattle.qs_parser_grammar.specs.ParseStatements.{S, optional, condition, start_of, begins_statement, begins_label, ends_switch, item, items, in_block, after_case, case_of, default_of, switch_item, switch_items, switch_block_at, after_then, after_if, after_while, expect_while, after_do, after_for, after_switch, plain_statement, keyword_statement, statement_at, statement, switch_block}
 use Rattle.qs_parser_grammar.proofs.HeadsLaws.{punctuator_is, keyword_is}
 use Rattle.qs_parser_grammar.proofs.Sound.{Sound}
 use Rattle.qs_parser_grammar.proofs.ExpressionsSound.{sound_part}
-use Rattle.qs_parser_grammar.proofs.StatementsSound.{NoElse, Takes, takes_statement, IsOptional, sound_optional, IsCondition, sound_condition, sound_start, IsStatement, if_read, else_read, while_read, do_read, for_read, return_read, sound_item, taken_there, sound_statement}
+use Rattle.qs_parser_grammar.proofs.StatementsSound.{NoElse, Takes, takes_statement, IsOptional, sound_optional, IsCondition, sound_condition, sound_start, IsStatement, as_switch_item, if_read, else_read, while_read, do_read, for_read, return_read, sound_item, sound_switch_item, taken_there, sound_statement}
 use Rattle.qs_parser_grammar.proofs.ExpressionsViable.{Has, number, one, one_begun, viable_part}
 use Rattle.qs_parser_grammar.proofs.DeclarationsViable.{a_punctuator, viable_declaration_within}
-use Rattle.qs_parser_grammar.proofs.Viable.{Claims, OfFronts, behind_token, behind, Both, under, Viable, Viable-ok, Viable-unexpected, Viable-deep, Viable-token, Viable-if, Viable-read_on, Viable-read_on-is, Viable-done, here, Viable-is_punctuator, Viable-keyword, Viable-punctuator, Viable-some, is_plain, plain_both}
+use Rattle.qs_parser_grammar.proofs.Viable.{Claims, OfFronts, behind_token, behind, Both, under, Viable, Viable-ok, Viable-unexpected, Viable-deep, Viable-token, Viable-if, Viable-above, Viable-some, Viable-read_on, Viable-read_on-is, Viable-done, here, Viable-is_punctuator, Viable-keyword, Viable-punctuator, Viable-some, is_plain, plain_both}
 
 -- ---- parts of statements
 
@@ -118,6 +118,26 @@ IsOneItem h xs = (s : StmtTree) × ReadsItem h xs s
 abbrev pub AreStmts : ℕ → List Terminal → Type 0
 AreStmts h xs = (ss : Stmts) × ReadsItems h xs ss
 
+abbrev IsOneSwitchItem : Bool → Bool → ℕ → List Terminal → Type 0
+IsOneSwitchItem labelled labels h xs = (s : StmtTree) × ReadsSwitchItem labelled labels h xs s
+
+abbrev AreSwitchStmts : Bool → ℕ → List Terminal → Type 0
+AreSwitchStmts labelled h xs = (ss : Stmts) × ReadsSwitchItems labelled h xs ss
+
+abbrev IsBraces : ℕ → List Terminal → Type 0
+IsBraces h xs = (ss : Stmts) × ReadsSwitchBlock h xs ss
+
+-- a label is a level at least
+label_high : {labelled labels : Bool} {h : ℕ} {ts : List Terminal} {s : StmtTree} → ReadsSwitchItem labelled labels h ts s → labels ≡ true → 0 < h
+label_high (a_label (a_case at c r)) e = omega arith
+label_high (a_label (a_default at c)) e = omega arith
+label_high (a_switch_statement r) e = absurd (true≢false (sym e))
+label_high (a_switch_declaration r) e = absurd (true≢false (sym e))
+
+-- the shortest
+no_braces : IsBraces 1 (a_punctuator punctuators.OpenBrace ∷ a_punctuator punctuators.CloseBrace ∷ [])
+no_braces = (_, in_braces {ts = []} 0 0 no_switch_item)
+
 -- the shortest
 empty_one : IsStmt 1 (a_punctuator punctuators.Semicolon ∷ [])
 empty_one = (_, an_empty 0)
@@ -131,6 +151,9 @@ else_one at n g h k cs ys zs t s closed u =
 
 while_one : (at g h : ℕ) (cs ys : List Terminal) → IsTest g cs → IsStmt h ys → IsStmt (max g h + 1) (Keyword at keywords.While ∷ (cs ++ ys))
 while_one at g h cs ys t s = let m : ℕ = max g h in (_, (while_read m at (t.0, g) (s.0, h) cs ys (higher_test m g cs t (omega arith)) (s.1, omega arith)).0)
+
+switch_one : (at g h : ℕ) (cs ys : List Terminal) → IsTest g cs → IsBraces h ys → IsStmt (max g h + 1) (Keyword at keywords.Switch ∷ (cs ++ ys))
+switch_one at g h cs ys (e, (inside, o, c, is, r, low)) (ss, q) = (trees.switch (unnumbered at) e ss, rw (is, append_assoc inside (Punctuator c punctuators.CloseParenthesis ∷ []) ys, add-one (max g h)) (a_switch at o c r q))
 
 do_one : (at v n h g : ℕ) (xs cs : List Terminal) → IsStmt h xs → IsTest g cs → IsStmt (max h g + 1) (Keyword at keywords.Do ∷ (xs ++ Keyword v keywords.While ∷ (cs ++ Punctuator n punctuators.Semicolon ∷ [])))
 do_one at v n h g xs cs s t = let m : ℕ = max h g in (_, (do_read m at v n (s.0, h) (t.0, g) xs cs (s.1, omega arith) (higher_test m g cs t (omega arith))).0)
@@ -171,6 +194,79 @@ module _ (m : ℕ) (inner : Parse S) (takes : (ts : List Terminal) → Takes (in
     where
       begun : (h : ℕ) (xs : List Terminal) → IsOneItem h xs → Both Q m h xs
       begun h xs s = under c xs (a_punctuator punctuators.CloseBrace ∷ []) refl m (max h 0) (subst (λ l. Both Q m (max h 0) l) (append_assoc xs [] (a_punctuator punctuators.CloseBrace ∷ [])) (w (max h 0) (xs ++ []) (_, an_item s.1 no_item))) m h (λ le. omega arith)
+
+  -- ---- items of a switch
+
+  module _ (labelled : Bool) (Q : Claims) (c : OfFronts Q) (w : (labels : Bool) (h : ℕ) (xs : List Terminal) → IsOneSwitchItem labelled labels h xs → Both Q m h xs) (low : Q true []) where
+    viable_case : (ts : List Terminal) → starts_with keywords.Case ts ≡ true → Viable Q ts (case_of m inner ts)
+    viable_case [] e = absurd cc
+    viable_case (t ∷ ts) e =
+        let at : ℕ = number_of t in
+        Viable-keyword keywords.Case t e (Viable-above m 2 low (c.front false (Keyword at keywords.Case ∷ []) (number ++ a_punctuator punctuators.Colon ∷ []) (w true 2 _ (a_case_of at 1 number (one Conditional refl))).0 refl) (λ two. Viable-token (behind_case at two)))
+      where
+        a_case_of : (at h : ℕ) (xs : List Terminal) → Has Conditional h xs → IsOneSwitchItem labelled true (suc h) (Keyword at keywords.Case ∷ (xs ++ a_punctuator punctuators.Colon ∷ []))
+        a_case_of at h xs s = (_, a_label (a_case at 0 s.1))
+
+        begun : (at : ℕ) → 2 ≤ m → (h : ℕ) (xs : List Terminal) → Has Conditional h xs → Both (λ b l. Q b (Keyword at keywords.Case ∷ l)) (m - 1) h xs
+        begun at two h xs s = under (behind_token (Keyword at keywords.Case) c) xs (a_punctuator punctuators.Colon ∷ []) refl m (suc h) (w true (suc h) _ (a_case_of at h xs s)) (m - 1) h (λ le. omega arith)
+
+        behind_case : (at : ℕ) → 2 ≤ m → Viable (λ b l. Q b (Keyword at keywords.Case ∷ l)) ts (after_case m inner at ts)
+        behind_case at two =
+            Viable-read_on _ (sound_part (m - 1) Conditional ts)
+            (viable_part (m - 1) Conditional refl _ (behind_token (Keyword at keywords.Case) c) (begun at two) ((behind_token (Keyword at keywords.Case) c).front true [] number ((begun at two 1 number (one Conditional refl)).1 (omega arith)) refl) ts)
+            (λ x front us r. Viable-punctuator punctuators.Colon us _ (here (λ b l. Q b (Keyword at keywords.Case ∷ l)) front ((begun at two x.1 front (x.0, r.0)).1 r.1)) (λ k vs. Viable-ok))
+
+    viable_default : (ts : List Terminal) → starts_with keywords.Default ts ≡ true → Viable Q ts (default_of m inner ts)
+    viable_default [] e = absurd cc
+    viable_default (t ∷ ts) e =
+        let begun : Both Q m 1 (Keyword (number_of t) keywords.Default ∷ a_punctuator punctuators.Colon ∷ []) = w true 1 _ (_, a_label (a_default (number_of t) 0)) in
+        let front = c.front false (Keyword (number_of t) keywords.Default ∷ []) (a_punctuator punctuators.Colon ∷ []) begun.0 refl in
+        Viable-keyword keywords.Default t e (Viable-some m low front (λ some. Viable-token (Viable-punctuator punctuators.Colon ts _ (c.front true (Keyword (number_of t) keywords.Default ∷ []) (a_punctuator punctuators.Colon ∷ []) (begun.1 some) refl) (λ k us. Viable-ok))))
+
+  viable_no_label : (labelled : Bool) (Q : Claims) → OfFronts Q → ((labels : Bool) (h : ℕ) (xs : List Terminal) → IsOneSwitchItem labelled labels h xs → Both Q m h xs) → Q true [] → (ts : List Terminal) → Viable Q ts (cond labelled (inner ts) (item m inner ts))
+  viable_no_label true Q c w low ts = viable Q c (λ h xs s. w false h xs (_, a_switch_statement s.1)) low ts
+  viable_no_label false Q c w low ts = viable_item Q c (λ h xs s. w false h xs (_, as_switch_item s.1)) low ts
+
+  viable_switch_item : (labelled : Bool) (Q : Claims) → OfFronts Q → ((labels : Bool) (h : ℕ) (xs : List Terminal) → IsOneSwitchItem labelled labels h xs → Both Q m h xs) → Q true [] → (ts : List Terminal) → Viable Q ts (switch_item m inner labelled ts)
+  viable_switch_item labelled Q c w low ts =
+      Viable-if (starts_with keywords.Case ts) (viable_case labelled Q c w low ts) (λ _. Viable-if (starts_with keywords.Default ts) (viable_default labelled Q c w low ts) (λ _. viable_no_label labelled Q c w low ts))
+
+  -- what goes on with items: the brace at the end, behind a label a statement before it
+  abbrev Going : Bool → Claims → Type 0
+  Going labelled Q = (h : ℕ) (xs : List Terminal) → AreSwitchStmts labelled h xs → Both Q m h (xs ++ a_punctuator punctuators.CloseBrace ∷ [])
+
+  switch_due : (labelled : Bool) → (labelled ≡ true → 0 < m) → (Q : Claims) → OfFronts Q → Going labelled Q → Q true []
+  switch_due true room Q c w =
+      let some : 0 < m = room refl in
+      c.front true [] (a_punctuator punctuators.Semicolon ∷ a_punctuator punctuators.CloseBrace ∷ []) ((w 1 (a_punctuator punctuators.Semicolon ∷ []) (_, a_switch_item (a_switch_statement (an_empty 0)) no_switch_item)).1 (omega arith)) refl
+  switch_due false room Q c w = c.front true [] (a_punctuator punctuators.CloseBrace ∷ []) ((w 0 [] (_, no_switch_item)).1 (omega arith)) refl
+
+  switch_item_begun : (labelled : Bool) (Q : Claims) → OfFronts Q → Going labelled Q → (labels : Bool) (h : ℕ) (xs : List Terminal) → IsOneSwitchItem labelled labels h xs → Both Q m h xs
+  switch_item_begun labelled Q c w true h xs s =
+      let some : 0 < h = label_high s.1 refl in
+      under c xs (a_punctuator punctuators.Semicolon ∷ a_punctuator punctuators.CloseBrace ∷ []) refl m (max h 1)
+      (subst (λ l. Both Q m (max h 1) l) (append_assoc xs (a_punctuator punctuators.Semicolon ∷ []) (a_punctuator punctuators.CloseBrace ∷ [])) (w (max h 1) (xs ++ a_punctuator punctuators.Semicolon ∷ []) (_, a_switch_item s.1 (a_switch_item (a_switch_statement (an_empty 0)) no_switch_item)))) m h
+      (λ le. omega arith)
+  switch_item_begun labelled Q c w false h xs s =
+      under c xs (a_punctuator punctuators.CloseBrace ∷ []) refl m (max h 0) (subst (λ l. Both Q m (max h 0) l) (append_assoc xs [] (a_punctuator punctuators.CloseBrace ∷ [])) (w (max h 0) (xs ++ []) (_, a_switch_item s.1 no_switch_item))) m h (λ le. omega arith)
+
+  viable_switch_items : (n : ℕ) (labelled : Bool) → (labelled ≡ true → 0 < m) → (done : List StmtTree) (h : ℕ) (Q : Claims) → OfFronts Q → Going labelled Q → (ts : List Terminal) → Viable Q ts (switch_items m inner n labelled done h ts)
+  unfolding switch_items
+  viable_switch_items zero labelled room done h Q c w ts = Viable-unexpected (switch_due labelled room Q c w)
+  viable_switch_items (suc n) labelled room done h Q c w ts =
+      let low : Q true [] = switch_due labelled room Q c w in
+      Viable-if (ends_switch labelled ts)
+      (λ _. Viable-punctuator punctuators.CloseBrace ts _ low (λ at us. Viable-ok))
+      (λ _. Viable-read_on _ (sound_switch_item m inner takes sound labelled ts) (viable_switch_item labelled Q c (switch_item_begun labelled Q c w) low ts)
+      (λ s front us r. let fits : s.1 ≤ m = r.1 in
+      viable_switch_items n (begins_label ts) (λ e. let some = label_high r.0 e in omega arith) (done ++ s.0 ∷ []) (max h s.1) (λ b l. Q b (front ++ l)) (behind front c)
+      (λ k xs i. let both = w (max s.1 k) (front ++ xs) (_, a_switch_item r.0 i.1) in let same = append_assoc front xs (a_punctuator punctuators.CloseBrace ∷ []) in
+      (subst (Q false) same both.0, λ le. subst (Q true) same (both.1 (omega arith)))) us))
+
+  viable_switch_block_at : (Q : Claims) → OfFronts Q → ((h : ℕ) (xs : List Terminal) → IsBraces h xs → Both Q (suc m) h xs) → Q true [] → (ts : List Terminal) → Viable Q ts (switch_block_at m inner ts)
+  viable_switch_block_at Q c w low ts =
+      Viable-punctuator punctuators.OpenBrace ts _ low
+      (λ o us. Viable-done _ (viable_switch_items (length us) false (λ e. absurd (true≢false (sym e))) [] 0 _ (behind_token (Punctuator o punctuators.OpenBrace) c) (λ h xs i. let both = w (suc h) _ (_, in_braces o 0 i.1) in (both.0, λ le. both.1 (omega arith))) us))
 
   module _ (Q : Claims) (c : OfFronts Q) (w : (h : ℕ) (xs : List Terminal) → IsStmt h xs → Both Q (suc m) h xs) where
     viable_block : (at : ℕ) (ts : List Terminal) → Viable (λ b l. Q b (Punctuator at punctuators.OpenBrace ∷ l)) ts (in_block m inner ts)
@@ -216,6 +312,19 @@ module _ (m : ℕ) (inner : Parse S) (takes : (ts : List Terminal) → Takes (in
         where
           body_begun : (e : E) (cs : List Terminal) → IsTest e.1 cs → e.1 ≤ m → (h : ℕ) (ys : List Terminal) → IsStmt h ys → Both Q m h (Keyword at keywords.While ∷ (cs ++ ys))
           body_begun e cs test fits h ys s = let both = w _ _ (while_one at e.1 h cs ys test s) in (both.0, λ le. both.1 (omega arith))
+
+      switch_begun : (at g : ℕ) (cs : List Terminal) → IsTest g cs → Both Q m g (Keyword at keywords.Switch ∷ cs)
+      switch_begun at g cs t = under c (Keyword at keywords.Switch ∷ cs) (a_punctuator punctuators.OpenBrace ∷ a_punctuator punctuators.CloseBrace ∷ []) refl (suc m) (max g 1 + 1) (w _ _ (switch_one at g 1 cs _ t no_braces)) m g (λ le. omega arith)
+
+      viable_switch : (braces : Parse (List StmtTree × ℕ)) → ((Q : Claims) → OfFronts Q → ((h : ℕ) (xs : List Terminal) → IsBraces h xs → Both Q m h xs) → Q true [] → (ts : List Terminal) → Viable Q ts (braces ts)) → (at n : ℕ) (ts : List Terminal)
+          → Viable (λ b l. Q b (Keyword at keywords.Switch ∷ l)) ts (after_switch m inner braces n ts)
+      viable_switch braces closed at n ts =
+          Viable-read_on _ (sound_condition m ts) (viable_condition m _ (behind_token (Keyword at keywords.Switch) c) (switch_begun at) some ts)
+          (λ e cs us r. let test : IsTest e.1 cs = lower_test m e cs r in let fits : e.1 ≤ m = test_fits m e cs r in let inside = behind cs (behind_token (Keyword at keywords.Switch) c) in
+          Viable-done _ (closed _ inside (block_begun e cs test fits) (inside.front true [] (a_punctuator punctuators.OpenBrace ∷ a_punctuator punctuators.CloseBrace ∷ []) ((block_begun e cs test fits 1 _ no_braces).1 (omega arith)) refl) us))
+        where
+          block_begun : (e : E) (cs : List Terminal) → IsTest e.1 cs → e.1 ≤ m → (h : ℕ) (ys : List Terminal) → IsBraces h ys → Both Q m h (Keyword at keywords.Switch ∷ (cs ++ ys))
+          block_begun e cs test fits h ys s = let both = w _ _ (switch_one at e.1 h cs ys test s) in (both.0, λ le. both.1 (omega arith))
 
       module _ (at : ℕ) where
         abbrev Doing : Claims
@@ -301,24 +410,27 @@ module _ (m : ℕ) (inner : Parse S) (takes : (ts : List Terminal) → Takes (in
         begun : (h : ℕ) (xs : List Terminal) → Has Expression h xs → Both Q m h xs
         begun h xs s = under c xs (a_punctuator punctuators.Semicolon ∷ []) refl (suc m) (suc h) (w (suc h) _ (expression_one h xs s)) m h (λ le. omega arith)
 
-    viable_keyword : (at : ℕ) (t : Terminal) (ts : List Terminal) → Viable Q (t ∷ ts) (keyword_statement m inner at t ts)
-    viable_keyword at t ts =
-        Viable-if (is_keyword keywords.If t)
-        (λ e. Viable-keyword keywords.If t e (Viable-some m statement_due (c.front false (Keyword (number_of t) keywords.If ∷ []) _ (w _ _ (if_one (number_of t) 1 1 _ _ one_test empty_one)).0 refl) (λ some. Viable-token (viable_if some (number_of t) at ts))))
-        (λ _. Viable-if (is_keyword keywords.While t)
-        (λ e. Viable-keyword keywords.While t e (Viable-some m statement_due (c.front false (Keyword (number_of t) keywords.While ∷ []) _ (w _ _ (while_one (number_of t) 1 1 _ _ one_test empty_one)).0 refl) (λ some. Viable-token (viable_while some (number_of t) at ts))))
-        (λ _. Viable-if (is_keyword keywords.Do t)
-        (λ e. Viable-keyword keywords.Do t e (Viable-some m statement_due (c.front false (Keyword (number_of t) keywords.Do ∷ []) _ (w _ _ (do_one (number_of t) 0 0 1 1 _ _ empty_one one_test)).0 refl) (λ some. Viable-token (viable_do some (number_of t) at ts))))
-        (λ _. Viable-if (is_keyword keywords.For t)
-        (λ e. Viable-keyword keywords.For t e (Viable-some m statement_due
-        (c.front false (Keyword (number_of t) keywords.For ∷ []) _ (w _ _ (for_one (number_of t) 0 0 0 0 1 _ _ _ _ (no_beginning 0) (an_option punctuators.Semicolon 0) (an_option punctuators.CloseParenthesis 0) empty_one)).0 refl) (λ some. Viable-token (viable_for some (number_of t) at ts))))
-        (λ _. viable_plain at t ts))))
+    module _ (braces : Parse (List StmtTree × ℕ)) (closed : (Q : Claims) → OfFronts Q → ((h : ℕ) (xs : List Terminal) → IsBraces h xs → Both Q m h xs) → Q true [] → (ts : List Terminal) → Viable Q ts (braces ts)) where
+      viable_keyword : (at : ℕ) (t : Terminal) (ts : List Terminal) → Viable Q (t ∷ ts) (keyword_statement m inner braces at t ts)
+      viable_keyword at t ts =
+          Viable-if (is_keyword keywords.If t)
+          (λ e. Viable-keyword keywords.If t e (Viable-some m statement_due (c.front false (Keyword (number_of t) keywords.If ∷ []) _ (w _ _ (if_one (number_of t) 1 1 _ _ one_test empty_one)).0 refl) (λ some. Viable-token (viable_if some (number_of t) at ts))))
+          (λ _. Viable-if (is_keyword keywords.While t)
+          (λ e. Viable-keyword keywords.While t e (Viable-some m statement_due (c.front false (Keyword (number_of t) keywords.While ∷ []) _ (w _ _ (while_one (number_of t) 1 1 _ _ one_test empty_one)).0 refl) (λ some. Viable-token (viable_while some (number_of t) at ts))))
+          (λ _. Viable-if (is_keyword keywords.Do t)
+          (λ e. Viable-keyword keywords.Do t e (Viable-some m statement_due (c.front false (Keyword (number_of t) keywords.Do ∷ []) _ (w _ _ (do_one (number_of t) 0 0 1 1 _ _ empty_one one_test)).0 refl) (λ some. Viable-token (viable_do some (number_of t) at ts))))
+          (λ _. Viable-if (is_keyword keywords.For t)
+          (λ e. Viable-keyword keywords.For t e (Viable-some m statement_due
+          (c.front false (Keyword (number_of t) keywords.For ∷ []) _ (w _ _ (for_one (number_of t) 0 0 0 0 1 _ _ _ _ (no_beginning 0) (an_option punctuators.Semicolon 0) (an_option punctuators.CloseParenthesis 0) empty_one)).0 refl) (λ some. Viable-token (viable_for some (number_of t) at ts))))
+          (λ _. Viable-if (is_keyword keywords.Switch t)
+          (λ e. Viable-keyword keywords.Switch t e (Viable-some m statement_due (c.front false (Keyword (number_of t) keywords.Switch ∷ []) _ (w _ _ (switch_one (number_of t) 1 1 _ _ one_test no_braces)).0 refl) (λ some. Viable-token (viable_switch some braces closed (number_of t) at ts))))
+          (λ _. viable_plain at t ts)))))
 
-    viable_at : (ts : List Terminal) → Viable Q ts (statement_at m inner ts)
-    viable_at [] = Viable-unexpected statement_due
-    viable_at (t ∷ ts) =
-        Viable-if (is_punctuator punctuators.Semicolon t) (λ _. Viable-ok)
-        (λ _. Viable-if (is_punctuator punctuators.OpenBrace t) (λ e. Viable-is_punctuator punctuators.OpenBrace t e (Viable-token (viable_block (number_of t) ts))) (λ _. viable_keyword (number_of t) t ts))
+      viable_at : (ts : List Terminal) → Viable Q ts (statement_at m inner braces ts)
+      viable_at [] = Viable-unexpected statement_due
+      viable_at (t ∷ ts) =
+          Viable-if (is_punctuator punctuators.Semicolon t) (λ _. Viable-ok)
+          (λ _. Viable-if (is_punctuator punctuators.OpenBrace t) (λ e. Viable-is_punctuator punctuators.OpenBrace t e (Viable-token (viable_block (number_of t) ts))) (λ _. viable_keyword (number_of t) t ts))
 
 -- ---- what begins a statement
 
@@ -344,14 +456,27 @@ statement_begun t ts e =
     (either (starts_with keywords.While (t ∷ ts)) _ (λ d. by_keyword keywords.While t d _ _ (while_one (number_of t) 1 1 _ _ one_test empty_one) refl)
     (either (starts_with keywords.Do (t ∷ ts)) _ (λ d. by_keyword keywords.Do t d _ _ (do_one (number_of t) 0 0 1 1 _ _ empty_one one_test) refl)
     (either (starts_with keywords.For (t ∷ ts)) _ (λ d. by_keyword keywords.For t d _ _ (for_one (number_of t) 0 0 0 0 1 _ _ _ _ (no_beginning 0) (an_option punctuators.Semicolon 0) (an_option punctuators.CloseParenthesis 0) empty_one) refl)
+    (either (starts_with keywords.Switch (t ∷ ts)) _ (λ d. by_keyword keywords.Switch t d _ _ (switch_one (number_of t) 1 1 _ _ one_test no_braces) refl)
     (either (starts_with keywords.Break (t ∷ ts)) _ (λ d. by_keyword keywords.Break t d _ 1 (_, a_break (number_of t) 0) refl)
     (either (starts_with keywords.Continue (t ∷ ts)) _ (λ d. by_keyword keywords.Continue t d _ 1 (_, a_continue (number_of t) 0) refl)
-    (λ d. by_keyword keywords.Return t d _ _ (return_one (number_of t) 0 _ (an_option punctuators.Semicolon 0)) refl)))))))))
+    (λ d. by_keyword keywords.Return t d _ _ (return_one (number_of t) 0 _ (an_option punctuators.Semicolon 0)) refl))))))))))
     e
 
-pub viable_statement : (n : ℕ) (Q : Claims) → OfFronts Q → ((h : ℕ) (xs : List Terminal) → IsStmt h xs → Both Q n h xs) → Q true [] → (ts : List Terminal) → Viable Q ts (statement n ts)
-unfolding statement
-viable_statement zero Q c w low [] = Viable-unexpected low
-viable_statement zero Q c w low (t ∷ ts) =
-    Viable-if (begins_statement (t ∷ ts)) (λ e. let by = statement_begun t ts e in Viable-deep low (c.front false (t ∷ []) by.0 (w by.1 _ by.2).0 by.3)) (λ _. Viable-unexpected low)
-viable_statement (suc m) Q c w low ts = viable_at m (statement m) (λ us. takes_statement m us) (λ us. sound_statement m us) (λ P d v l us. viable_statement m P d v l us) Q c w ts
+begins_braces : (t : Terminal) (ts : List Terminal) → starts punctuators.OpenBrace (t ∷ ts) ≡ true → IsBraces 1 (t ∷ a_punctuator punctuators.CloseBrace ∷ [])
+begins_braces t ts e = subst (λ u. IsBraces 1 (u ∷ a_punctuator punctuators.CloseBrace ∷ [])) (sym (punctuator_is punctuators.OpenBrace t e)) (_, in_braces {ts = []} (number_of t) 0 no_switch_item)
+
+mutual
+  unfolding statement switch_block
+
+  pub viable_statement : (n : ℕ) (Q : Claims) → OfFronts Q → ((h : ℕ) (xs : List Terminal) → IsStmt h xs → Both Q n h xs) → Q true [] → (ts : List Terminal) → Viable Q ts (statement n ts)
+  viable_statement zero Q c w low [] = Viable-unexpected low
+  viable_statement zero Q c w low (t ∷ ts) =
+      Viable-if (begins_statement (t ∷ ts)) (λ e. let by = statement_begun t ts e in Viable-deep low (c.front false (t ∷ []) by.0 (w by.1 _ by.2).0 by.3)) (λ _. Viable-unexpected low)
+  viable_statement (suc m) Q c w low ts =
+      viable_at m (statement m) (λ us. takes_statement m us) (λ us. sound_statement m us) (λ P d v l us. viable_statement m P d v l us) Q c w (switch_block m) (λ P d v l us. viable_switch_block m P d v l us) ts
+
+  viable_switch_block : (n : ℕ) (Q : Claims) → OfFronts Q → ((h : ℕ) (xs : List Terminal) → IsBraces h xs → Both Q n h xs) → Q true [] → (ts : List Terminal) → Viable Q ts (switch_block n ts)
+  viable_switch_block zero Q c w low [] = Viable-unexpected low
+  viable_switch_block zero Q c w low (t ∷ ts) =
+      Viable-if (starts punctuators.OpenBrace (t ∷ ts)) (λ e. Viable-deep low (c.front false (t ∷ []) (a_punctuator punctuators.CloseBrace ∷ []) (w 1 _ (begins_braces t ts e)).0 refl)) (λ _. Viable-unexpected low)
+  viable_switch_block (suc m) Q c w low ts = viable_switch_block_at m (statement m) (λ us. takes_statement m us) (λ us. sound_statement m us) (λ P d v l us. viable_statement m P d v l us) Q c w low ts

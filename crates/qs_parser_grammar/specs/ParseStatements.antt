@@ -1,17 +1,17 @@
 -- The parser of statements and units as functions on lists of tokens.
-use Rattle.std.specs.Prelude.{ℕ, zero, suc, ◌+◌, ◌-◌, max, List, [], ◌∷◌, ◌++◌, length, drop, Ok, Option, Some, None, Bool, true, false, ◌==◌, ◌&&◌, ◌||◌, if◌then◌else◌}
+use Rattle.std.specs.Prelude.{ℕ, zero, suc, ◌+◌, ◌-◌, max, List, [], ◌∷◌, ◌++◌, length, drop, Ok, Option, Some, None, Bool, true, false, not, nat_le, ◌==◌, ◌&&◌, ◌||◌, if◌then◌else◌}
 use Rattle.qs_syntax_vocabulary.specs.declared.terminal.Terminal.{Terminal}
 use Rattle.qs_syntax_vocabulary.specs.declared.terminal.Terminal.TheVariants.{Name, TypeName, Keyword, Constant, Text, Punctuator}
 use Rattle.qs_base.specs.declared.keyword.Keyword.TheVariants as keywords
 use Rattle.qs_syntax_vocabulary.specs.declared.punctuator.Punctuator as punctuator
 use Rattle.qs_syntax_vocabulary.specs.declared.punctuator.Punctuator.TheVariants as punctuators
 use Rattle.qs_syntax.specs.declared.types.Base.{Base}
-use Rattle.qs_syntax.specs.Trees.{unnumbered, ExprTree, ParameterTree, StartTree, no_start, start_expression, start_declaration, StmtTree, empty, expression, block, branch, while_loop, do_loop, for_loop, break, continue, return, stmts_of, no_else, else_by, DeclaratorTree, DefinedTree, of_struct, of_base, DeclTree, structure, forward, typedef, function}
+use Rattle.qs_syntax.specs.Trees.{unnumbered, ExprTree, ParameterTree, StartTree, no_start, start_expression, start_declaration, StmtTree, empty, expression, block, switch, case_label, default_label, branch, while_loop, do_loop, for_loop, break, continue, return, stmts_of, no_else, else_by, DeclaratorTree, DefinedTree, of_struct, of_base, DeclTree, structure, forward, typedef, function}
 use Rattle.qs_syntax.specs.Trees as trees
 use Rattle.qs_syntax_vocabulary.specs.Marks.{NameSet, marked}
 use Rattle.qs_syntax.specs.ReadsTypes.{Names, Plain, Any}
 use Rattle.qs_syntax.specs.ReadsUnits.{names_behind}
-use Rattle.qs_syntax.specs.Reads.{Expression, place}
+use Rattle.qs_syntax.specs.Reads.{Conditional, Expression, place}
 use Rattle.qs_parser_grammar.specs.Heads.{is_keyword, is_punctuator, starts, starts_with, begins_type}
 use Rattle.qs_parser_grammar.specs.Parse.{Parse, read_on, E, unexpected, deep, expect, expect_name, type, stars, begins_one, part}
 use Rattle.qs_parser_grammar.specs.ParseDeclarations.{outer_type, declarator, declaration_within, declared, after_member, groups, head}
@@ -39,7 +39,15 @@ start_of m ts =
 
 abbrev pub begins_statement : List Terminal → Bool
 begins_statement ts =
-    begins_one ts || (starts punctuators.OpenBrace ts || (starts punctuators.Semicolon ts || (starts_with keywords.If ts || (starts_with keywords.While ts || (starts_with keywords.Do ts || (starts_with keywords.For ts || (starts_with keywords.Break ts || (starts_with keywords.Continue ts || starts_with keywords.Return ts))))))))
+    begins_one ts || (starts punctuators.OpenBrace ts || (starts punctuators.Semicolon ts || (starts_with keywords.If ts || (starts_with keywords.While ts || (starts_with keywords.Do ts || (starts_with keywords.For ts || (starts_with keywords.Switch ts || (starts_with keywords.Break ts || (starts_with keywords.Continue ts || starts_with keywords.Return ts)))))))))
+
+-- a label of a switch stands here
+abbrev pub begins_label : List Terminal → Bool
+begins_label ts = starts_with keywords.Case ts || starts_with keywords.Default ts
+
+-- the brace at the end of a switch stands here, and no label before it
+abbrev pub ends_switch : (labelled : Bool) → List Terminal → Bool
+ends_switch labelled ts = not labelled && starts punctuators.CloseBrace ts
 
 -- Where `m` levels are left for parts, and `inner` reads a statement of at most so many.
 module _ (m : ℕ) (inner : Parse S) where
@@ -56,6 +64,39 @@ module _ (m : ℕ) (inner : Parse S) where
   -- behind the brace
   abbrev pub in_block : Parse S
   in_block ts = read_on (items (length ts) [] 0 ts) (λ ss us. Ok ((block (stmts_of ss.0), ss.1 + 1), us))
+
+  -- behind `case`, whose expression has a level less than the label
+  abbrev pub after_case : (at : ℕ) → Parse S
+  after_case at ts = read_on (part (m - 1) Conditional ts) (λ e us. read_on (expect punctuators.Colon us) (λ _ vs. Ok ((case_label (unnumbered at) e.0, e.1 + 1), vs)))
+
+  abbrev pub case_of : Parse S
+  case_of [] = unexpected []
+  case_of (t ∷ ts) = if nat_le 2 m then after_case (place (t ∷ ts)) ts else deep (t ∷ ts)
+
+  abbrev pub after_default : (at : ℕ) → Parse S
+  after_default at ts = read_on (expect punctuators.Colon ts) (λ _ us. Ok ((default_label (unnumbered at), 1), us))
+
+  abbrev pub default_of : Parse S
+  default_of [] = unexpected []
+  default_of (t ∷ ts) = if m == 0 then deep (t ∷ ts) else after_default (place (t ∷ ts)) ts
+
+  -- a label, a declaration where none stands before it, or a statement
+  abbrev pub switch_item : (labelled : Bool) → Parse S
+  switch_item labelled ts =
+      if starts_with keywords.Case ts then case_of ts
+      else if starts_with keywords.Default ts then default_of ts
+      else if labelled then inner ts else item ts
+
+  -- Items of a switch behind these, and the brace at their end. The first number bounds the turns.
+  unfoldable pub switch_items : ℕ → (labelled : Bool) → List StmtTree → ℕ → Parse (List StmtTree × ℕ)
+  switch_items zero labelled done h ts = unexpected ts
+  switch_items (suc n) labelled done h ts =
+      if ends_switch labelled ts then read_on (expect punctuators.CloseBrace ts) (λ _ us. Ok ((done, h), us))
+      else read_on (switch_item labelled ts) (λ s us. switch_items n (begins_label ts) (done ++ s.0 ∷ []) (max h s.1) us)
+
+  -- the braces of a switch
+  abbrev pub switch_block_at : Parse (List StmtTree × ℕ)
+  switch_block_at ts = read_on (expect punctuators.OpenBrace ts) (λ _ us. read_on (switch_items (length us) false [] 0 us) (λ ss vs. Ok ((ss.0, ss.1 + 1), vs)))
 
   abbrev pub after_then : (at : ℕ) → E → S → Parse S
   after_then at e s ts =
@@ -109,25 +150,37 @@ module _ (m : ℕ) (inner : Parse S) where
       else if is_keyword keywords.Return t then after_return at ts
       else running (t ∷ ts)
 
-  abbrev pub keyword_statement : (at : ℕ) → (first : Terminal) → Parse S
-  keyword_statement at t ts =
-      if is_keyword keywords.If t then (if m == 0 then deep (t ∷ ts) else after_if at ts)
-      else if is_keyword keywords.While t then (if m == 0 then deep (t ∷ ts) else after_while at ts)
-      else if is_keyword keywords.Do t then (if m == 0 then deep (t ∷ ts) else after_do at ts)
-      else if is_keyword keywords.For t then (if m == 0 then deep (t ∷ ts) else after_for at ts)
-      else plain_statement at t ts
+  -- `braces` reads those of a switch
+  module _ (braces : Parse (List StmtTree × ℕ)) where
+    abbrev pub after_switch : (at : ℕ) → Parse S
+    after_switch at ts = read_on (condition m ts) (λ e us. read_on (braces us) (λ ss vs. Ok ((switch (unnumbered at) e.0 (stmts_of ss.0), max e.1 ss.1 + 1), vs)))
 
-  abbrev pub statement_at : Parse S
-  statement_at [] = unexpected []
-  statement_at (t ∷ ts) =
-      if is_punctuator punctuators.Semicolon t then Ok ((empty (unnumbered (place (t ∷ ts))), 1), ts)
-      else if is_punctuator punctuators.OpenBrace t then in_block ts
-      else keyword_statement (place (t ∷ ts)) t ts
+    abbrev pub keyword_statement : (at : ℕ) → (first : Terminal) → Parse S
+    keyword_statement at t ts =
+        if is_keyword keywords.If t then (if m == 0 then deep (t ∷ ts) else after_if at ts)
+        else if is_keyword keywords.While t then (if m == 0 then deep (t ∷ ts) else after_while at ts)
+        else if is_keyword keywords.Do t then (if m == 0 then deep (t ∷ ts) else after_do at ts)
+        else if is_keyword keywords.For t then (if m == 0 then deep (t ∷ ts) else after_for at ts)
+        else if is_keyword keywords.Switch t then (if m == 0 then deep (t ∷ ts) else after_switch at ts)
+        else plain_statement at t ts
+
+    abbrev pub statement_at : Parse S
+    statement_at [] = unexpected []
+    statement_at (t ∷ ts) =
+        if is_punctuator punctuators.Semicolon t then Ok ((empty (unnumbered (place (t ∷ ts))), 1), ts)
+        else if is_punctuator punctuators.OpenBrace t then in_block ts
+        else keyword_statement (place (t ∷ ts)) t ts
 
 -- what is at most n high
-unfoldable pub statement : ℕ → Parse S
-statement zero ts = if begins_statement ts then deep ts else unexpected ts
-statement (suc m) ts = statement_at m (statement m) ts
+unfoldable mutual
+  pub statement : ℕ → Parse S
+  statement zero ts = if begins_statement ts then deep ts else unexpected ts
+  statement (suc m) ts = statement_at m (statement m) (switch_block m) ts
+
+  -- the braces of a switch, with what stands between them
+  pub switch_block : ℕ → Parse (List StmtTree × ℕ)
+  switch_block zero ts = if starts punctuators.OpenBrace ts then deep ts else unexpected ts
+  switch_block (suc m) ts = switch_block_at m (statement m) ts
 
 -- ---- at file scope, where what is given is at most k + 2 high
 

@@ -1,6 +1,6 @@
 -- The numbers of tokens and nodes aren't printed: what a map over the nodes leaves is printed as before.
 use Rattle.std.proofs.Common.{◌≡◌, ℕ, Bool, true, false, List, [], ◌∷◌, Option, Some, None, flat_map, refl}
-use Rattle.qs_syntax.specs.Trees.{ExprTree, expr, ShapeTree, constant, text, name, unary, step, cast, sizeof_type, sizeof_expr, binary, assign, conditional, comma, subscript, member, call, Exprs, no_exprs, expr_and, LengthsTree, DeclaratorTree, InitialiserTree, value, list, Initialisers, no_initialisers, initialiser_and, VariableTree, DeclarationTree, ParameterTree, MembersTree, StartTree, no_start, start_expression, start_declaration, StmtTree, empty, expression, declaration, block, branch, while_loop, do_loop, for_loop, break, continue, return, Stmts, no_stmts, stmt_and, Else, no_else, else_by, StructTree, FunctionTree, DefinedTree, of_struct, of_base, TypedefTree, DeclTree, structure, forward, function, variables, typedef}
+use Rattle.qs_syntax.specs.Trees.{ExprTree, expr, ShapeTree, constant, text, name, unary, step, cast, sizeof_type, sizeof_expr, binary, assign, conditional, comma, subscript, member, call, Exprs, no_exprs, expr_and, LengthsTree, DeclaratorTree, InitialiserTree, value, list, Initialisers, no_initialisers, initialiser_and, VariableTree, DeclarationTree, ParameterTree, MembersTree, StartTree, no_start, start_expression, start_declaration, StmtTree, empty, expression, declaration, block, switch, case_label, default_label, branch, while_loop, do_loop, for_loop, break, continue, return, Stmts, no_stmts, stmt_and, Else, no_else, else_by, StructTree, FunctionTree, DefinedTree, of_struct, of_base, TypedefTree, DeclTree, structure, forward, function, variables, typedef}
 use Rattle.qs_syntax.specs.Nodes.{all_count, decl_count, declarator_count, defined_count, expr_count, initialiser_count, members_count, option_count, parameter_count, start_count, stmt_count, variable_count}
 use Rattle.qs_syntax.specs.Numbering.{Relabelling, relabel_all, relabel_decl, relabel_declaration, relabel_declarator, relabel_defined, relabel_else, relabel_expr, relabel_exprs, relabel_function, relabel_initialiser, relabel_initialisers, relabel_lengths, relabel_members, relabel_option, relabel_parameter, relabel_shape, relabel_start, relabel_stmt, relabel_stmts, relabel_struct, relabel_typedef, relabel_unit, relabel_variable}
 use Rattle.qs_print.specs.Levels.{assignment_level, conditional_level, level, shape_level}
@@ -147,6 +147,9 @@ module _ (f : Relabelling) where
     stmt_same n (expression node e) = rw (expr_same (f.onward n 1) e) refl
     stmt_same n (declaration d) = declaration_same n d
     stmt_same n (block ss) = rw (stmts_same n ss) refl
+    stmt_same n (switch node e ss) = let i : ℕ = f.onward n 1 in rw (expr_same i e, stmts_same (f.onward i (expr_count e)) ss) refl
+    stmt_same n (case_label node e) = rw (part_same conditional_level (f.onward n 1) e) refl
+    stmt_same n (default_label node) = refl
     stmt_same n (branch node e s r) =
         let i : ℕ = f.onward n 1 in
         let j : ℕ = f.onward i (expr_count e) in

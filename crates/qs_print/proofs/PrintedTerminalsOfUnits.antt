@@ -6,9 +6,9 @@ use Rattle.std.specs.Cmp.{first_so, second_so}
 use Rattle.qs_base.specs.Names.{is_name}
 use Rattle.qs_syntax_vocabulary.specs.WellFormed.{is_well_formed}
 use Rattle.qs_syntax_vocabulary.specs.declared.terminal.Terminal.{Terminal}
-use Rattle.qs_syntax.specs.Trees.{unnumbered, ExprTree, LengthsTree, DeclaratorTree, InitialiserTree, Initialisers, VariableTree, DeclarationTree, ParameterTree, MembersTree, DefinedTree, StartTree, StmtTree, Stmts, DeclTree}
+use Rattle.qs_syntax.specs.Trees.{unnumbered, ExprTree, LengthsTree, DeclaratorTree, InitialiserTree, Initialisers, VariableTree, DeclarationTree, ParameterTree, MembersTree, DefinedTree, StartTree, StmtTree, Stmts, DeclTree, block}
 use Rattle.qs_syntax.specs.ReadsDeclarations.{ReadsGiven, no_length, a_length, ReadsLengths, are_given, first_open, ReadsDeclarator, a_declarator, ReadsInitialiser, a_value, a_list, ReadsInitialisers, a_last_initialiser, a_last_with_comma, an_initialiser, ReadsVariable, an_unset_variable, a_set_variable, ReadsVariables, a_last_variable, a_variable, ReadsDeclaration, a_declaration, ReadsOuterDeclaration, an_outer_declaration, ReadsDeclarators, a_last_member, a_member, ReadsMembers, a_group, ReadsAllMembers, a_last_group, a_further_group, ReadsParameter, a_named_parameter, an_unnamed_parameter, ReadsParameters, a_last_parameter, a_parameter, ReadsHead, no_parameter, a_void_head, some_parameters}
-use Rattle.qs_syntax.specs.ReadsStatements.{ReadsOptional, nothing_there, something_there, ReadsStart, a_start_declaration, a_start_expression, no_start_at_all, ReadsStatement, a_block, an_empty, an_expression, an_if, an_if_with_else, a_while, a_do, a_for, a_break, a_continue, a_return, ReadsItem, a_statement, a_declared, ReadsItems, no_item, an_item}
+use Rattle.qs_syntax.specs.ReadsStatements.{ReadsOptional, nothing_there, something_there, ReadsStart, a_start_declaration, a_start_expression, no_start_at_all, ReadsStatement, a_block, an_empty, an_expression, an_if, an_if_with_else, a_while, a_do, a_for, a_switch, a_break, a_continue, a_return, ReadsItem, a_statement, a_declared, ReadsItems, no_item, an_item, ReadsLabel, a_case, a_default, ReadsSwitchBlock, in_braces, ReadsSwitchItem, a_label, a_switch_statement, a_switch_declaration, ReadsSwitchItems, no_switch_item, a_switch_item}
 use Rattle.qs_syntax.specs.ReadsUnits.{ReadsPlain, a_struct_with_members, a_forward, a_header, a_definition, some_variables, ReadsDefined, a_struct_with_tag, a_struct_without_tag, a_known_type, ReadsTypeNames, a_last_name, a_name_before, ReadsExternal, a_plain_external, a_typedef, ReadsExternals, a_last_external, an_external}
 use Rattle.qs_syntax.specs.ReadsTypes.{Names, Any, ReadsName}
 use Rattle.qs_syntax_vocabulary.specs.Marks.{NameSet, mark, marked, is_in}
@@ -133,6 +133,10 @@ start_are (a_start_declaration r) h = declaration_are r h
 start_are (a_start_expression {ts = ts} {e = e} s r) h = join is_well_formed (printed_expr e) _ (expr_are r (left is_well_formed ts _ h)) refl
 start_are (no_start_at_all s) h = refl
 
+label_are : {n : ℕ} {ts : List Terminal} {s : StmtTree} → ReadsLabel n ts s → Are ts → Are (printed_stmt s)
+label_are (a_case {ts = ts} {e = e} at c r) h = join is_well_formed (within 13 e (printed_expr e)) _ (within_are 13 e (expr_are r (left is_well_formed ts _ h))) refl
+label_are (a_default at c) h = refl
+
 mutual
   statement_are : {n : ℕ} {ts : List Terminal} {s : StmtTree} → ReadsStatement n ts s → Are ts → Are (printed_stmt s)
   statement_are (a_block {ts = ts} {ss = ss} o c r) h = join is_well_formed (printed_stmts ss) _ (items_are r (left is_well_formed ts _ h)) refl
@@ -151,6 +155,7 @@ mutual
       (join is_well_formed (printed_start start) _ (start_are r (left is_well_formed ws _ h))
       (join is_well_formed (printed_optional e) _ (optional_are p (left is_well_formed xs _ (right is_well_formed ws _ h))) (optional_are q (left is_well_formed ys _ (right is_well_formed xs _ (right is_well_formed ws _ h))))))
       (statement_are t (right is_well_formed ys _ (right is_well_formed xs _ (right is_well_formed ws _ h))))
+  statement_are (a_switch {xs = xs} {e = e} at o c r t) h = parentheses_are (printed_expr e) _ (expr_are r (left is_well_formed xs _ h)) (braces_are t (right is_well_formed xs _ h))
   statement_are (a_break at s) h = refl
   statement_are (a_continue at s) h = refl
   statement_are (a_return {ts = ts} {e = e} at s r) h = join is_well_formed (printed_optional e) _ (optional_are r (left is_well_formed ts _ h)) refl
@@ -162,6 +167,18 @@ mutual
   items_are : {n : ℕ} {ts : List Terminal} {ss : Stmts} → ReadsItems n ts ss → Are ts → Are (printed_stmts ss)
   items_are no_item h = refl
   items_are (an_item {xs = xs} {s = s} {ss = ss} r t) h = join is_well_formed (printed_stmt s) (printed_stmts ss) (item_are r (left is_well_formed xs _ h)) (items_are t (right is_well_formed xs _ h))
+
+  braces_are : {n : ℕ} {ts : List Terminal} {ss : Stmts} → ReadsSwitchBlock n ts ss → Are ts → Are (printed_stmt (block ss))
+  braces_are (in_braces {ts = ts} {ss = ss} o c r) h = join is_well_formed (printed_stmts ss) _ (switch_items_are r (left is_well_formed ts _ h)) refl
+
+  switch_item_are : {labelled labels : Bool} {n : ℕ} {ts : List Terminal} {s : StmtTree} → ReadsSwitchItem labelled labels n ts s → Are ts → Are (printed_stmt s)
+  switch_item_are (a_label r) h = label_are r h
+  switch_item_are (a_switch_statement r) h = statement_are r h
+  switch_item_are (a_switch_declaration r) h = declaration_are r h
+
+  switch_items_are : {labelled : Bool} {n : ℕ} {ts : List Terminal} {ss : Stmts} → ReadsSwitchItems labelled n ts ss → Are ts → Are (printed_stmts ss)
+  switch_items_are no_switch_item h = refl
+  switch_items_are (a_switch_item {xs = xs} {s = s} {ss = ss} r t) h = join is_well_formed (printed_stmt s) (printed_stmts ss) (switch_item_are r (left is_well_formed xs _ h)) (switch_items_are t (right is_well_formed xs _ h))
 
 -- ---- what stands at file scope
 

@@ -1,21 +1,21 @@
 -- The printed terminals of statements that were read are read as them again, no higher.
-use Rattle.std.proofs.Common.{◌≡◌, ℕ, suc, ◌+◌, false, List, [], ◌∷◌, ◌++◌, length, Option, Some, None, refl, ap, sym, ◌∙◌, append-nil, append_assoc, arith}
+use Rattle.std.proofs.Common.{◌≡◌, ℕ, suc, ◌+◌, Bool, false, List, [], ◌∷◌, ◌++◌, length, Option, Some, None, refl, ap, sym, ◌∙◌, append-nil, append_assoc, arith}
 use Rattle.std.specs.Prelude.{max}
 use Rattle.qs_syntax_vocabulary.specs.declared.terminal.Terminal.{Terminal}
 use Rattle.qs_syntax_vocabulary.specs.declared.terminal.Terminal.TheVariants.{Keyword, Punctuator}
 use Rattle.qs_base.specs.declared.keyword.Keyword.TheVariants as keywords
 use Rattle.qs_syntax_vocabulary.specs.declared.punctuator.Punctuator.TheVariants as punctuators
-use Rattle.qs_syntax.specs.Trees.{unnumbered, ExprTree, StartTree, no_start, start_expression, start_declaration, StmtTree, empty, expression, declaration, block, branch, while_loop, do_loop, for_loop, break, continue, return, Stmts, no_stmts, stmt_and, Else, no_else, else_by}
+use Rattle.qs_syntax.specs.Trees.{unnumbered, ExprTree, StartTree, no_start, start_expression, start_declaration, StmtTree, empty, expression, declaration, block, switch, case_label, default_label, branch, while_loop, do_loop, for_loop, break, continue, return, Stmts, no_stmts, stmt_and, Else, no_else, else_by}
 use Rattle.qs_syntax.specs.Reads.{place}
 use Rattle.qs_syntax.specs.ReadsDeclarations.{ReadsDeclaration}
-use Rattle.qs_syntax.specs.ReadsStatements.{is_open, is_open_end, ReadsOptional, nothing_there, something_there, ReadsStart, a_start_declaration, a_start_expression, no_start_at_all, ReadsStatement, a_block, an_empty, an_expression, an_if, an_if_with_else, a_while, a_do, a_for, a_break, a_continue, a_return, ReadsItem, a_statement, a_declared, ReadsItems, no_item, an_item}
+use Rattle.qs_syntax.specs.ReadsStatements.{is_open, is_open_end, ReadsOptional, nothing_there, something_there, ReadsStart, a_start_declaration, a_start_expression, no_start_at_all, ReadsStatement, a_block, an_empty, an_expression, an_if, an_if_with_else, a_while, a_do, a_for, a_switch, a_break, a_continue, a_return, ReadsItem, a_statement, a_declared, ReadsItems, no_item, an_item, ReadsLabel, a_case, a_default, ReadsSwitchBlock, in_braces, ReadsSwitchItem, a_label, a_switch_statement, a_switch_declaration, ReadsSwitchItems, no_switch_item, a_switch_item}
 use Rattle.qs_syntax.specs.Numbering.{bare, relabel_expr}
-use Rattle.qs_print.specs.Printed.{in_parentheses, printed_declaration, printed_expr, printed_optional, printed_start, printed_stmt, printed_stmts}
+use Rattle.qs_print.specs.Printed.{in_parentheses, printed_declaration, printed_expr, printed_part, printed_optional, printed_start, printed_stmt, printed_stmts}
 use Rattle.qs_syntax.specs.WithoutTokens.{plain_declaration, plain_else, plain_start, plain_stmt, plain_stmts}
 use Rattle.qs_print.proofs.PrintedTerminals.{left, right}
 use Rattle.qs_print.proofs.Rereading.{some_plain, fits, Fit, Again, Reread, seen, seen_append, behind, enclosed}
 use Rattle.qs_syntax_vocabulary.specs.Marks.{NameSet}
-use Rattle.qs_print.proofs.RereadExpressions.{at_whole, law, whole}
+use Rattle.qs_print.proofs.RereadExpressions.{at_part, at_whole, law, part, whole}
 use Rattle.qs_print.proofs.RereadDeclarations.{declaration_law}
 
 -- ---- an `else` that follows
@@ -26,6 +26,9 @@ mutual
   plain_is_open (expression node e) = refl
   plain_is_open (declaration d) = refl
   plain_is_open (block ss) = refl
+  plain_is_open (switch node e ss) = refl
+  plain_is_open (case_label node e) = refl
+  plain_is_open (default_label node) = refl
   plain_is_open (branch node e s rest) = plain_is_open_end rest
   plain_is_open (while_loop node e s) = plain_is_open s
   plain_is_open (do_loop node s e) = refl
@@ -77,6 +80,21 @@ module _ (set : NameSet) where
 
   abbrev at_items : (h n : ℕ) (ss : Stmts) → Type 0
   at_items h n ss = Again ReadsItems plain_stmts h (seen set n (printed_stmts ss)) ss
+
+  abbrev at_switch_items : (labelled : Bool) (h n : ℕ) (ss : Stmts) → Type 0
+  at_switch_items labelled h n ss = Again (ReadsSwitchItems labelled) plain_stmts h (seen set n (printed_stmts ss)) ss
+
+  abbrev at_braces : (h n : ℕ) (ss : Stmts) → Type 0
+  at_braces h n ss = Again ReadsSwitchBlock plain_stmts h (seen set n (printed_stmt (block ss))) ss
+
+  label_law : {h : ℕ} {ts : List Terminal} {s : StmtTree} → ReadsLabel h ts s → Fit set ts → Reread set ReadsLabel plain_stmt h (printed_stmt s) s
+  label_law (a_case {h = h} {ts = ts} {e = e} at c r) f = record {
+    from = λ n.
+        let p : at_part set 13 h (n + 1) e = (part set 13 h e (law set r tt (left (fits set) ts _ f))).from (n + 1) in
+        rw (seen_append set (n + 1) (printed_part 13 e) (Punctuator 0 punctuators.Colon ∷ []))
+        (record { height = suc p.height; tree = case_label (unnumbered n) p.tree; reads = a_case n (n + 1 + length (printed_part 13 e)) p.reads; low = omega arith; same = ap (case_label (unnumbered 0)) p.same });
+  }
+  label_law (a_default at c) f = record { from = λ n. record { height = 1; tree = default_label (unnumbered n); reads = a_default n (n + 1); low = omega arith; same = refl } }
 
   -- ---- statements
 
@@ -160,6 +178,14 @@ module _ (set : NameSet) where
             same = rw (p.same, q.same, g.same, b.same) refl;
           });
     }
+    statement_law (a_switch {h = h} {k = k} {xs = xs} {e = e} {ss = ss} at o c r t) f = record {
+      from = λ n.
+          let m : ℕ = behind (n + 1) (printed_expr e) in
+          let p : at_whole set h (n + 1 + 1) e = (whole set h e (law set r tt (left (fits set) xs _ f))).from (n + 1 + 1) in
+          let q : at_braces k m ss = (braces_law t (right (fits set) xs _ f)).from m in
+          rw (enclosed set (n + 1) (printed_expr e) (printed_stmt (block ss)))
+          (record { height = suc (max p.height q.height); tree = switch (unnumbered n) p.tree q.tree; reads = a_switch n (n + 1) (n + 1 + 1 + length (printed_expr e)) p.reads q.reads; low = omega arith; same = rw (p.same, q.same) refl });
+    }
     statement_law (a_break at s) f = record { from = λ n. record { height = 1; tree = break (unnumbered n); reads = a_break n (n + 1); low = omega arith; same = refl } }
     statement_law (a_continue at s) f = record { from = λ n. record { height = 1; tree = continue (unnumbered n); reads = a_continue n (n + 1); low = omega arith; same = refl } }
     statement_law (a_return {h = h} {ts = ts} {e = e} at s r) f = record {
@@ -190,4 +216,40 @@ module _ (set : NameSet) where
           let q : at_items k m ss = (items_law t (right (fits set) xs _ f)).from m in
           rw (seen_append set n (printed_stmt s) (printed_stmts ss))
           (record { height = max p.height q.height; tree = stmt_and p.tree q.tree; reads = an_item p.reads q.reads; low = omega arith; same = rw (p.same, q.same) refl });
+    }
+
+    braces_law : {h : ℕ} {ts : List Terminal} {ss : Stmts} → ReadsSwitchBlock h ts ss → Fit set ts → Reread set ReadsSwitchBlock plain_stmts h (printed_stmt (block ss)) ss
+    braces_law (in_braces {h = h} {ts = ts} {ss = ss} o c r) f = record {
+      from = λ n.
+          let p : at_switch_items false h (n + 1) ss = (switch_items_law r (left (fits set) ts _ f)).from (n + 1) in
+          rw (seen_append set (n + 1) (printed_stmts ss) (Punctuator 0 punctuators.CloseBrace ∷ []))
+          (record { height = suc p.height; tree = p.tree; reads = in_braces n (n + 1 + length (printed_stmts ss)) p.reads; low = omega arith; same = p.same });
+    }
+
+    switch_item_law : {labelled labels : Bool} {h : ℕ} {ts : List Terminal} {s : StmtTree} → ReadsSwitchItem labelled labels h ts s → Fit set ts → Reread set (ReadsSwitchItem labelled labels) plain_stmt h (printed_stmt s) s
+    switch_item_law (a_label {h = h} {s = s} r) f = record {
+      from = λ n.
+          let p : Again ReadsLabel plain_stmt h (seen set n (printed_stmt s)) s = (label_law r f).from n in
+          record { height = p.height; tree = p.tree; reads = a_label p.reads; low = p.low; same = p.same };
+    }
+    switch_item_law (a_switch_statement {h = h} {s = s} r) f = record {
+      from = λ n.
+          let p : at_stmt h n s = (statement_law r f).from n in
+          record { height = p.height; tree = p.tree; reads = a_switch_statement p.reads; low = p.low; same = p.same };
+    }
+    switch_item_law (a_switch_declaration {h = h} {d = d} r) f = record {
+      from = λ n.
+          let p : Again ReadsDeclaration plain_declaration h (seen set n (printed_declaration d)) d = (declaration_law set r f).from n in
+          record { height = p.height; tree = declaration p.tree; reads = a_switch_declaration p.reads; low = p.low; same = ap declaration p.same };
+    }
+
+    switch_items_law : {labelled : Bool} {h : ℕ} {ts : List Terminal} {ss : Stmts} → ReadsSwitchItems labelled h ts ss → Fit set ts → Reread set (ReadsSwitchItems labelled) plain_stmts h (printed_stmts ss) ss
+    switch_items_law no_switch_item f = record { from = λ n. record { height = 0; tree = no_stmts; reads = no_switch_item; low = omega arith; same = refl } }
+    switch_items_law (a_switch_item {labelled = labelled} {labels = labels} {h = h} {k = k} {xs = xs} {s = s} {ss = ss} r t) f = record {
+      from = λ n.
+          let m : ℕ = n + length (printed_stmt s) in
+          let p : Again (ReadsSwitchItem labelled labels) plain_stmt h (seen set n (printed_stmt s)) s = (switch_item_law r (left (fits set) xs _ f)).from n in
+          let q : at_switch_items labels k m ss = (switch_items_law t (right (fits set) xs _ f)).from m in
+          rw (seen_append set n (printed_stmt s) (printed_stmts ss))
+          (record { height = max p.height q.height; tree = stmt_and p.tree q.tree; reads = a_switch_item p.reads q.reads; low = omega arith; same = rw (p.same, q.same) refl });
     }

@@ -17,8 +17,8 @@ use Rattle.qs_syntax.specs.declared.statements.Start.{Start}
 use Rattle.qs_syntax.specs.declared.statements.Stmt.{Stmt, Stmt-F, fold-roll-Stmt}
 use Rattle.qs_syntax.specs.declared.statements.Stmt.TheVariants as stmts
 use Rattle.qs_syntax.specs.declared.types.TypeName.{TypeName}
-use Rattle.qs_syntax.specs.TreeOf.{expr_step, expr_tree, exprs_tree, else_tree, initialiser_step, initialiser_tree, initialisers_tree, list_step, option_tree, shape_step, shape_tree, start_tree, stmt_step, stmt_tree}
-use Rattle.qs_syntax.specs.Trees.{ExprTree, InitialiserTree, ShapeTree, StmtTree, list, branch, do_loop, expression, for_loop, return, while_loop, assign, binary, call, cast, conditional, comma, subscript, member, sizeof_expr, sizeof_type}
+use Rattle.qs_syntax.specs.TreeOf.{expr_step, expr_tree, exprs_tree, else_tree, initialiser_step, initialiser_tree, initialisers_tree, list_step, option_tree, shape_step, shape_tree, start_tree, stmt_step, stmt_tree, stmts_tree}
+use Rattle.qs_syntax.specs.Trees.{ExprTree, InitialiserTree, ShapeTree, StmtTree, list, switch, branch, do_loop, expression, for_loop, return, while_loop, assign, binary, call, cast, conditional, comma, subscript, member, sizeof_expr, sizeof_type}
 
 pub cast_tree : (type : TypeName) (a : Box Expr Global) → shape_tree (shapes.Cast type a) ≡ cast type (expr_tree a.value)
 cast_tree type a = ap shape_tree (sym (shapes.rolls-Cast type a)) ∙ fold-roll-Shape ShapeTree ExprTree shape_step expr_step (Shape-F.Cast type a)
@@ -52,6 +52,9 @@ call_tree f es = ap shape_tree (sym (shapes.rolls-Call f es)) ∙ fold-roll-Shap
 
 pub expression_tree : (n : Node) (e : Expr) → stmt_tree (stmts.Expression n e) ≡ expression n (expr_tree e)
 expression_tree n e = ap stmt_tree (sym (stmts.rolls-Expression n e)) ∙ fold-roll-Stmt StmtTree stmt_step (Stmt-F.Expression n e)
+
+pub switch_tree : (n : Node) (e : Expr) (items : Vec Stmt Global) → stmt_tree (stmts.Switch n e items) ≡ switch n (expr_tree e) (stmts_tree items.items)
+switch_tree n e items = ap stmt_tree (sym (stmts.rolls-Switch n e items)) ∙ fold-roll-Stmt StmtTree stmt_step (Stmt-F.Switch n e items)
 
 pub while_loop_tree : (n : Node) (e : Expr) (s : Box Stmt Global) → stmt_tree (stmts.While n e s) ≡ while_loop n (expr_tree e) (stmt_tree s.value)
 while_loop_tree n e s = ap stmt_tree (sym (stmts.rolls-While n e s)) ∙ fold-roll-Stmt StmtTree stmt_step (Stmt-F.While n e s)

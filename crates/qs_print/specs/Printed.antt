@@ -10,7 +10,7 @@ use Rattle.qs_syntax.specs.declared.types.Base.{Base}
 use Rattle.qs_syntax.specs.declared.types.Base.TheVariants as bases
 use Rattle.qs_syntax.specs.declared.types.TypeName.{TypeName}
 use Rattle.qs_syntax_vocabulary.specs.declared.operators.StepOperator.{StepOperator}
-use Rattle.qs_syntax.specs.Trees.{ExprTree, expr, ShapeTree, constant, text, name, unary, step, cast, sizeof_type, sizeof_expr, binary, assign, conditional, comma, subscript, member, call, Exprs, no_exprs, expr_and, LengthsTree, DeclaratorTree, InitialiserTree, value, list, Initialisers, no_initialisers, initialiser_and, VariableTree, DeclarationTree, ParameterTree, MembersTree, StartTree, no_start, start_expression, start_declaration, StmtTree, empty, expression, declaration, block, branch, while_loop, do_loop, for_loop, break, continue, return, Stmts, no_stmts, stmt_and, Else, no_else, else_by, StructTree, ForwardTree, FunctionTree, DefinedTree, of_struct, of_base, TypedefTree, DeclTree, structure, forward, function, variables, typedef}
+use Rattle.qs_syntax.specs.Trees.{ExprTree, expr, ShapeTree, constant, text, name, unary, step, cast, sizeof_type, sizeof_expr, binary, assign, conditional, comma, subscript, member, call, Exprs, no_exprs, expr_and, LengthsTree, DeclaratorTree, InitialiserTree, value, list, Initialisers, no_initialisers, initialiser_and, VariableTree, DeclarationTree, ParameterTree, MembersTree, StartTree, no_start, start_expression, start_declaration, StmtTree, empty, expression, declaration, block, switch, case_label, default_label, branch, while_loop, do_loop, for_loop, break, continue, return, Stmts, no_stmts, stmt_and, Else, no_else, else_by, StructTree, ForwardTree, FunctionTree, DefinedTree, of_struct, of_base, TypedefTree, DeclTree, structure, forward, function, variables, typedef}
 use Rattle.qs_syntax_vocabulary.specs.Operators.{precedence, punctuator_of_access, punctuator_of_assign, punctuator_of_binary, punctuator_of_step, punctuator_of_unary, stands_before}
 use Rattle.qs_print.specs.Levels.{assignment_level, cast_level, conditional_level, level, or_level, postfix_level, step_level, unary_level}
 
@@ -187,6 +187,13 @@ printed_parameters (p ∷ ps) = with_commas printed_parameter (p ∷ ps)
 abbrev pub printed_jump : Word → List Terminal
 printed_jump keyword = Keyword 0 keyword ∷ Punctuator 0 punctuators.Semicolon ∷ []
 
+-- labels of a switch
+abbrev pub printed_case : ExprTree → List Terminal
+printed_case e = Keyword 0 keywords.Case ∷ (printed_part conditional_level e ++ Punctuator 0 punctuators.Colon ∷ [])
+
+abbrev pub printed_default : List Terminal
+printed_default = Keyword 0 keywords.Default ∷ Punctuator 0 punctuators.Colon ∷ []
+
 abbrev pub printed_optional : Option ExprTree → List Terminal
 printed_optional None = []
 printed_optional (Some e) = printed_expr e
@@ -202,6 +209,10 @@ abbrev mutual
   printed_stmt (expression node e) = printed_expr e ++ Punctuator 0 punctuators.Semicolon ∷ []
   printed_stmt (declaration d) = printed_declaration d
   printed_stmt (block ss) = Punctuator 0 punctuators.OpenBrace ∷ (printed_stmts ss ++ Punctuator 0 punctuators.CloseBrace ∷ [])
+  printed_stmt (switch node e ss) =
+      Keyword 0 keywords.Switch ∷ (in_parentheses (printed_expr e) ++ Punctuator 0 punctuators.OpenBrace ∷ (printed_stmts ss ++ Punctuator 0 punctuators.CloseBrace ∷ []))
+  printed_stmt (case_label node e) = printed_case e
+  printed_stmt (default_label node) = printed_default
   printed_stmt (branch node e s rest) = Keyword 0 keywords.If ∷ (in_parentheses (printed_expr e) ++ (printed_stmt s ++ printed_else rest))
   printed_stmt (while_loop node e s) = Keyword 0 keywords.While ∷ (in_parentheses (printed_expr e) ++ printed_stmt s)
   printed_stmt (do_loop node s e) =

@@ -1,14 +1,16 @@
 // Writes statements (C11 6.8).
 ghost use Rattle.std.specs.Prelude.{OnOk, flat_map, map};
 ghost use Rattle.qs_print.specs.Printed.{printed_else, printed_optional, printed_start};
-ghost use Rattle.qs_print.specs.Printed.{printed_stmt, printed_jump};
+ghost use Rattle.qs_print.specs.Printed.{printed_stmt, printed_jump, printed_case, printed_default};
 ghost use Rattle.qs_print.specs.Words.{Puts};
-ghost use Rattle.qs_syntax.specs.TreeOf.{else_tree, option_tree, start_tree, stmt_tree, stmts_tree};
+ghost use Rattle.qs_syntax.specs.TreeOf.{else_tree, expr_tree, option_tree};
+ghost use Rattle.qs_syntax.specs.TreeOf.{start_tree, stmt_tree, stmts_tree};
 ghost use Rattle.qs_syntax.specs.Trees.{block};
 ghost use Rattle.qs_print.specs.Rows.{for_head};
 
 use crate::declarations::put_declaration;
-use crate::expressions::{put_expr, put_in_parentheses};
+use crate::expressions::{put_expr, put_in_parentheses, put_part};
+use crate::levels::CONDITIONAL;
 use crate::words::{put_keyword, put_punctuator};
 use qs_base::NoMemory;
 use qs_syntax::{Expr, Start, Stmt};
@@ -60,7 +62,22 @@ fn put_jump(out: &mut Vec<u8>, keyword: Keyword) -> Result<(), NoMemory>
     put_punctuator(out, Punctuator::Semicolon)
 }
 
-/// Writes a statement or a declaration of a block.
+fn put_case(out: &mut Vec<u8>, e: &Expr) -> Result<(), NoMemory>
+    ensures { OnOk result (Puts out.old (printed_case (expr_tree e.now)) out.new) }
+{
+    put_keyword(out, Keyword::Case)?;
+    put_part(out, CONDITIONAL, e)?;
+    put_punctuator(out, Punctuator::Colon)
+}
+
+fn put_default(out: &mut Vec<u8>) -> Result<(), NoMemory>
+    ensures { OnOk result (Puts out.old printed_default out.new) }
+{
+    put_keyword(out, Keyword::Default)?;
+    put_punctuator(out, Punctuator::Colon)
+}
+
+/// Writes a statement, a declaration of a block, or a label of a switch.
 #[cycle(put_stmt)]
 pub fn put_stmt(out: &mut Vec<u8>, s: &Stmt) -> Result<(), NoMemory>
     ensures { OnOk result (Puts out.old (printed_stmt (stmt_tree s.now)) out.new) }
@@ -73,6 +90,17 @@ pub fn put_stmt(out: &mut Vec<u8>, s: &Stmt) -> Result<(), NoMemory>
         }
         Stmt::Declaration(d) => put_declaration(out, d),
         Stmt::Block(items) => put_block(out, items),
+        Stmt::Switch {
+            node: _,
+            operand,
+            items,
+        } => {
+            put_keyword(out, Keyword::Switch)?;
+            put_in_parentheses(out, operand)?;
+            put_block(out, items)
+        }
+        Stmt::Case(_, e) => put_case(out, e),
+        Stmt::Default(_) => put_default(out),
         Stmt::If {
             node: _,
             condition,

@@ -3,7 +3,7 @@ use Rattle.std.proofs.Common.{◌≡◌, ℕ, ◌+◌, zero, suc, List, [], ◌�
 use Rattle.std.specs.List.{slice_get}
 use Rattle.std.proofs.lemmas.List.{map-append, length-append}
 use Rattle.qs_syntax.specs.declared.nodes.Node.{Node}
-use Rattle.qs_syntax.specs.Trees.{ExprTree, expr, ShapeTree, constant, text, name, unary, step, cast, sizeof_type, sizeof_expr, binary, assign, conditional, comma, subscript, member, call, Exprs, no_exprs, expr_and, LengthsTree, DeclaratorTree, InitialiserTree, value, list, Initialisers, no_initialisers, initialiser_and, VariableTree, DeclarationTree, ParameterTree, MembersTree, StartTree, no_start, start_expression, start_declaration, StmtTree, empty, expression, declaration, block, branch, while_loop, do_loop, for_loop, break, continue, return, Stmts, no_stmts, stmt_and, Else, no_else, else_by, StructTree, DefinedTree, of_struct, of_base, TypedefTree, FunctionTree, DeclTree, structure, forward, typedef, function, variables, UnitTree}
+use Rattle.qs_syntax.specs.Trees.{ExprTree, expr, ShapeTree, constant, text, name, unary, step, cast, sizeof_type, sizeof_expr, binary, assign, conditional, comma, subscript, member, call, Exprs, no_exprs, expr_and, LengthsTree, DeclaratorTree, InitialiserTree, value, list, Initialisers, no_initialisers, initialiser_and, VariableTree, DeclarationTree, ParameterTree, MembersTree, StartTree, no_start, start_expression, start_declaration, StmtTree, empty, expression, declaration, block, switch, case_label, default_label, branch, while_loop, do_loop, for_loop, break, continue, return, Stmts, no_stmts, stmt_and, Else, no_else, else_by, StructTree, DefinedTree, of_struct, of_base, TypedefTree, FunctionTree, DeclTree, structure, forward, typedef, function, variables, UnitTree}
 use Rattle.qs_syntax.specs.Nodes.{tokens_of, all_count, option_count, expr_count, shape_count, exprs_count, lengths_count, declarator_count, initialiser_count, initialisers_count, variable_count, declaration_count, parameter_count, members_count, start_count, stmt_count, stmts_count, else_count, struct_count, defined_count, typedef_count, function_count, decl_count, unit_count, all_nodes, option_nodes, expr_nodes, shape_nodes, exprs_nodes, lengths_nodes, declarator_nodes, initialiser_nodes, initialisers_nodes, variable_nodes, declaration_nodes, parameter_nodes, members_nodes, start_nodes, stmt_nodes, stmts_nodes, else_nodes, struct_nodes, defined_nodes, typedef_nodes, function_nodes, decl_nodes, unit_nodes}
 use Rattle.qs_syntax.specs.Numbering.{relabel_nodes, relabel_all, relabel_option, relabel_expr, relabel_shape, relabel_exprs, relabel_lengths, relabel_declarator, relabel_initialiser, relabel_initialisers, relabel_variable, relabel_declaration, relabel_parameter, relabel_members, relabel_start, relabel_stmt, relabel_stmts, relabel_else, relabel_struct, relabel_defined, relabel_typedef, relabel_decl, numbered, numbered_unit}
 
@@ -121,6 +121,9 @@ mutual
   stmt_length (expression node e) = one_node node (expr_nodes e) (expr_count e) (expr_length e)
   stmt_length (declaration d) = declaration_length d
   stmt_length (block ss) = stmts_length ss
+  stmt_length (switch node e ss) = node_two node (expr_nodes e) (stmts_nodes ss) (expr_count e) (stmts_count ss) (expr_length e) (stmts_length ss)
+  stmt_length (case_label node e) = one_node node (expr_nodes e) (expr_count e) (expr_length e)
+  stmt_length (default_label node) = refl
   stmt_length (branch node e s r) = node_three node (expr_nodes e) (stmt_nodes s) (else_nodes r) (expr_count e) (stmt_count s) (else_count r) (expr_length e) (stmt_length s) (else_length r)
   stmt_length (while_loop node e s) = node_two node (expr_nodes e) (stmt_nodes s) (expr_count e) (stmt_count s) (expr_length e) (stmt_length s)
   stmt_length (do_loop node s e) = node_two node (stmt_nodes s) (expr_nodes e) (stmt_count s) (expr_count e) (stmt_length s) (expr_length e)
@@ -257,6 +260,9 @@ mutual
   stmt_at n (expression node e) = ap (λ l. numbered.label n node ∷ l) (expr_at (n + 1) e)
   stmt_at n (declaration d) = declaration_at n d
   stmt_at n (block ss) = stmts_at n ss
+  stmt_at n (switch node e ss) = ap (λ l. numbered.label n node ∷ l) (both_at (n + 1) (expr_count e) (expr_nodes e) (stmts_nodes ss) _ _ (expr_length e) (expr_at (n + 1) e) (stmts_at (n + 1 + expr_count e) ss))
+  stmt_at n (case_label node e) = ap (λ l. numbered.label n node ∷ l) (expr_at (n + 1) e)
+  stmt_at n (default_label node) = refl
   stmt_at n (branch node e s r) =
       let k : ℕ = n + 1 + expr_count e in
       ap (λ l. numbered.label n node ∷ l)

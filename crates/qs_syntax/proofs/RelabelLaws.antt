@@ -1,7 +1,7 @@
 -- A map over the nodes of a tree keeps their count, and one such map behind another is one map.
 use Rattle.std.proofs.Common.{◌≡◌, ℕ, ◌+◌, List, [], ◌∷◌, Option, Some, None, refl, ap}
 use Rattle.qs_syntax.specs.declared.nodes.Node.{Node}
-use Rattle.qs_syntax.specs.Trees.{ExprTree, expr, ShapeTree, constant, text, name, unary, step, cast, sizeof_type, sizeof_expr, binary, assign, conditional, comma, subscript, member, call, Exprs, no_exprs, expr_and, LengthsTree, DeclaratorTree, InitialiserTree, value, list, Initialisers, no_initialisers, initialiser_and, VariableTree, DeclarationTree, ParameterTree, MembersTree, StartTree, no_start, start_expression, start_declaration, StmtTree, empty, expression, declaration, block, branch, while_loop, do_loop, for_loop, break, continue, return, Stmts, no_stmts, stmt_and, Else, no_else, else_by, StructTree, DefinedTree, of_struct, of_base, TypedefTree, FunctionTree, DeclTree, structure, forward, typedef, function, variables, UnitTree}
+use Rattle.qs_syntax.specs.Trees.{ExprTree, expr, ShapeTree, constant, text, name, unary, step, cast, sizeof_type, sizeof_expr, binary, assign, conditional, comma, subscript, member, call, Exprs, no_exprs, expr_and, LengthsTree, DeclaratorTree, InitialiserTree, value, list, Initialisers, no_initialisers, initialiser_and, VariableTree, DeclarationTree, ParameterTree, MembersTree, StartTree, no_start, start_expression, start_declaration, StmtTree, empty, expression, declaration, block, switch, case_label, default_label, branch, while_loop, do_loop, for_loop, break, continue, return, Stmts, no_stmts, stmt_and, Else, no_else, else_by, StructTree, DefinedTree, of_struct, of_base, TypedefTree, FunctionTree, DeclTree, structure, forward, typedef, function, variables, UnitTree}
 use Rattle.qs_syntax.specs.Nodes.{all_count, option_count, expr_count, shape_count, exprs_count, lengths_count, declarator_count, initialiser_count, initialisers_count, variable_count, declaration_count, parameter_count, members_count, start_count, stmt_count, stmts_count, else_count, struct_count, defined_count, typedef_count, function_count, decl_count}
 use Rattle.qs_syntax.specs.Numbering.{Relabelling, relabel_all, relabel_option, relabel_expr, relabel_shape, relabel_exprs, relabel_lengths, relabel_declarator, relabel_initialiser, relabel_initialisers, relabel_variable, relabel_declaration, relabel_parameter, relabel_members, relabel_start, relabel_stmt, relabel_stmts, relabel_else, relabel_struct, relabel_defined, relabel_typedef, relabel_function, relabel_decl, relabel_unit, numbered, bare, numbered_unit}
 use Rattle.qs_syntax.specs.WithoutTokens.{without_tokens}
@@ -85,6 +85,9 @@ module _ (f : Relabelling) where
     stmt_keeps n (expression node e) = ap (λ k. 1 + k) (expr_keeps (f.onward n 1) e)
     stmt_keeps n (declaration d) = declaration_keeps n d
     stmt_keeps n (block ss) = stmts_keeps n ss
+    stmt_keeps n (switch node e ss) = rw (expr_keeps (f.onward n 1) e, stmts_keeps (f.onward (f.onward n 1) (expr_count e)) ss) refl
+    stmt_keeps n (case_label node e) = ap (λ k. 1 + k) (expr_keeps (f.onward n 1) e)
+    stmt_keeps n (default_label node) = refl
     stmt_keeps n (branch node e s r) = rw (expr_keeps (f.onward n 1) e, stmt_keeps (f.onward (f.onward n 1) (expr_count e)) s, else_keeps (f.onward (f.onward (f.onward n 1) (expr_count e)) (stmt_count s)) r) refl
     stmt_keeps n (while_loop node e s) = rw (expr_keeps (f.onward n 1) e, stmt_keeps (f.onward (f.onward n 1) (expr_count e)) s) refl
     stmt_keeps n (do_loop node s e) = rw (stmt_keeps (f.onward n 1) s, expr_keeps (f.onward (f.onward n 1) (stmt_count s)) e) refl
@@ -222,6 +225,9 @@ module _ (g f : Relabelling) (label : ℕ → Node → Node) (At : ℕ → ℕ �
     stmt_again p (expression node e) = λ i. expression (node_again p node i) (expr_again (next p 1) e i)
     stmt_again p (declaration d) = ap declaration (declaration_again p d)
     stmt_again p (block ss) = ap block (stmts_again p ss)
+    stmt_again p (switch node e ss) = rw (node_again p node, expr_again (next p 1) e, expr_keeps f (f.onward p.m 1) e, stmts_again (next (next p 1) (expr_count e)) ss) refl
+    stmt_again p (case_label node e) = λ i. case_label (node_again p node i) (expr_again (next p 1) e i)
+    stmt_again p (default_label node) = ap default_label (node_again p node)
     stmt_again p (branch node e s r) =
         rw (node_again p node, expr_again (next p 1) e, expr_keeps f (f.onward p.m 1) e, stmt_again (next (next p 1) (expr_count e)) s, stmt_keeps f (f.onward (f.onward p.m 1) (expr_count e)) s, else_again (next (next (next p 1) (expr_count e)) (stmt_count s)) r) refl
     stmt_again p (while_loop node e s) = rw (node_again p node, expr_again (next p 1) e, expr_keeps f (f.onward p.m 1) e, stmt_again (next (next p 1) (expr_count e)) s) refl

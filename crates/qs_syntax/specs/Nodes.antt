@@ -2,7 +2,7 @@
 use Rattle.std.specs.Prelude.{◌≡◌, ℕ, ◌+◌, List, [], ◌∷◌, ◌++◌, Option, Some, None, map}
 use Rattle.std.specs.List.{slice_get}
 use Rattle.qs_syntax.specs.declared.nodes.Node.{Node}
-use Rattle.qs_syntax.specs.Trees.{ExprTree, expr, ShapeTree, constant, text, name, unary, step, cast, sizeof_type, sizeof_expr, binary, assign, conditional, comma, subscript, member, call, Exprs, no_exprs, expr_and, LengthsTree, DeclaratorTree, InitialiserTree, value, list, Initialisers, no_initialisers, initialiser_and, VariableTree, DeclarationTree, ParameterTree, MembersTree, StartTree, no_start, start_expression, start_declaration, StmtTree, empty, expression, declaration, block, branch, while_loop, do_loop, for_loop, break, continue, return, Stmts, no_stmts, stmt_and, Else, no_else, else_by, StructTree, DefinedTree, of_struct, of_base, TypedefTree, FunctionTree, DeclTree, structure, forward, typedef, function, variables, UnitTree}
+use Rattle.qs_syntax.specs.Trees.{ExprTree, expr, ShapeTree, constant, text, name, unary, step, cast, sizeof_type, sizeof_expr, binary, assign, conditional, comma, subscript, member, call, Exprs, no_exprs, expr_and, LengthsTree, DeclaratorTree, InitialiserTree, value, list, Initialisers, no_initialisers, initialiser_and, VariableTree, DeclarationTree, ParameterTree, MembersTree, StartTree, no_start, start_expression, start_declaration, StmtTree, empty, expression, declaration, block, switch, case_label, default_label, branch, while_loop, do_loop, for_loop, break, continue, return, Stmts, no_stmts, stmt_and, Else, no_else, else_by, StructTree, DefinedTree, of_struct, of_base, TypedefTree, FunctionTree, DeclTree, structure, forward, typedef, function, variables, UnitTree}
 
 -- the numbers of the tokens at which nodes stand
 abbrev pub tokens_of : List Node → List ℕ
@@ -82,6 +82,9 @@ abbrev mutual
   stmt_count (expression node e) = 1 + expr_count e
   stmt_count (declaration d) = declaration_count d
   stmt_count (block ss) = stmts_count ss
+  stmt_count (switch node e ss) = 1 + expr_count e + stmts_count ss
+  stmt_count (case_label node e) = 1 + expr_count e
+  stmt_count (default_label node) = 1
   stmt_count (branch node e s r) = 1 + expr_count e + stmt_count s + else_count r
   stmt_count (while_loop node e s) = 1 + expr_count e + stmt_count s
   stmt_count (do_loop node s e) = 1 + stmt_count s + expr_count e
@@ -194,6 +197,9 @@ abbrev mutual
   stmt_nodes (expression node e) = node ∷ expr_nodes e
   stmt_nodes (declaration d) = declaration_nodes d
   stmt_nodes (block ss) = stmts_nodes ss
+  stmt_nodes (switch node e ss) = node ∷ (expr_nodes e ++ stmts_nodes ss)
+  stmt_nodes (case_label node e) = node ∷ expr_nodes e
+  stmt_nodes (default_label node) = node ∷ []
   stmt_nodes (branch node e s r) = node ∷ (expr_nodes e ++ (stmt_nodes s ++ else_nodes r))
   stmt_nodes (while_loop node e s) = node ∷ (expr_nodes e ++ stmt_nodes s)
   stmt_nodes (do_loop node s e) = node ∷ (stmt_nodes s ++ expr_nodes e)

@@ -2,7 +2,7 @@
 -- puts a node of f's in place of each. What numbers the nodes of a tree, and what takes numbers and tokens away, are such maps.
 use Rattle.std.specs.Prelude.{ℕ, ◌+◌, List, [], ◌∷◌, Option, Some, None}
 use Rattle.qs_syntax.specs.declared.nodes.Node.{Node}
-use Rattle.qs_syntax.specs.Trees.{ExprTree, expr, ShapeTree, constant, text, name, unary, step, cast, sizeof_type, sizeof_expr, binary, assign, conditional, comma, subscript, member, call, Exprs, no_exprs, expr_and, LengthsTree, DeclaratorTree, InitialiserTree, value, list, Initialisers, no_initialisers, initialiser_and, VariableTree, DeclarationTree, ParameterTree, MembersTree, StartTree, no_start, start_expression, start_declaration, StmtTree, empty, expression, declaration, block, branch, while_loop, do_loop, for_loop, break, continue, return, Stmts, no_stmts, stmt_and, Else, no_else, else_by, StructTree, DefinedTree, of_struct, of_base, TypedefTree, FunctionTree, DeclTree, structure, forward, typedef, function, variables, UnitTree}
+use Rattle.qs_syntax.specs.Trees.{ExprTree, expr, ShapeTree, constant, text, name, unary, step, cast, sizeof_type, sizeof_expr, binary, assign, conditional, comma, subscript, member, call, Exprs, no_exprs, expr_and, LengthsTree, DeclaratorTree, InitialiserTree, value, list, Initialisers, no_initialisers, initialiser_and, VariableTree, DeclarationTree, ParameterTree, MembersTree, StartTree, no_start, start_expression, start_declaration, StmtTree, empty, expression, declaration, block, switch, case_label, default_label, branch, while_loop, do_loop, for_loop, break, continue, return, Stmts, no_stmts, stmt_and, Else, no_else, else_by, StructTree, DefinedTree, of_struct, of_base, TypedefTree, FunctionTree, DeclTree, structure, forward, typedef, function, variables, UnitTree}
 use Rattle.qs_syntax.specs.Nodes.{all_count, option_count, expr_count, declarator_count, initialiser_count, variable_count, parameter_count, members_count, start_count, stmt_count, defined_count, decl_count}
 
 -- what stands in place of a node, given where it is, and where it goes on behind so many nodes
@@ -93,6 +93,9 @@ abbrev mutual
   relabel_stmt f n (expression node e) = expression (f.label n node) (relabel_expr f (f.onward n 1) e)
   relabel_stmt f n (declaration d) = declaration (relabel_declaration f n d)
   relabel_stmt f n (block ss) = block (relabel_stmts f n ss)
+  relabel_stmt f n (switch node e ss) = switch (f.label n node) (relabel_expr f (f.onward n 1) e) (relabel_stmts f (f.onward (f.onward n 1) (expr_count e)) ss)
+  relabel_stmt f n (case_label node e) = case_label (f.label n node) (relabel_expr f (f.onward n 1) e)
+  relabel_stmt f n (default_label node) = default_label (f.label n node)
   relabel_stmt f n (branch node e s r) = branch (f.label n node) (relabel_expr f (f.onward n 1) e) (relabel_stmt f (f.onward (f.onward n 1) (expr_count e)) s) (relabel_else f (f.onward (f.onward (f.onward n 1) (expr_count e)) (stmt_count s)) r)
   relabel_stmt f n (while_loop node e s) = while_loop (f.label n node) (relabel_expr f (f.onward n 1) e) (relabel_stmt f (f.onward (f.onward n 1) (expr_count e)) s)
   relabel_stmt f n (do_loop node s e) = do_loop (f.label n node) (relabel_stmt f (f.onward n 1) s) (relabel_expr f (f.onward (f.onward n 1) (stmt_count s)) e)

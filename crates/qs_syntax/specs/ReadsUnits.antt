@@ -8,7 +8,7 @@ use Rattle.qs_base.specs.declared.keyword.Keyword.TheVariants as keywords
 use Rattle.qs_syntax_vocabulary.specs.declared.punctuator.Punctuator.TheVariants as punctuators
 use Rattle.qs_syntax_vocabulary.specs.Marks.{NameSet, marked}
 use Rattle.qs_syntax.specs.declared.types.Base.{Base}
-use Rattle.qs_syntax.specs.Trees.{unnumbered, DeclaratorTree, MembersTree, ParameterTree, DeclarationTree, Stmts, DefinedTree, of_struct, of_base, TypedefTree, DeclTree, structure, forward, typedef, function, variables}
+use Rattle.qs_syntax.specs.Trees.{unnumbered, DeclaratorTree, MembersTree, ParameterTree, DeclarationTree, Stmts, DefinedTree, of_struct, of_base, DeclTree, structure, forward, typedef, function, variables}
 use Rattle.qs_syntax.specs.ReadsTypes.{Any, ReadsName, ReadsType, ReadsOuterType, ReadsStars}
 use Rattle.qs_syntax.specs.Reads.{place}
 use Rattle.qs_syntax.specs.ReadsDeclarations.{ReadsDeclarator, ReadsAllMembers, ReadsHead, ReadsOuterDeclaration}

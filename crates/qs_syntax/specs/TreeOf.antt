@@ -1,7 +1,7 @@
 -- The trees that the program's values stand for.
 use Rattle.std.specs.Prelude.{List, Option, Some, None, map, option_map, Box, Vec}
 use Rattle.std.specs.declared.alloc.Global.{Global}
-use Rattle.qs_syntax.specs.Trees.{ExprTree, expr, ShapeTree, constant, text, name, unary, step, cast, sizeof_type, sizeof_expr, binary, assign, conditional, comma, subscript, member, call, Exprs, exprs_of, LengthsTree, DeclaratorTree, InitialiserTree, value, list, Initialisers, initialisers_of, VariableTree, DeclarationTree, ParameterTree, MembersTree, StartTree, no_start, start_expression, start_declaration, StmtTree, empty, expression, declaration, block, branch, while_loop, do_loop, for_loop, break, continue, return, Stmts, stmts_of, Else, else_of, StructTree, ForwardTree, DefinedTree, of_struct, of_base, TypedefTree, FunctionTree, DeclTree, structure, forward, typedef, function, variables}
+use Rattle.qs_syntax.specs.Trees.{ExprTree, expr, ShapeTree, constant, text, name, unary, step, cast, sizeof_type, sizeof_expr, binary, assign, conditional, comma, subscript, member, call, Exprs, exprs_of, LengthsTree, DeclaratorTree, InitialiserTree, value, list, Initialisers, initialisers_of, VariableTree, DeclarationTree, ParameterTree, MembersTree, StartTree, no_start, start_expression, start_declaration, StmtTree, empty, expression, declaration, block, switch, case_label, default_label, branch, while_loop, do_loop, for_loop, break, continue, return, Stmts, stmts_of, Else, else_of, StructTree, ForwardTree, DefinedTree, of_struct, of_base, TypedefTree, FunctionTree, DeclTree, structure, forward, typedef, function, variables}
 use Rattle.qs_syntax.specs.declared.expressions.Expr.{Expr, Expr-F, fold-Expr}
 use Rattle.qs_syntax.specs.declared.expressions.Shape.{Shape, Shape-F, fold-Shape}
 use Rattle.qs_syntax.specs.declared.declarations.Lengths.{Lengths}
@@ -107,6 +107,9 @@ stmt_step (Stmt-F.Empty n) = empty n
 stmt_step (Stmt-F.Expression n e) = expression n (expr_tree e)
 stmt_step (Stmt-F.Declaration d) = declaration (declaration_tree d)
 stmt_step (Stmt-F.Block items) = block (stmts_of items.items)
+stmt_step (Stmt-F.Switch n e items) = switch n (expr_tree e) (stmts_of items.items)
+stmt_step (Stmt-F.Case n e) = case_label n (expr_tree e)
+stmt_step (Stmt-F.Default n) = default_label n
 stmt_step (Stmt-F.If n e s t) = branch n (expr_tree e) s.value (else_of (option_map (λ b. b.value) t))
 stmt_step (Stmt-F.While n e s) = while_loop n (expr_tree e) s.value
 stmt_step (Stmt-F.Do n s e) = do_loop n s.value (expr_tree e)

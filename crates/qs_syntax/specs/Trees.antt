@@ -103,6 +103,10 @@ mutual
     expression : Node → ExprTree → StmtTree
     declaration : DeclarationTree → StmtTree
     block : Stmts → StmtTree
+    switch : Node → ExprTree → Stmts → StmtTree
+    -- a label of a switch stands in its items before the statement that it marks
+    case_label : Node → ExprTree → StmtTree
+    default_label : Node → StmtTree
     branch : Node → ExprTree → StmtTree → Else → StmtTree
     while_loop : Node → ExprTree → StmtTree → StmtTree
     do_loop : Node → StmtTree → ExprTree → StmtTree

@@ -31,6 +31,19 @@ pub enum Stmt {
     Declaration(Declaration),
     /// A block.
     Block(Vec<Stmt>),
+    /// `switch`
+    Switch {
+        /// Its node.
+        node: Node,
+        /// What decides where its items begin.
+        operand: Expr,
+        /// What stands between its braces: its labels too, each before the statement that it marks.
+        items: Vec<Stmt>,
+    },
+    /// `case`, a label of a switch
+    Case(Node, Expr),
+    /// `default`, a label of a switch
+    Default(Node),
     /// `if`
     If {
         /// Its node.
@@ -90,6 +103,13 @@ impl Drop for Stmt {
             Stmt::Expression(_, _) => {}
             Stmt::Declaration(_) => {}
             Stmt::Block(_) => {}
+            Stmt::Switch {
+                node: _,
+                operand: _,
+                items: _,
+            } => {}
+            Stmt::Case(_, _) => {}
+            Stmt::Default(_) => {}
             Stmt::If {
                 node: _,
                 condition: _,
@@ -164,6 +184,20 @@ impl Stmt {
             }
             Stmt::Declaration(d) => Ok(Stmt::Declaration(number_owned_declaration(d, tokens)?)),
             Stmt::Block(items) => Ok(Stmt::Block(number_items(items, tokens)?)),
+            Stmt::Switch {
+                node,
+                operand,
+                items,
+            } => Ok(Stmt::Switch {
+                node: number_node(node, tokens)?,
+                operand: number_owned_expr(operand, tokens)?,
+                items: number_items(items, tokens)?,
+            }),
+            Stmt::Case(node, e) => {
+                let node = number_node(node, tokens)?;
+                Ok(Stmt::Case(node, number_owned_expr(e, tokens)?))
+            }
+            Stmt::Default(node) => Ok(Stmt::Default(number_node(node, tokens)?)),
             Stmt::If {
                 node,
                 condition,

@@ -36,6 +36,17 @@ fn copy_stmt(alloc: Global, from: &Stmt) -> Result<Stmt, NoMemory>
         Stmt::Expression(node, e) => Ok(Stmt::Expression(*node, copy_expr(alloc, e)?)),
         Stmt::Declaration(d) => Ok(Stmt::Declaration(copy_declaration(alloc, d)?)),
         Stmt::Block(items) => Ok(Stmt::Block(copy_stmts(alloc, items)?)),
+        Stmt::Switch {
+            node,
+            operand,
+            items,
+        } => Ok(Stmt::Switch {
+            node: *node,
+            operand: copy_expr(alloc, operand)?,
+            items: copy_stmts(alloc, items)?,
+        }),
+        Stmt::Case(node, e) => Ok(Stmt::Case(*node, copy_expr(alloc, e)?)),
+        Stmt::Default(node) => Ok(Stmt::Default(*node)),
         Stmt::If {
             node,
             condition,

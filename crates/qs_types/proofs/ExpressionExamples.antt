@@ -128,7 +128,7 @@ returned_type_kept : found (g (trees.return (unnumbered 0) None ∷ []) ∷ []) 
 returned_type_kept = refl
 
 -- void g(void){break;}
-outside_loop_broken : found (g (trees.break (unnumbered 0) ∷ []) ∷ []) ≡ fault 1 rules.OutsideLoop
+outside_loop_broken : found (g (trees.break (unnumbered 0) ∷ []) ∷ []) ≡ fault 1 rules.MisplacedJump
 outside_loop_broken = refl
 
 -- void g(void){while(1)break;}

@@ -248,11 +248,11 @@ pointer_returned : found (starred bases.Int 1 f_name (trees.return (unnumbered 0
 pointer_returned = refl
 
 -- void g(void){continue;}
-continue_alone : found (g (trees.continue (unnumbered 0) ∷ []) ∷ []) ≡ fault 1 rules.OutsideLoop
+continue_alone : found (g (trees.continue (unnumbered 0) ∷ []) ∷ []) ≡ fault 1 rules.MisplacedJump
 continue_alone = refl
 
 -- void g(void){while(1);break;}
-break_behind : found (g (trees.while_loop (unnumbered 0) (number 1) empty ∷ trees.break (unnumbered 0) ∷ []) ∷ []) ≡ fault 4 rules.OutsideLoop
+break_behind : found (g (trees.while_loop (unnumbered 0) (number 1) empty ∷ trees.break (unnumbered 0) ∷ []) ∷ []) ≡ fault 4 rules.MisplacedJump
 break_behind = refl
 
 -- ---- where values stand (K29)

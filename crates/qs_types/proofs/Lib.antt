@@ -24,3 +24,4 @@ mod UnitExamples
 mod ReferenceExamples
 mod RecordedExamples
 mod TypeNameExamples
+mod SwitchExamples

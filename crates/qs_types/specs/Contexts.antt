@@ -1,5 +1,5 @@
 -- What names stand for (C11 6.2.1, 6.2.3), and what is known at a place of a unit.
-use Rattle.std.specs.Prelude.{ℕ, zero, suc, ◌+◌, Bool, true, false, ◌&&◌, ◌||◌, List, [], ◌∷◌, ◌++◌, Option, Some, None, is_some, if◌then◌else◌}
+use Rattle.std.specs.Prelude.{ℕ, zero, suc, Bool, true, false, ◌&&◌, ◌||◌, List, [], ◌∷◌, ◌++◌, Option, Some, None, is_some, if◌then◌else◌}
 use Rattle.qs_base.specs.Bytes.{same_bytes}
 use Rattle.qs_syntax.specs.declared.types.Base.{Base}
 use Rattle.qs_syntax.specs.declared.types.Base.TheVariants as bases
@@ -46,8 +46,19 @@ add_tag names tag place = record names { tags = names.tags ++ record { name = ta
 abbrev pub add_type : TypeNames → List ℕ → Option TypeTree → TypeNames
 add_type names x t = record names { types = names.types ++ record { name = x; type = t } ∷ [] }
 
+-- 6.8.4.2p2, p3: what a label speaks of in the block of a switch: the promoted type of the operand, where that is an integer; the values of the
+-- `case`s before it, converted to that type; whether a `default` is before it
+pub record Labels : Type 0 where
+  pub operand : Option TypeTree
+  pub values : List ℕ
+  pub has_default : Bool
+
+abbrev pub no_labels : Labels
+no_labels = record { operand = None; values = []; has_default = false }
+
 -- the structs, in the order of their first declarations, and the names of types; the names of the innermost scope and those of the scopes
--- around it, the latest first; the result of the function, where it has a type; whether a loop is around the place
+-- around it, the latest first; the result of the function, where it has a type; whether a loop and a switch are around the place; the labels
+-- of the switch whose block is the innermost scope
 pub record Context : Type 0 where
   pub structs : Structs
   pub type_names : TypeNames
@@ -55,6 +66,8 @@ pub record Context : Type 0 where
   pub outer : List Binding
   pub result : Option TypeTree
   pub in_loop : Bool
+  pub in_switch : Bool
+  pub labels : Labels
 
 abbrev pub given_functions : List Binding
 given_functions =
@@ -64,7 +77,16 @@ given_functions =
 
 -- what is known before a unit
 abbrev pub start_context : Context
-start_context = record { structs = []; type_names = no_type_names; inner = given_functions; outer = []; result = None; in_loop = false }
+start_context = record {
+  structs = [];
+  type_names = no_type_names;
+  inner = given_functions;
+  outer = [];
+  result = None;
+  in_loop = false;
+  in_switch = false;
+  labels = no_labels;
+}
 
 -- what constant expressions speak of: these structs and these names of types
 abbrev pub context_with : Structs → TypeNames → Context
@@ -85,12 +107,24 @@ is_declared_here context x = is_some (lookup x context.inner)
 abbrev pub with_name : Context → List ℕ → Entity → Context
 with_name context x entity = record context { inner = record { name = x; entity = entity } ∷ context.inner }
 
--- 6.2.1p4: a block is a scope
+-- 6.2.1p4: a block is a scope; a label stands only right in the block of a switch
 abbrev pub inner_scope : Context → Context
-inner_scope context = record context { inner = []; outer = context.inner ++ context.outer }
+inner_scope context = record context { inner = []; outer = context.inner ++ context.outer; labels = no_labels }
 
 abbrev pub inside_loop : Context → Context
 inside_loop context = record context { in_loop = true }
+
+-- 6.8.4.2: where a switch begins whose operand has this promoted type
+abbrev pub inside_switch : (operand : Option TypeTree) → Context → Context
+inside_switch operand context = record context { in_switch = true; labels = record no_labels { operand = operand } }
+
+-- behind the label of a `case`, whose value is this, and behind a `default`
+abbrev pub with_case : Context → Option ℕ → Context
+with_case context None = context
+with_case context (Some value) = record context { labels = record context.labels { values = context.labels.values ++ value ∷ [] } }
+
+abbrev pub with_default : Context → Context
+with_default context = record context { labels = record context.labels { has_default = true } }
 
 -- ---- types by name (6.7.2, 6.7.7)
 

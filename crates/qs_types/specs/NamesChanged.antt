@@ -1,5 +1,5 @@
 -- How names of types in code change.
-use Rattle.std.specs.Prelude.{◌≡◌, ℕ, List, [], ◌∷◌, ◌++◌, Option, option_map}
+use Rattle.std.specs.Prelude.{◌≡◌, ℕ, List, Option, option_map}
 use Rattle.qs_types.specs.Contexts as contexts
 use Rattle.qs_types.specs.TypeNamesOf.{names_tree}
 use Rattle.qs_types.specs.TypeOf.{type_tree}

@@ -4,12 +4,12 @@ use Rattle.std.specs.Prelude.{ℕ, ◌==◌, Bool, false, not, ◌||◌, List, [
 use Rattle.qs_syntax.specs.declared.types.Base.{Base}
 use Rattle.qs_syntax_vocabulary.specs.declared.operators.UnaryOperator.{UnaryOperator}
 use Rattle.qs_syntax_vocabulary.specs.declared.operators.UnaryOperator.TheVariants as unaries
-use Rattle.qs_syntax.specs.Trees.{ExprTree, expr, ShapeTree, Exprs, no_exprs, expr_and, VariableTree, ParameterTree, StartTree, no_start, start_expression, start_declaration, StmtTree, empty, expression, declaration, block, branch, while_loop, do_loop, for_loop, break, continue, return, Stmts, no_stmts, stmt_and, Else, no_else, else_by, FunctionTree}
+use Rattle.qs_syntax.specs.Trees.{ExprTree, expr, ShapeTree, Exprs, no_exprs, expr_and, VariableTree, ParameterTree, StartTree, no_start, start_expression, start_declaration, StmtTree, empty, expression, declaration, block, switch, case_label, default_label, branch, while_loop, do_loop, for_loop, break, continue, return, Stmts, no_stmts, stmt_and, Else, no_else, else_by, FunctionTree}
 use Rattle.qs_syntax.specs.Trees as trees
 use Rattle.qs_types.specs.Types.{TypeTree, is_scalar}
 use Rattle.qs_types.specs.Contexts.{Entity, local_variable, file_variable, function, given, Context, entity_of, inner_scope, inside_loop}
 use Rattle.qs_types.specs.Declarations.{variable_declared}
-use Rattle.qs_types.specs.StatementRules.{after_variable, after_statement, for_context}
+use Rattle.qs_types.specs.StatementRules.{after_variable, after_statement, switch_context, for_context}
 use Rattle.qs_types.specs.UnitRules.{parameter_types, body_context}
 use Rattle.qs_types.specs.Sites.{statements_sites}
 
@@ -81,6 +81,9 @@ abbrev mutual
   statement_locals c (expression node e) = []
   statement_locals c (declaration d) = variables_locals c d.base d.variables
   statement_locals c (block ss) = statements_locals (inner_scope c) ss
+  statement_locals c (switch node e ss) = statements_locals (switch_context c e) ss
+  statement_locals c (case_label node e) = []
+  statement_locals c (default_label node) = []
   statement_locals c (branch node e s r) = statement_locals (inner_scope c) s ++ else_locals c r
   statement_locals c (while_loop node e s) = statement_locals (inside_loop (inner_scope c)) s
   statement_locals c (do_loop node s e) = statement_locals (inside_loop (inner_scope c)) s

@@ -36,10 +36,12 @@ rule_number rules.CompoundOperands = 24
 rule_number rules.UnknownMember = 25
 rule_number rules.CastType = 26
 rule_number rules.ReturnedType = 27
-rule_number rules.OutsideLoop = 28
+rule_number rules.MisplacedJump = 28
 rule_number rules.MisplacedValue = 29
 rule_number rules.InitialiserType = 30
 rule_number rules.RenamedType = 31
+rule_number rules.SwitchType = 32
+rule_number rules.LabelTwice = 33
 
 -- all of them, in order
 abbrev pub all_rules : List Rule
@@ -71,10 +73,12 @@ all_rules =
     ∷ rules.UnknownMember
     ∷ rules.CastType
     ∷ rules.ReturnedType
-    ∷ rules.OutsideLoop
+    ∷ rules.MisplacedJump
     ∷ rules.MisplacedValue
     ∷ rules.InitialiserType
     ∷ rules.RenamedType
+    ∷ rules.SwitchType
+    ∷ rules.LabelTwice
     ∷ []
 
 abbrev pub same_rule : Rule → Rule → Bool

@@ -1,12 +1,12 @@
 -- The expressions of a unit that are no parts of others, in the order of the text, each with what is known where it stands.
 use Rattle.std.specs.Prelude.{ℕ, ◌+◌, Bool, true, false, ◌&&◌, List, [], ◌∷◌, ◌++◌, Option, Some, None}
 use Rattle.qs_syntax.specs.declared.types.Base.{Base}
-use Rattle.qs_syntax.specs.Trees.{ExprTree, DeclaratorTree, InitialiserTree, value, list, Initialisers, no_initialisers, initialiser_and, VariableTree, ParameterTree, MembersTree, StartTree, no_start, start_expression, start_declaration, StmtTree, empty, expression, declaration, block, branch, while_loop, do_loop, for_loop, break, continue, return, Stmts, no_stmts, stmt_and, Else, no_else, else_by, DefinedTree, of_struct, of_base, FunctionTree, DeclTree, structure, forward, typedef, function, variables, UnitTree}
+use Rattle.qs_syntax.specs.Trees.{ExprTree, DeclaratorTree, InitialiserTree, value, list, Initialisers, no_initialisers, initialiser_and, VariableTree, ParameterTree, MembersTree, StartTree, no_start, start_expression, start_declaration, StmtTree, empty, expression, declaration, block, switch, case_label, default_label, branch, while_loop, do_loop, for_loop, break, continue, return, Stmts, no_stmts, stmt_and, Else, no_else, else_by, DefinedTree, of_struct, of_base, FunctionTree, DeclTree, structure, forward, typedef, function, variables, UnitTree}
 use Rattle.qs_types.specs.Types.{TypeTree}
 use Rattle.qs_types.specs.Contexts.{Context, start_context, inner_scope, inside_loop}
 use Rattle.qs_types.specs.Declarations.{text_of, variable_declared}
 use Rattle.qs_types.specs.InitialiserRules.{option_part, holds_text}
-use Rattle.qs_types.specs.StatementRules.{after_variable, after_statement, for_context}
+use Rattle.qs_types.specs.StatementRules.{after_variable, after_statement, switch_context, for_context}
 use Rattle.qs_types.specs.UnitRules.{with_option_tag, after_defined, defined_type, after_type_name, after_parameter, body_context, after_declaration}
 
 -- an expression, and whether it is a text that only fills an array of file scope (6.7.9p14)
@@ -78,6 +78,9 @@ abbrev mutual
   statement_sites c (expression node e) = site c e
   statement_sites c (declaration d) = variables_sites false c d.base d.variables
   statement_sites c (block ss) = statements_sites (inner_scope c) ss
+  statement_sites c (switch node e ss) = site c e ++ statements_sites (switch_context c e) ss
+  statement_sites c (case_label node e) = site c e
+  statement_sites c (default_label node) = []
   statement_sites c (branch node e s r) = site c e ++ (statement_sites (inner_scope c) s ++ else_sites c r)
   statement_sites c (while_loop node e s) = site c e ++ statement_sites (inside_loop (inner_scope c)) s
   statement_sites c (do_loop node s e) = statement_sites (inside_loop (inner_scope c)) s ++ site c e

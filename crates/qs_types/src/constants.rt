@@ -336,7 +336,7 @@ fn unary_value(operator: UnaryOperator, a: u32) -> Option<u32>
 // ---- type names
 
 /// A value converted to this type (C11 6.3.1.3).
-fn converted_to(t: &CType, n: u32) -> u32
+pub fn converted_to(t: &CType, n: u32) -> u32
     ensures { result ≡ constants.converted (type_tree t.now) n }
 {
     match t {

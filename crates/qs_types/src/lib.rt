@@ -16,7 +16,7 @@ mod structs;
 mod type_names;
 mod types;
 
-pub use constants::{is_built, is_null_constant, value};
+pub use constants::{converted_to, is_built, is_null_constant, value};
 pub use conversions::{arithmetic, promoted};
 pub use env::Env;
 pub use extent::Extent;

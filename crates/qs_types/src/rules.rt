@@ -71,8 +71,8 @@ pub enum Rule {
     /// `return` has an assignable expression where the result isn't void, and none where it is
     /// (6.8.6.4).
     ReturnedType,
-    /// `break` and `continue` stand in a loop (6.8.6.2, 6.8.6.3).
-    OutsideLoop,
+    /// `break` stands in a loop or a switch, `continue` in a loop (6.8.6.2, 6.8.6.3).
+    MisplacedJump,
     /// A void call and an assignment of a struct stand only where the value is discarded, another
     /// struct where it may.
     MisplacedValue,
@@ -80,6 +80,12 @@ pub enum Rule {
     InitialiserType,
     /// A type name that is declared again gets the same type (6.7p3).
     RenamedType,
+    /// The operand of `switch` is an integer, the expression of each `case` a constant expression
+    /// of integer type (6.8.4.2p1, p3).
+    SwitchType,
+    /// The values of the `case`s of a switch, converted to the promoted type of its operand, differ,
+    /// and it has at most one `default` (6.8.4.2p3).
+    LabelTwice,
 }
 
 impl Rule {
@@ -115,10 +121,12 @@ impl Rule {
             Rule::UnknownMember => 25,
             Rule::CastType => 26,
             Rule::ReturnedType => 27,
-            Rule::OutsideLoop => 28,
+            Rule::MisplacedJump => 28,
             Rule::MisplacedValue => 29,
             Rule::InitialiserType => 30,
             Rule::RenamedType => 31,
+            Rule::SwitchType => 32,
+            Rule::LabelTwice => 33,
         }
     }
 }

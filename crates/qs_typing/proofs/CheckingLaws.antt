@@ -1,5 +1,5 @@
 -- A unit is refused for no cause exactly where it is well typed and within the limits; what a walk shows are the causes.
-use Rattle.std.proofs.Common.{◌≡◌, inl, inr, ℕ, Bool, true, false, List, [], ◌∷◌, ◌++◌, Option, Some, None, is_some, map, refl, sym, ap, ◌∙◌}
+use Rattle.std.proofs.Common.{◌≡◌, inl, inr, ℕ, Bool, true, false, List, [], ◌∷◌, ◌++◌, Option, Some, None, Result, Ok, Err, IsErr, IsErrAnd, IfErr, is_some, map, refl, sym, ap, ◌∙◌}
 use Rattle.std.specs.Option.{option_or}
 use Rattle.qs_syntax.specs.Trees.{UnitTree}
 use Rattle.qs_types.specs.declared.limits.LimitKind.{LimitKind}
@@ -158,6 +158,11 @@ late_told unit c w f n e h l = inr (cause_is unit f ((λ i. option_or (sym n i) 
 
 pub none_told : (unit : UnitTree) (c : Context) (w : WalkTree) → None ≡ early_refusal unit → c ≡ end_context unit → w ≡ unit_walked unit → None ≡ late_by c w unit → first_refusal unit ≡ None
 none_told unit c w n e h l = (λ i. option_or (sym n i) (sym (late_known unit c w e h) i)) ∙ sym l
+
+-- so is want of memory
+pub memory_told : {T : Type 0} (unit : UnitTree) (r : Result T TypeFault) → IsErr r × IsErrAnd r (λ f. f ≡ faults.NoMemory) → IfErr r (λ f. IsTold unit f)
+memory_told unit (Ok x) h = tt
+memory_told unit (Err f) h = inl h.1
 
 -- of a unit that is accepted nothing but want of memory is told
 pub told_of_good : (unit : UnitTree) (f : TypeFault) → IsTold unit f → IsAccepted unit → f ≡ faults.NoMemory

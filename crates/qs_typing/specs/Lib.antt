@@ -8,5 +8,6 @@ pub mod StructWalks
 pub mod TypeNameWalks
 pub mod FunctionWalks
 pub mod StatementWalks
+pub mod SwitchWalks
 pub mod DeclarationWalks
 pub mod Checking

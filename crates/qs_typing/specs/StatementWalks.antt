@@ -13,6 +13,8 @@ use Rattle.qs_types.specs.Contexts.{inner_scope, inside_loop}
 use Rattle.qs_types.specs.ExpressionFaults.{discarded}
 use Rattle.qs_types.specs.Expressions.{type_of}
 use Rattle.qs_types.specs.Layout.{and_then}
+use Rattle.qs_types.specs.declared.rules.Rule.TheVariants as rule
+use Rattle.qs_types.specs.Rules.{keeps}
 use Rattle.qs_types.specs.StatementRules as rules
 use Rattle.qs_types.specs.TypeOf.{type_tree}
 use Rattle.qs_typing_findings.specs.declared.context.Context.{Context}
@@ -57,9 +59,9 @@ abbrev pub WalksReturn : Context → Node → Option Expr → (before after : Wa
 WalksReturn c node e before after = walk_tree after ≡ walks.statement_walked (context_tree c) (return node (option_tree e)) (walk_tree before)
 
 -- a `break` or `continue` is opened and judged
-abbrev pub JudgesJump : Context → Node → (before after : Walk) → Type 0
-JudgesJump c node before after =
-    walk_tree after ≡ walks.node_judged node (rules.loop_tests (context_tree c)) (walks.node_opened (walk_tree before))
+abbrev pub JudgesJump : Node → (may : Bool) → (before after : Walk) → Type 0
+JudgesJump node may before after =
+    walk_tree after ≡ walks.node_judged node (keeps rule.MisplacedJump may) (walks.node_opened (walk_tree before))
 
 -- ---- what a `for` begins with
 

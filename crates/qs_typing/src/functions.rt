@@ -489,7 +489,7 @@ fn walk_body_items(
     let locals = parameters_noted(alloc, c.structs(), ps, ts)?;
     walk.begin_body(locals);
     let start = walk.found.addressed.len();
-    let around = c.enter_scope();
+    let around = c.enter_scope(alloc);
     let before = c.set_result(to);
     declare_parameters(alloc, c, ps, ts)?;
     walk_statements(alloc, c, items, walk)?;
@@ -509,7 +509,7 @@ pub fn walk_function(
     ensures walked { OnOk result (WalksFunction c.old f.now walk.old walk.new) }
 {
     walk.open()?;
-    let around = c.enter_scope();
+    let around = c.enter_scope(alloc);
     let types = walk_parameters(alloc, c, f.body.is_some(), &f.parameters, walk)?;
     c.leave_scope(around);
     let to = result_type(alloc, c, f)?;

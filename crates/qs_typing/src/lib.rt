@@ -9,6 +9,7 @@ mod lengths;
 mod members_before;
 mod statements;
 mod structs;
+mod switches;
 mod type_names;
 mod units;
 mod variables;

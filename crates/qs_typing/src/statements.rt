@@ -12,7 +12,9 @@ ghost use Rattle.qs_typing.specs.StatementWalks.{KnowsStatement, KnowsStatements
 ghost use Rattle.qs_typing.specs.StatementWalks.{WalksBody, WalksCondition, WalksElse, WalksHead};
 ghost use Rattle.qs_typing.specs.StatementWalks.{WalksOption, WalksPart, WalksReturn, WalksStart};
 ghost use Rattle.qs_typing.specs.StatementWalks.{WalksStatement, WalksStatements};
+ghost use Rattle.qs_typing.specs.SwitchWalks.{WalksSwitch};
 
+use crate::switches::{walk_case, walk_default, walk_operand};
 use crate::variables::walk_variables;
 use qs_base::NoMemory;
 use qs_syntax::{Expr, Node, Start, Stmt};
@@ -29,7 +31,8 @@ fn condition_test(t: Option<CType>) -> Option<Test>
     Some(keeps(Rule::TruthOperand, is_scalar(&decayed(t?))))
 }
 
-fn judge_option(node: Node, t: Option<Test>, walk: &mut Walk)
+/// Notes a rule that a node may break.
+pub fn judge_option(node: Node, t: Option<Test>, walk: &mut Walk)
     ensures { JudgesOne node t walk.old walk.new }
 {
     match t {
@@ -111,11 +114,12 @@ fn walk_discarded(alloc: Global, c: &Context, e: &Expr, walk: &mut Walk) -> Resu
     Ok(())
 }
 
-fn judge_jump(c: &Context, node: Node, walk: &mut Walk) -> Result<(), NoMemory>
-    ensures { OnOk result (JudgesJump c.now node walk.old walk.new) }
+/// Walks over a `break` or `continue`, which stands where it may or doesn't (C11 6.8.6).
+fn walk_jump(node: Node, may: bool, walk: &mut Walk) -> Result<(), NoMemory>
+    ensures { OnOk result (JudgesJump node may walk.old walk.new) }
 {
     walk.open()?;
-    walk.judge(node, &[keeps(Rule::OutsideLoop, c.in_loop())]);
+    walk.judge(node, &[keeps(Rule::MisplacedJump, may)]);
     Ok(())
 }
 
@@ -202,6 +206,13 @@ fn walk_statement(alloc: Global, c: &mut Context, s: &Stmt, walk: &mut Walk) -> 
         Stmt::Expression(_, e) => walk_discarded(alloc, c, e, walk),
         Stmt::Declaration(d) => walk_variables(alloc, false, c, &d.base, &d.variables, walk),
         Stmt::Block(items) => walk_block(alloc, c, items, walk),
+        Stmt::Switch {
+            node,
+            operand,
+            items,
+        } => walk_switch(alloc, c, *node, items, operand, walk),
+        Stmt::Case(node, e) => walk_case(alloc, c, *node, e, walk),
+        Stmt::Default(node) => walk_default(c, *node, walk),
         Stmt::If {
             node,
             condition,
@@ -225,8 +236,8 @@ fn walk_statement(alloc: Global, c: &mut Context, s: &Stmt, walk: &mut Walk) -> 
             step,
             body,
         } => walk_for(alloc, c, *node, start, condition, step, body, walk),
-        Stmt::Break(node) => judge_jump(c, *node, walk),
-        Stmt::Continue(node) => judge_jump(c, *node, walk),
+        Stmt::Break(node) => walk_jump(*node, c.in_loop() || c.in_switch(), walk),
+        Stmt::Continue(node) => walk_jump(*node, c.in_loop(), walk),
         Stmt::Return(node, e) => walk_return(alloc, c, *node, e, walk),
     }
 }
@@ -303,7 +314,7 @@ fn walk_for(
     ensures walked { WalksFor c.old node start.now e.now step.now s.now walk.old walk.new result }
 {
     walk.open()?;
-    let around = c.enter_scope();
+    let around = c.enter_scope(alloc);
     let start_typed = walk_start(alloc, c, start, walk)?;
     walk_head(alloc, c, node, start_typed, e, step, walk)?;
     walk_body(alloc, c, s, walk)?;
@@ -317,7 +328,7 @@ fn walk_part(alloc: Global, c: &mut Context, s: &Stmt, walk: &mut Walk) -> Resul
     ensures context { OnOk result (context_tree c.new ≡ context_tree c.old) }
     ensures walked { OnOk result (WalksPart c.old s.now walk.old walk.new) }
 {
-    let around = c.enter_scope();
+    let around = c.enter_scope(alloc);
     walk_statement(alloc, c, s, walk)?;
     c.leave_scope(around);
     Ok(())
@@ -329,11 +340,9 @@ fn walk_body(alloc: Global, c: &mut Context, s: &Stmt, walk: &mut Walk) -> Resul
     ensures context { OnOk result (context_tree c.new ≡ context_tree c.old) }
     ensures walked { OnOk result (WalksBody c.old s.now walk.old walk.new) }
 {
-    let before = c.in_loop();
-    let around = c.enter_scope();
-    c.set_loop(true);
+    let around = c.enter_scope(alloc);
+    c.enter_loop();
     walk_statement(alloc, c, s, walk)?;
-    c.set_loop(before);
     c.leave_scope(around);
     Ok(())
 }
@@ -364,7 +373,29 @@ fn walk_block(
     ensures context { OnOk result (context_tree c.new ≡ context_tree c.old) }
     ensures walked { OnOk result (WalksBlock c.old items.now walk.old walk.new) }
 {
-    let around = c.enter_scope();
+    let around = c.enter_scope(alloc);
+    walk_statements(alloc, c, items, walk)?;
+    c.leave_scope(around);
+    Ok(())
+}
+
+/// Walks over a switch, whose block is a scope (C11 6.8.4p3, 6.8.4.2).
+#[cycle(stmt)]
+fn walk_switch(
+    alloc: Global,
+    c: &mut Context,
+    node: Node,
+    items: &[Stmt],
+    operand: &Expr,
+    walk: &mut Walk,
+) -> Result<(), NoMemory>
+    ensures context { OnOk result (context_tree c.new ≡ context_tree c.old) }
+    ensures walked { OnOk result (WalksSwitch c.old node operand.now items.now walk.old walk.new) }
+{
+    walk.open()?;
+    let t = walk_operand(alloc, c, node, operand, walk)?;
+    let around = c.enter_scope(alloc);
+    c.enter_switch(alloc, t);
     walk_statements(alloc, c, items, walk)?;
     c.leave_scope(around);
     Ok(())

@@ -3,7 +3,7 @@ use Rattle.std.proofs.Common.{◌≡◌, ℕ, ◌+◌, Bool, true, false, ◌&&�
 use Rattle.std.proofs.lemmas.Grind.{flat_map-append}
 use Rattle.qs_syntax.specs.declared.types.Base.{Base}
 use Rattle.qs_syntax.specs.declared.nodes.Node.{Node}
-use Rattle.qs_syntax.specs.Trees.{ExprTree, DeclaratorTree, InitialiserTree, value, list, Initialisers, no_initialisers, initialiser_and, VariableTree, ParameterTree, MembersTree, StartTree, no_start, start_expression, start_declaration, StmtTree, empty, expression, declaration, block, branch, while_loop, do_loop, for_loop, break, continue, return, Stmts, no_stmts, stmt_and, Else, no_else, else_by, StructTree, DefinedTree, of_struct, of_base, FunctionTree, DeclTree, structure, forward, typedef, function, variables, UnitTree}
+use Rattle.qs_syntax.specs.Trees.{ExprTree, DeclaratorTree, InitialiserTree, value, list, Initialisers, no_initialisers, initialiser_and, VariableTree, ParameterTree, MembersTree, StartTree, no_start, start_expression, start_declaration, StmtTree, empty, expression, declaration, block, switch, case_label, default_label, branch, while_loop, do_loop, for_loop, break, continue, return, Stmts, no_stmts, stmt_and, Else, no_else, else_by, StructTree, DefinedTree, of_struct, of_base, FunctionTree, DeclTree, structure, forward, typedef, function, variables, UnitTree}
 use Rattle.qs_types.specs.Types.{TypeTree}
 use Rattle.qs_types.specs.declared.rules.Rule.TheVariants as rules
 use Rattle.qs_types.specs.Rules.{Test, test, Fault, faults_of}
@@ -12,7 +12,7 @@ use Rattle.qs_types.specs.ExpressionFaults.{Position, used, discarded, whole, ex
 use Rattle.qs_types.specs.Declarations.{lengths_faults, variable_declared, parameter_declared}
 use Rattle.qs_types.specs.InitialiserRules.{option_part, initialiser_faults, elements_faults}
 use Rattle.qs_types.specs.StatementRules as statements
-use Rattle.qs_types.specs.StatementRules.{after_variable, after_statement, for_context, condition_faults, start_faults, statement_faults, statements_faults, else_faults, variable_faults, variables_faults, option_initialiser_faults, option_used, option_discarded}
+use Rattle.qs_types.specs.StatementRules.{after_variable, after_statement, switch_context, for_context, condition_faults, switch_faults, start_faults, statement_faults, statements_faults, else_faults, variable_faults, variables_faults, option_initialiser_faults, option_used, option_discarded}
 use Rattle.qs_types.specs.UnitRules as units
 use Rattle.qs_types.specs.UnitRules.{with_option_tag, is_option_defined, after_defined, defined_type, defined_faults, after_type_name, type_names_faults, Before, no_members, after_member, after_together, after_parameter, after_declaration, body_context, member_faults, together_faults, members_faults, struct_faults, parameters_faults, body_faults, function_faults, declaration_faults, declarations_faults, faults_in}
 use Rattle.qs_types.specs.Placed.{addressed}
@@ -22,7 +22,7 @@ use Rattle.qs_typing_findings.specs.Findings.{least_with}
 use Rattle.qs_typing_findings.specs.NodeTypes.{NodeTypes, expr_types, option_types, lengths_types, declarator_types, declarators_types, initialiser_types, initialisers_types, option_initialiser_types, variables_types, start_types, statement_types, statements_types, else_types, members_types, defined_types, type_names_types, parameters_types, body_types, declaration_types, declarations_types, unit_types}
 use Rattle.qs_typing_findings.specs.Noted.{parameters_noted}
 use Rattle.qs_typing_findings.specs.UnitWalk as walks
-use Rattle.qs_typing_findings.specs.UnitWalk.{WalkTree, node_opened, object_opened, declarator_walked, node_judged, site_walked, expr_walked, option_walked, lengths_walked, initialiser_walked, elements_walked, option_initialiser_walked, variable_walk_noted, variable_walked, variables_walked, start_walked, condition_walked, statement_walked, statements_walked, else_walked, member_walked, together_walked, members_walked, struct_walked, type_names_walked, defined_walked, parameters_walked, body_walked, function_walked, declaration_walked, declarations_walked, unit_walked, start_walk}
+use Rattle.qs_typing_findings.specs.UnitWalk.{WalkTree, node_opened, object_opened, declarator_walked, node_judged, site_walked, expr_walked, option_walked, lengths_walked, initialiser_walked, elements_walked, option_initialiser_walked, variable_walk_noted, variable_walked, variables_walked, start_walked, condition_walked, operand_walked, statement_walked, statements_walked, else_walked, member_walked, together_walked, members_walked, struct_walked, type_names_walked, defined_walked, parameters_walked, body_walked, function_walked, declaration_walked, declarations_walked, unit_walked, start_walk}
 use Rattle.qs_typing_findings.proofs.LeastFaults.{least_swaps, least_with-append}
 
 abbrev pub site_addressed : Site → List ℕ
@@ -142,6 +142,9 @@ discarded_adds c (Some e) = expr_adds c discarded e
 condition_adds : (c : Context) (node : Node) (e : ExprTree) → Adds (condition_walked c node e) (condition_faults c node e) (site c e) (expr_types c e)
 condition_adds c node e = judged_adds node (statements.condition_tests _) (expr_adds c used e)
 
+operand_adds : (c : Context) (node : Node) (e : ExprTree) → Adds (operand_walked c node e) (switch_faults c node e) (site c e) (expr_types c e)
+operand_adds c node e = judged_adds node (statements.switch_tests _) (expr_adds c used e)
+
 declarator_adds : (c : Context) (t : Option TypeTree) (es : List ExprTree) → Adds (declarator_walked c t es) (lengths_faults c es) (sites c es) (t ∷ lengths_types c es)
 declarator_adds c t es = then_adds (object_adds t) (lengths_add c es)
 
@@ -199,6 +202,9 @@ mutual
   statement_adds c (expression node e) = then_adds opened_adds (expr_adds c discarded e)
   statement_adds c (declaration d) = variables_add false c d.base d.variables
   statement_adds c (block ss) = statements_add (inner_scope c) ss
+  statement_adds c (switch node e ss) = then_adds (then_adds opened_adds (operand_adds c node e)) (statements_add (switch_context c e) ss)
+  statement_adds c (case_label node e) = judged_adds node (statements.case_tests c e) (then_adds opened_adds (expr_adds c used e))
+  statement_adds c (default_label node) = judged_only c node (statements.default_tests c)
   statement_adds c (branch node e s r) =
       then_adds (then_adds opened_adds (condition_adds c node e)) (then_adds (statement_adds (inner_scope c) s) (else_adds c r))
   statement_adds c (while_loop node e s) = then_adds (then_adds opened_adds (condition_adds c node e)) (statement_adds (inside_loop (inner_scope c)) s)
@@ -209,8 +215,8 @@ mutual
       (then_adds
       (judged_adds node (statements.for_tests (for_context c start) start e u) (then_adds (used_adds (for_context c start) e) (discarded_adds (for_context c start) u)))
       (statement_adds (inside_loop (inner_scope (for_context c start))) s)))
-  statement_adds c (break node) = judged_only c node (statements.loop_tests c)
-  statement_adds c (continue node) = judged_only c node (statements.loop_tests c)
+  statement_adds c (break node) = judged_only c node (statements.break_tests c)
+  statement_adds c (continue node) = judged_only c node (statements.continue_tests c)
   statement_adds c (return node e) = judged_adds node (statements.return_tests c c.result e) (then_adds opened_adds (used_adds c e))
 
   pub statements_add : (c : Context) (ss : Stmts) → Adds (statements_walked c ss) (statements_faults c ss) (statements_sites c ss) (statements_types c ss)

@@ -4,7 +4,7 @@ use Rattle.std.proofs.lemmas.List.{drop_at}
 use Rattle.std.specs.Option.{option_or}
 use Rattle.qs_syntax.specs.declared.types.Base.{Base}
 use Rattle.qs_syntax.specs.declared.nodes.Node.{Node}
-use Rattle.qs_syntax.specs.Trees.{ExprTree, DeclaratorTree, InitialiserTree, value, list, Initialisers, no_initialisers, initialiser_and, VariableTree, ParameterTree, MembersTree, StartTree, no_start, start_expression, start_declaration, StmtTree, empty, expression, declaration, block, branch, while_loop, do_loop, for_loop, break, continue, return, Stmts, no_stmts, stmt_and, Else, no_else, else_by, StructTree, DefinedTree, of_struct, of_base, TypedefTree, FunctionTree, structure, forward, typedef, function, variables, UnitTree}
+use Rattle.qs_syntax.specs.Trees.{ExprTree, DeclaratorTree, InitialiserTree, value, list, Initialisers, no_initialisers, initialiser_and, VariableTree, ParameterTree, MembersTree, StartTree, no_start, start_expression, start_declaration, StmtTree, empty, expression, declaration, block, switch, case_label, default_label, branch, while_loop, do_loop, for_loop, break, continue, return, Stmts, no_stmts, stmt_and, Else, no_else, else_by, StructTree, DefinedTree, of_struct, of_base, TypedefTree, FunctionTree, structure, forward, typedef, function, variables, UnitTree}
 use Rattle.qs_types.specs.Types.{TypeTree, Structs}
 use Rattle.qs_types.specs.declared.rules.Rule.TheVariants as rules
 use Rattle.qs_types.specs.Rules.{Test, test}
@@ -13,13 +13,13 @@ use Rattle.qs_types.specs.Contexts.{Context, start_context, inner_scope, inside_
 use Rattle.qs_types.specs.ExpressionFaults.{Position, used, discarded, whole}
 use Rattle.qs_types.specs.Declarations.{variable_declared, parameter_declared}
 use Rattle.qs_types.specs.InitialiserRules.{option_part}
-use Rattle.qs_types.specs.StatementRules.{after_variable, variable_tests, condition_tests, for_tests, loop_tests, return_tests, after_statement, for_context}
+use Rattle.qs_types.specs.StatementRules.{after_variable, variable_tests, condition_tests, switch_tests, case_tests, default_tests, for_tests, break_tests, continue_tests, return_tests, after_statement, switch_context, for_context}
 use Rattle.qs_types.specs.UnitRules.{with_option_tag, is_option_defined, member_tests, after_defined, defined_type, after_type_name, type_name_tests, parameter_tests, header_tests, result_type, Before, no_members, after_member, after_together, after_parameter, after_function, after_declaration, parameter_types, with_parameter, with_parameters, body_context}
 use Rattle.qs_types.specs.Placed.{Local, addressed_in, is_placed, locals_in, parameters_locals, variables_locals, start_locals, statement_locals, statements_locals, else_locals}
 use Rattle.qs_types.specs.Limits.{Block, type_size, variables_blocks, variable_blocks_from, local_block, local_past, local_past_from, local_limit, block_past}
 use Rattle.qs_types.specs.Sites.{may_hold}
 use Rattle.qs_typing_findings.specs.Noted.{LocalTree, local_tree, parameters_noted, is_block, local_past_by}
-use Rattle.qs_typing_findings.specs.UnitWalk.{WalkTree, node_opened, object_opened, declarator_walked, node_judged, option_list_tests, site_walked, option_walked, lengths_walked, initialiser_walked, elements_walked, option_initialiser_walked, variable_walk_noted, variable_walked, variables_walked, start_walked, condition_walked, statement_walked, statements_walked, else_walked, member_walked, together_walked, members_walked, struct_walked, type_names_walked, defined_walked, typedef_walked, parameters_walked, with_body_begun, body_walked, function_walked, declarations_walked, unit_walked, start_walk}
+use Rattle.qs_typing_findings.specs.UnitWalk.{WalkTree, node_opened, object_opened, declarator_walked, node_judged, option_list_tests, site_walked, option_walked, lengths_walked, initialiser_walked, elements_walked, option_initialiser_walked, variable_walk_noted, variable_walked, variables_walked, start_walked, condition_walked, operand_walked, statement_walked, statements_walked, else_walked, member_walked, together_walked, members_walked, struct_walked, type_names_walked, defined_walked, typedef_walked, parameters_walked, with_body_begun, body_walked, function_walked, declarations_walked, unit_walked, start_walk}
 use Rattle.qs_typing_findings.proofs.AddedFindings.{statements_add}
 use Rattle.qs_typing_findings.proofs.ScopeEnds.{statement_inner, start_inner}
 
@@ -133,6 +133,9 @@ start_blocks c (start_declaration d) = locals_add c d.base d.variables
 condition_kept : (c : Context) (node : Node) (e : ExprTree) → Keeps (condition_walked c node e)
 condition_kept c node e = judged_kept node (condition_tests (type_of c e)) (site_kept c used false e)
 
+operand_kept : (c : Context) (node : Node) (e : ExprTree) → Keeps (operand_walked c node e)
+operand_kept c node e = judged_kept node (switch_tests (type_of c e)) (site_kept c used false e)
+
 map_both : (structs : Structs) (xs ys : List Local) → map (noted_local structs) xs ++ map (noted_local structs) ys ≡ map (noted_local structs) (xs ++ ys)
 map_both structs [] ys = refl
 map_both structs (x ∷ xs) ys = ap (λ l. noted_local structs x ∷ l) (map_both structs xs ys)
@@ -149,6 +152,9 @@ mutual
   statement_blocks c (expression node e) = then_blocks opened_kept (site_kept c discarded false e)
   statement_blocks c (declaration d) = locals_add c d.base d.variables
   statement_blocks c (block ss) = statements_blocks (inner_scope c) ss
+  statement_blocks c (switch node e ss) = then_blocks (then_blocks opened_kept (operand_kept c node e)) (statements_blocks (switch_context c e) ss)
+  statement_blocks c (case_label node e) = judged_kept node (case_tests c e) (then_blocks opened_kept (site_kept c used false e))
+  statement_blocks c (default_label node) = judged_kept node (default_tests c) opened_kept
   statement_blocks c (branch node e s r) =
       with_locals (map_both c.structs (statement_locals (inner_scope c) s) (else_locals c r))
       (then_blocks (then_blocks opened_kept (condition_kept c node e)) (then_blocks (statement_blocks (inner_scope c) s) (else_blocks c r)))
@@ -161,8 +167,8 @@ mutual
       (then_blocks (then_blocks opened_kept (start_blocks (inner_scope c) start))
       (then_blocks (judged_kept node (for_tests (for_context c start) start e u) (then_blocks (option_kept (for_context c start) used e) (option_kept (for_context c start) discarded u)))
       (statement_blocks (inside_loop (inner_scope (for_context c start))) s)))
-  statement_blocks c (break node) = judged_kept node (loop_tests c) opened_kept
-  statement_blocks c (continue node) = judged_kept node (loop_tests c) opened_kept
+  statement_blocks c (break node) = judged_kept node (break_tests c) opened_kept
+  statement_blocks c (continue node) = judged_kept node (continue_tests c) opened_kept
   statement_blocks c (return node e) = judged_kept node (return_tests c c.result e) (then_blocks opened_kept (option_kept c used e))
 
   statements_blocks : (c : Context) (ss : Stmts) → AddsBlocks (statements_walked c ss) [] (map (noted_local c.structs) (statements_locals c ss))

@@ -2,7 +2,7 @@
 use Rattle.std.proofs.Common.{◌≡◌, ℕ, ◌+◌, Bool, true, false, ◌&&◌, List, [], ◌∷◌, ◌++◌, Option, Some, None, is_some, refl, sym, ap, ◌∙◌, append_assoc, append-nil}
 use Rattle.qs_syntax.specs.declared.types.Base.{Base}
 use Rattle.qs_syntax.specs.declared.nodes.Node.{Node}
-use Rattle.qs_syntax.specs.Trees.{ExprTree, DeclaratorTree, InitialiserTree, value, list, Initialisers, no_initialisers, initialiser_and, VariableTree, ParameterTree, MembersTree, StartTree, no_start, start_expression, start_declaration, StmtTree, empty, expression, declaration, block, branch, while_loop, do_loop, for_loop, break, continue, return, Stmts, no_stmts, stmt_and, Else, no_else, else_by, StructTree, DefinedTree, of_struct, of_base, FunctionTree, DeclTree, structure, forward, typedef, function, variables, UnitTree}
+use Rattle.qs_syntax.specs.Trees.{ExprTree, DeclaratorTree, InitialiserTree, value, list, Initialisers, no_initialisers, initialiser_and, VariableTree, ParameterTree, MembersTree, StartTree, no_start, start_expression, start_declaration, StmtTree, empty, expression, declaration, block, switch, case_label, default_label, branch, while_loop, do_loop, for_loop, break, continue, return, Stmts, no_stmts, stmt_and, Else, no_else, else_by, StructTree, DefinedTree, of_struct, of_base, FunctionTree, DeclTree, structure, forward, typedef, function, variables, UnitTree}
 use Rattle.qs_types.specs.Types.{TypeTree}
 use Rattle.qs_types.specs.declared.rules.Rule.TheVariants as rules
 use Rattle.qs_types.specs.Rules.{Test, test}
@@ -12,7 +12,7 @@ use Rattle.qs_types.specs.ExpressionFaults.{Position, used, discarded, whole}
 use Rattle.qs_types.specs.Declarations.{variable_declared, parameter_declared}
 use Rattle.qs_types.specs.InitialiserRules.{option_part}
 use Rattle.qs_types.specs.StatementRules as statements
-use Rattle.qs_types.specs.StatementRules.{after_variable, after_statement, for_context}
+use Rattle.qs_types.specs.StatementRules.{after_variable, after_statement, switch_context, for_context}
 use Rattle.qs_types.specs.UnitRules as units
 use Rattle.qs_types.specs.UnitRules.{with_option_tag, is_option_defined, after_defined, defined_type, after_type_name, Before, no_members, after_member, after_together, after_parameter, after_declaration, body_context, parameter_types}
 use Rattle.qs_types.specs.Sites.{may_hold}
@@ -23,7 +23,7 @@ use Rattle.qs_typing_findings.specs.UnitNodes.{of_option, of_lengths, of_declara
 use Rattle.qs_typing_findings.specs.NodeReferents.{no_referent, unit_referents}
 use Rattle.qs_typing_findings.specs.Noted.{parameters_noted}
 use Rattle.qs_typing_findings.specs.UnitWalk as walks
-use Rattle.qs_typing_findings.specs.UnitWalk.{WalkTree, node_opened, object_opened, declarator_walked, node_judged, site_walked, expr_walked, option_walked, lengths_walked, initialiser_walked, elements_walked, option_initialiser_walked, variable_walk_noted, variable_walked, variables_walked, start_walked, condition_walked, statement_walked, statements_walked, else_walked, member_walked, together_walked, members_walked, struct_walked, type_names_walked, defined_walked, parameters_walked, body_walked, declaration_walked, declarations_walked, unit_walked, start_walk}
+use Rattle.qs_typing_findings.specs.UnitWalk.{WalkTree, node_opened, object_opened, declarator_walked, node_judged, site_walked, expr_walked, option_walked, lengths_walked, initialiser_walked, elements_walked, option_initialiser_walked, variable_walk_noted, variable_walked, variables_walked, start_walked, condition_walked, operand_walked, statement_walked, statements_walked, else_walked, member_walked, together_walked, members_walked, struct_walked, type_names_walked, defined_walked, parameters_walked, body_walked, declaration_walked, declarations_walked, unit_walked, start_walk}
 
 -- a walk finds that names stand for these, behind those before
 pub record Names (f : WalkTree → WalkTree) (rs : List (Option Referent)) : Type 0 where
@@ -66,6 +66,9 @@ declarator_names c t es = then_names (object_names t) (lengths_names c es)
 
 condition_names : (c : Context) (node : Node) (e : ExprTree) → Names (condition_walked c node e) (of_nodes (referent_of c) e)
 condition_names c node e = judged_names node (statements.condition_tests (type_of c e)) (expr_names c used e)
+
+operand_names : (c : Context) (node : Node) (e : ExprTree) → Names (operand_walked c node e) (of_nodes (referent_of c) e)
+operand_names c node e = judged_names node (statements.switch_tests (type_of c e)) (expr_names c used e)
 
 -- ---- declarations
 
@@ -110,6 +113,9 @@ mutual
   statement_names c (expression node e) = then_names opened_names (expr_names c discarded e)
   statement_names c (declaration d) = variables_names false c d.base d.variables
   statement_names c (block ss) = statements_names (inner_scope c) ss
+  statement_names c (switch node e ss) = then_names (then_names opened_names (operand_names c node e)) (statements_names (switch_context c e) ss)
+  statement_names c (case_label node e) = judged_names node (statements.case_tests c e) (then_names opened_names (expr_names c used e))
+  statement_names c (default_label node) = judged_names node (statements.default_tests c) opened_names
   statement_names c (branch node e s r) = then_names (then_names opened_names (condition_names c node e)) (then_names (statement_names (inner_scope c) s) (else_names c r))
   statement_names c (while_loop node e s) = then_names (then_names opened_names (condition_names c node e)) (statement_names (inside_loop (inner_scope c)) s)
   statement_names c (do_loop node s e) = then_names (then_names opened_names (statement_names (inside_loop (inner_scope c)) s)) (condition_names c node e)
@@ -118,8 +124,8 @@ mutual
       (then_names
       (judged_names node (statements.for_tests (for_context c start) start e u) (then_names (option_names (for_context c start) used e) (option_names (for_context c start) discarded u)))
       (statement_names (inside_loop (inner_scope (for_context c start))) s))
-  statement_names c (break node) = judged_names node (statements.loop_tests c) opened_names
-  statement_names c (continue node) = judged_names node (statements.loop_tests c) opened_names
+  statement_names c (break node) = judged_names node (statements.break_tests c) opened_names
+  statement_names c (continue node) = judged_names node (statements.continue_tests c) opened_names
   statement_names c (return node e) = judged_names node (statements.return_tests c c.result e) (then_names opened_names (option_names c used e))
 
   statements_names : (c : Context) (ss : Stmts) → Names (statements_walked c ss) (of_statements no_referent referent_of c ss)

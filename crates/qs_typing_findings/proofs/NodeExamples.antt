@@ -69,6 +69,17 @@ inner_name : unit_referents (numbered_unit (g (local bases.Int 97 one ∷ trees.
     ≡ None ∷ None ∷ None ∷ None ∷ Some (referents.Local 2) ∷ None ∷ Some (referents.Local 1) ∷ []
 inner_name = refl
 
+-- char a;void g(void){switch(a){int a;case 1:a;}}
+abbrev switched : UnitTree
+switched = numbered_unit (global bases.Char 97 one ∷ g (trees.switch (unnumbered 0) a (stmts_of (local bases.Int 97 one ∷ trees.case_label (unnumbered 0) (number 1) ∷ eval a ∷ [])) ∷ []) ∷ [])
+
+-- nothing at the switch and its label; the name in its block stands for what is declared there
+switched_types : unit_types switched ≡ Some char ∷ None ∷ None ∷ Some char ∷ Some int ∷ None ∷ Some int ∷ None ∷ Some int ∷ []
+switched_types = refl
+
+switched_names : unit_referents switched ≡ None ∷ None ∷ None ∷ Some (referents.File 0) ∷ None ∷ None ∷ None ∷ None ∷ Some (referents.Local 4) ∷ []
+switched_names = refl
+
 -- void g(void){putchar(1);}
 given_name : unit_referents (numbered_unit (g (eval (e (trees.call putchar_name (trees.exprs_of (number 1 ∷ [])))) ∷ []) ∷ [])) ≡ None ∷ None ∷ Some referents.PutChar ∷ None ∷ []
 given_name = refl

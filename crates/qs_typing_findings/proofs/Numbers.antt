@@ -5,12 +5,12 @@ use Rattle.std.proofs.lemmas.List.{map-append, length-map}
 use Rattle.std.proofs.lemmas.Option.{slice_get-map}
 use Rattle.qs_syntax.specs.declared.types.Base.{Base}
 use Rattle.qs_syntax.specs.declared.nodes.Node.{Node}
-use Rattle.qs_syntax.specs.Trees.{ExprTree, DeclaratorTree, InitialiserTree, value, list, Initialisers, no_initialisers, initialiser_and, VariableTree, ParameterTree, MembersTree, StartTree, no_start, start_expression, start_declaration, StmtTree, empty, expression, declaration, block, branch, while_loop, do_loop, for_loop, break, continue, return, Stmts, no_stmts, stmt_and, Else, no_else, else_by, DefinedTree, of_struct, of_base, FunctionTree, DeclTree, structure, forward, typedef, function, variables, UnitTree}
+use Rattle.qs_syntax.specs.Trees.{ExprTree, DeclaratorTree, InitialiserTree, value, list, Initialisers, no_initialisers, initialiser_and, VariableTree, ParameterTree, MembersTree, StartTree, no_start, start_expression, start_declaration, StmtTree, empty, expression, declaration, block, switch, case_label, default_label, branch, while_loop, do_loop, for_loop, break, continue, return, Stmts, no_stmts, stmt_and, Else, no_else, else_by, DefinedTree, of_struct, of_base, FunctionTree, DeclTree, structure, forward, typedef, function, variables, UnitTree}
 use Rattle.qs_syntax.specs.Nodes.{all_nodes, option_nodes, expr_nodes, declarator_nodes, initialiser_nodes, initialisers_nodes, variable_nodes, parameter_nodes, members_nodes, start_nodes, stmt_nodes, stmts_nodes, else_nodes, defined_nodes, decl_nodes, unit_nodes}
 use Rattle.qs_types.specs.Types.{TypeTree}
 use Rattle.qs_types.specs.Contexts.{Context, start_context, inner_scope, inside_loop}
 use Rattle.qs_types.specs.Declarations.{variable_declared, parameter_declared}
-use Rattle.qs_types.specs.StatementRules.{after_variable, after_statement, for_context}
+use Rattle.qs_types.specs.StatementRules.{after_variable, after_statement, switch_context, for_context}
 use Rattle.qs_types.specs.UnitRules.{with_option_tag, after_defined, defined_type, after_type_name, after_parameter, body_context, after_declaration}
 use Rattle.qs_typing_findings.specs.ExprFindings.{node_of, of_nodes}
 use Rattle.qs_typing_findings.specs.UnitNodes.{of_option, of_lengths, of_declarator, of_declarators, of_initialiser, of_initialisers, of_option_initialiser, of_variables, of_start, of_statement, of_statements, of_else, of_members, of_defined, of_type_names, of_parameters, of_body, of_declaration, of_declarations, of_unit, with_nodes}
@@ -69,6 +69,9 @@ mutual
   statement_nodes_of c (expression node e) = ap (λ ns. node ∷ ns) (expr_aligned e)
   statement_nodes_of c (declaration d) = variables_nodes_of false c d.base d.variables
   statement_nodes_of c (block ss) = statements_nodes_of (inner_scope c) ss
+  statement_nodes_of c (switch node e ss) = λ i. node ∷ (expr_aligned e i ++ statements_nodes_of (switch_context c e) ss i)
+  statement_nodes_of c (case_label node e) = ap (λ ns. node ∷ ns) (expr_aligned e)
+  statement_nodes_of c (default_label node) = refl
   statement_nodes_of c (branch node e s r) = λ i. node ∷ (expr_aligned e i ++ (statement_nodes_of (inner_scope c) s i ++ else_nodes_of c r i))
   statement_nodes_of c (while_loop node e s) = λ i. node ∷ (expr_aligned e i ++ statement_nodes_of (inside_loop (inner_scope c)) s i)
   statement_nodes_of c (do_loop node s e) = λ i. node ∷ (statement_nodes_of (inside_loop (inner_scope c)) s i ++ expr_aligned e i)
@@ -187,6 +190,11 @@ module _ {A B : Type 0} (f : A → B) (at : Node → Option TypeTree → A) (of 
     statement_map c (expression node e) = ap (λ l. at_f node None ∷ l) (of_nodes-map (of c) f e)
     statement_map c (declaration d) = variables_map false c d.base d.variables
     statement_map c (block ss) = statements_map (inner_scope c) ss
+    statement_map c (switch node e ss) =
+        both (at node None ∷ of_nodes (of c) e) (of_statements at of (switch_context c e) ss) (at_f node None ∷ of_nodes (of_f c) e) (of_statements at_f of_f (switch_context c e) ss)
+        (ap (λ l. at_f node None ∷ l) (of_nodes-map (of c) f e)) (statements_map (switch_context c e) ss)
+    statement_map c (case_label node e) = ap (λ l. at_f node None ∷ l) (of_nodes-map (of c) f e)
+    statement_map c (default_label node) = refl
     statement_map c (branch node e s r) =
         both (at node None ∷ of_nodes (of c) e) (of_statement at of (inner_scope c) s ++ of_else at of c r)
         (at_f node None ∷ of_nodes (of_f c) e) (of_statement at_f of_f (inner_scope c) s ++ of_else at_f of_f c r)

@@ -3,7 +3,7 @@ use Rattle.std.specs.Prelude.{◌≡◌, ℕ, Bool, List, Option, is_some, map}
 use Rattle.std.specs.Map.{values_of}
 use Rattle.qs_syntax.specs.declared.types.Base.{Base}
 use Rattle.qs_types.specs.declared.types.CType.{CType}
-use Rattle.qs_types.specs.Contexts.{base_type, starred_type, with_name}
+use Rattle.qs_types.specs.Contexts.{base_type, starred_type, with_case, with_name}
 use Rattle.qs_types.specs.Layout.{layout_of, sized_layout, with_members}
 use Rattle.qs_types.specs.StructsOf.{member_tree}
 use Rattle.qs_types.specs.TypeOf.{type_tree}
@@ -35,6 +35,10 @@ KnowsStruct tag before after = context_tree after ≡ with_option_tag (context_t
 
 abbrev pub KnowsTypeName : List ℕ → Option CType → (before after : Context) → Type 0
 KnowsTypeName x t before after = context_tree after ≡ with_type_name (context_tree before) x (option_type t)
+
+-- what is known behind a `case` of this value
+abbrev pub KnowsCase : (value : Option ℕ) → (before after : Context) → Type 0
+KnowsCase value before after = context_tree after ≡ with_case (context_tree before) value
 
 abbrev pub IsBase : Context → Base → Option CType → Type 0
 IsBase c base t = option_type t ≡ base_type (context_tree c) base

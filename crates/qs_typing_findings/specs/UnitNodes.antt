@@ -3,11 +3,11 @@
 use Rattle.std.specs.Prelude.{Bool, true, false, List, [], ◌∷◌, ◌++◌, Option, Some, None}
 use Rattle.qs_syntax.specs.declared.nodes.Node.{Node}
 use Rattle.qs_syntax.specs.declared.types.Base.{Base}
-use Rattle.qs_syntax.specs.Trees.{ExprTree, DeclaratorTree, InitialiserTree, value, list, Initialisers, no_initialisers, initialiser_and, VariableTree, ParameterTree, MembersTree, StartTree, no_start, start_expression, start_declaration, StmtTree, empty, expression, declaration, block, branch, while_loop, do_loop, for_loop, break, continue, return, Stmts, no_stmts, stmt_and, Else, no_else, else_by, DefinedTree, of_struct, of_base, FunctionTree, DeclTree, structure, forward, typedef, function, variables, UnitTree}
+use Rattle.qs_syntax.specs.Trees.{ExprTree, DeclaratorTree, InitialiserTree, value, list, Initialisers, no_initialisers, initialiser_and, VariableTree, ParameterTree, MembersTree, StartTree, no_start, start_expression, start_declaration, StmtTree, empty, expression, declaration, block, switch, case_label, default_label, branch, while_loop, do_loop, for_loop, break, continue, return, Stmts, no_stmts, stmt_and, Else, no_else, else_by, DefinedTree, of_struct, of_base, FunctionTree, DeclTree, structure, forward, typedef, function, variables, UnitTree}
 use Rattle.qs_types.specs.Types.{TypeTree}
 use Rattle.qs_types.specs.Contexts.{Context, start_context, inner_scope, inside_loop}
 use Rattle.qs_types.specs.Declarations.{variable_declared, parameter_declared}
-use Rattle.qs_types.specs.StatementRules.{after_variable, after_statement, for_context}
+use Rattle.qs_types.specs.StatementRules.{after_variable, after_statement, switch_context, for_context}
 use Rattle.qs_types.specs.UnitRules.{with_option_tag, after_defined, defined_type, after_type_name, after_parameter, body_context, after_declaration}
 use Rattle.qs_typing_findings.specs.ExprFindings.{node_of, of_nodes}
 
@@ -61,6 +61,9 @@ module _ {A : Type 0} (at : Node → Option TypeTree → A) (of : Context → Ex
     of_statement c (expression node e) = at node None ∷ of_nodes (of c) e
     of_statement c (declaration d) = of_variables false c d.base d.variables
     of_statement c (block ss) = of_statements (inner_scope c) ss
+    of_statement c (switch node e ss) = (at node None ∷ of_nodes (of c) e) ++ of_statements (switch_context c e) ss
+    of_statement c (case_label node e) = at node None ∷ of_nodes (of c) e
+    of_statement c (default_label node) = at node None ∷ []
     of_statement c (branch node e s r) = (at node None ∷ of_nodes (of c) e) ++ (of_statement (inner_scope c) s ++ of_else c r)
     of_statement c (while_loop node e s) = (at node None ∷ of_nodes (of c) e) ++ of_statement (inside_loop (inner_scope c)) s
     of_statement c (do_loop node s e) = (at node None ∷ of_statement (inside_loop (inner_scope c)) s) ++ of_nodes (of c) e

@@ -2,7 +2,7 @@
 use Rattle.std.specs.Prelude.{ℕ, ◌+◌, Bool, true, false, ◌&&◌, List, [], ◌∷◌, Option, Some, None, is_some, length, drop}
 use Rattle.qs_syntax.specs.declared.types.Base.{Base}
 use Rattle.qs_syntax.specs.declared.nodes.Node.{Node}
-use Rattle.qs_syntax.specs.Trees.{ExprTree, DeclaratorTree, InitialiserTree, value, list, Initialisers, no_initialisers, initialiser_and, VariableTree, ParameterTree, MembersTree, StartTree, no_start, start_expression, start_declaration, StmtTree, empty, expression, declaration, block, branch, while_loop, do_loop, for_loop, break, continue, return, Stmts, no_stmts, stmt_and, Else, no_else, else_by, StructTree, DefinedTree, of_struct, of_base, TypedefTree, FunctionTree, DeclTree, structure, forward, typedef, function, variables, UnitTree}
+use Rattle.qs_syntax.specs.Trees.{ExprTree, DeclaratorTree, InitialiserTree, value, list, Initialisers, no_initialisers, initialiser_and, VariableTree, ParameterTree, MembersTree, StartTree, no_start, start_expression, start_declaration, StmtTree, empty, expression, declaration, block, switch, case_label, default_label, branch, while_loop, do_loop, for_loop, break, continue, return, Stmts, no_stmts, stmt_and, Else, no_else, else_by, StructTree, DefinedTree, of_struct, of_base, TypedefTree, FunctionTree, DeclTree, structure, forward, typedef, function, variables, UnitTree}
 use Rattle.qs_types.specs.Types.{TypeTree}
 use Rattle.qs_types.specs.declared.rules.Rule.TheVariants as rules
 use Rattle.qs_types.specs.Rules.{Test, test}
@@ -11,7 +11,7 @@ use Rattle.qs_types.specs.Expressions.{type_of}
 use Rattle.qs_types.specs.ExpressionFaults.{Position, used, discarded, whole}
 use Rattle.qs_types.specs.Declarations.{variable_declared, parameter_declared}
 use Rattle.qs_types.specs.InitialiserRules.{option_part, list_tests}
-use Rattle.qs_types.specs.StatementRules.{after_variable, variable_tests, condition_tests, for_context, for_tests, loop_tests, return_tests, after_statement}
+use Rattle.qs_types.specs.StatementRules.{after_variable, variable_tests, condition_tests, switch_tests, switch_context, case_tests, default_tests, for_context, for_tests, break_tests, continue_tests, return_tests, after_statement}
 use Rattle.qs_types.specs.UnitRules.{with_option_tag, is_option_defined, Before, no_members, after_member, after_together, member_tests, after_defined, defined_type, after_type_name, type_name_tests, after_parameter, parameter_types, parameter_tests, header_tests, body_context, after_declaration}
 use Rattle.qs_types.specs.Sites.{may_hold}
 use Rattle.qs_typing_findings.specs.Findings.{FoundTree, nothing_found, judged_at, with_findings}
@@ -111,12 +111,19 @@ start_walked c (start_declaration d) w = variables_walked false c d.base d.varia
 abbrev pub condition_walked : Context → Node → ExprTree → WalkTree → WalkTree
 condition_walked c node e w = node_judged node (condition_tests (type_of c e)) (expr_walked c used e w)
 
+-- the operand of a switch
+abbrev pub operand_walked : Context → Node → ExprTree → WalkTree → WalkTree
+operand_walked c node e w = node_judged node (switch_tests (type_of c e)) (expr_walked c used e w)
+
 abbrev mutual
   pub statement_walked : Context → StmtTree → WalkTree → WalkTree
   statement_walked c (empty node) w = node_opened w
   statement_walked c (expression node e) w = expr_walked c discarded e (node_opened w)
   statement_walked c (declaration d) w = variables_walked false c d.base d.variables w
   statement_walked c (block ss) w = statements_walked (inner_scope c) ss w
+  statement_walked c (switch node e ss) w = statements_walked (switch_context c e) ss (operand_walked c node e (node_opened w))
+  statement_walked c (case_label node e) w = node_judged node (case_tests c e) (expr_walked c used e (node_opened w))
+  statement_walked c (default_label node) w = node_judged node (default_tests c) (node_opened w)
   statement_walked c (branch node e s r) w =
       else_walked c r (statement_walked (inner_scope c) s (condition_walked c node e (node_opened w)))
   statement_walked c (while_loop node e s) w =
@@ -128,8 +135,8 @@ abbrev mutual
       (node_judged node (for_tests (for_context c start) start e u)
       (option_walked (for_context c start) discarded u
       (option_walked (for_context c start) used e (start_walked (inner_scope c) start (node_opened w)))))
-  statement_walked c (break node) w = node_judged node (loop_tests c) (node_opened w)
-  statement_walked c (continue node) w = node_judged node (loop_tests c) (node_opened w)
+  statement_walked c (break node) w = node_judged node (break_tests c) (node_opened w)
+  statement_walked c (continue node) w = node_judged node (continue_tests c) (node_opened w)
   statement_walked c (return node e) w = node_judged node (return_tests c c.result e) (option_walked c used e (node_opened w))
 
   pub statements_walked : Context → Stmts → WalkTree → WalkTree

@@ -22,7 +22,7 @@ mod typed_unit;
 mod types;
 mod walk;
 
-pub use context::{Context, is_void_base, starred, struct_at};
+pub use context::{Around, Context, is_void_base, starred, struct_at};
 pub use entity::{Entity, Signature};
 pub use expressions::walk_expression;
 pub use found::{Fault, Found};

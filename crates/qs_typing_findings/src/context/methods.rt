@@ -17,9 +17,10 @@ ghost use Rattle.qs_typing_findings.specs.Knowing.{GivesMembers, IsBase, IsSized
 ghost use Rattle.qs_typing_findings.specs.Knowing.{KnowsStruct, KnowsTypeName, SetsResult};
 ghost use Rattle.qs_typing_findings.specs.PartsOf.{option_type};
 ghost use Rattle.qs_typing_findings.specs.ScopesOf.{inner_bindings, outer_bindings};
-ghost use Rattle.qs_typing_findings.specs.ContextOf.{context_tree, outer_scope, with_loop};
+ghost use Rattle.qs_typing_findings.specs.ContextOf.{around_tree, context_tree, outer_scope};
+ghost use Rattle.qs_typing_findings.specs.ContextOf.{surroundings_of};
 
-use super::Context;
+use super::{Around, Context, Labels};
 use crate::entity::{Entity, Signature};
 use crate::scopes::Scopes;
 use crate::types::copied;
@@ -145,6 +146,8 @@ impl Context {
             names: given_names(alloc)?,
             result: None,
             in_loop: false,
+            in_switch: false,
+            labels: Labels::new(alloc),
         })
     }
 
@@ -213,21 +216,29 @@ impl Context {
         self.names.declare(alloc, name, entity)
     }
 
-    /// Begins a scope, and tells where the one around it begins: how many names stand outside of
-    /// that.
-    pub fn enter_scope(&mut self) -> usize
-        ensures around { result ≡ length (context_tree self.old).outer }
+    /// Begins a scope, and tells what it stands in.
+    pub fn enter_scope(&mut self, alloc: Global) -> Around
+        ensures around { around_tree result ≡ surroundings_of (context_tree self.old) }
         ensures inside { context_tree self.new ≡ inner_scope (context_tree self.old) }
     {
-        self.names.enter()
+        let labels = mem::replace(&mut self.labels, Labels::new(alloc));
+        Around {
+            names: self.names.enter(),
+            in_loop: self.in_loop,
+            in_switch: self.in_switch,
+            labels,
+        }
     }
 
-    /// Ends the innermost scope, where the one around it begins behind so many names.
-    pub fn leave_scope(&mut self, around: usize)
-        requires { around ≤ length (context_tree self.old).outer }
-        ensures { context_tree self.new ≡ outer_scope around (context_tree self.old) }
+    /// Ends the innermost scope, which stands in this.
+    pub fn leave_scope(&mut self, around: Around)
+        requires { around.names ≤ length (context_tree self.old).outer }
+        ensures { context_tree self.new ≡ outer_scope (around_tree around) (context_tree self.old) }
     {
-        self.names.leave(around);
+        self.names.leave(around.names);
+        self.in_loop = around.in_loop;
+        self.in_switch = around.in_switch;
+        self.labels = around.labels;
     }
 
     /// The result of the function, where it has a type.
@@ -243,20 +254,6 @@ impl Context {
         ensures set { SetsResult to self.old self.new }
     {
         mem::replace(&mut self.result, to)
-    }
-
-    /// Whether a loop is around the place.
-    pub fn in_loop(&self) -> bool
-        ensures { result ≡ (context_tree self.now).in_loop }
-    {
-        self.in_loop
-    }
-
-    /// Sets whether a loop is around the place.
-    pub fn set_loop(&mut self, to: bool)
-        ensures { context_tree self.new ≡ with_loop (context_tree self.old) to }
-    {
-        self.in_loop = to;
     }
 
     /// The place of a tag among the structs (C11 6.7.2.3).

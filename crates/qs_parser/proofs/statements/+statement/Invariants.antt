@@ -1,6 +1,6 @@
-use Rattle.std.proofs.Common.{◌≡◌, ◌≤◌, length, map, ◌+◌, ◌-◌, ◌*◌, []}
+use Rattle.std.proofs.Common.{◌≡◌, ◌≤◌, length, map, ◌+◌, ◌-◌, ◌*◌, [], false}
 use Rattle.qs_syntax.specs.TreeOf.{stmt_tree}
-use Rattle.qs_parser_grammar.specs.ParseStatements.{items, statement}
+use Rattle.qs_parser_grammar.specs.ParseStatements.{items, switch_items, statement}
 use Rattle.qs_parser.proofs.statements.+statement.Given as goal
 
 abbrev pub decreases-statement : goal.decreases-statement
@@ -17,6 +17,18 @@ decreases-items l = 64 * l.context.room + 2
 
 abbrev pub decreases-in_block : goal.decreases-in_block
 decreases-in_block l = 64 * l.context.room + 3
+
+abbrev pub decreases-switch_item : goal.decreases-switch_item
+decreases-switch_item l = 64 * l.context.room + 2
+
+abbrev pub decreases-switch_items : goal.decreases-switch_items
+decreases-switch_items l = 64 * l.context.room + 3
+
+abbrev pub decreases-switch_block : goal.decreases-switch_block
+decreases-switch_block l = 64 * l.context.room
+
+abbrev pub decreases-after_switch : goal.decreases-after_switch
+decreases-after_switch l = 64 * l.context.room + 1
 
 abbrev pub decreases-otherwise : goal.decreases-otherwise
 decreases-otherwise l = 64 * l.context.room + 2
@@ -48,5 +60,11 @@ decreases-statement_at l = 64 * l.context.room + 60
 abbrev pub invariant-items-loop : goal.invariant-items-loop
 invariant-items-loop l = record {
   same : items l.context.room (statement l.context.room) (length l.fn.tokens - l.counter) (map stmt_tree l.items.items) l.height l.rest ≡ items l.context.room (statement l.context.room) (length l.fn.tokens) [] 0 l.fn.tokens;
+  low : l.height ≤ l.context.room;
+}
+
+abbrev pub invariant-switch_items-loop : goal.invariant-switch_items-loop
+invariant-switch_items-loop l = record {
+  same : switch_items l.context.room (statement l.context.room) (length l.fn.tokens - l.counter) l.labelled (map stmt_tree l.items.items) l.height l.rest ≡ switch_items l.context.room (statement l.context.room) (length l.fn.tokens) false [] 0 l.fn.tokens;
   low : l.height ≤ l.context.room;
 }

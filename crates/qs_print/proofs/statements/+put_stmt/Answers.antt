@@ -2,7 +2,7 @@ use Rattle.std.proofs.Common.{arith}
 use Rattle.qs_syntax.specs.TreeOf.{stmt_tree}
 use Rattle.qs_print.specs.Printed.{printed_stmt}
 use Rattle.qs_print.proofs.Spaces.{last, row_more, stmts_list}
-use Rattle.qs_print.proofs.Variants.{branch_tree, do_loop_tree, expression_tree, for_loop_tree, return_tree, while_loop_tree}
+use Rattle.qs_print.proofs.Variants.{branch_tree, do_loop_tree, expression_tree, for_loop_tree, return_tree, switch_tree, while_loop_tree}
 use Rattle.qs_print.proofs.statements.+put_stmt.Goals as goal
 
 pub put_stmts-loop-s-preserved : goal.put_stmts-loop-s-preserved
@@ -13,6 +13,9 @@ put_block-returns t c = rw stmts_list (last _ _ c.put_punctuator-2.result c.in_o
 
 pub put_stmt-returns-in_ok-put_expr-in-Expression : goal.put_stmt-returns-in_ok-put_expr-in-Expression
 put_stmt-returns-in_ok-put_expr-in-Expression t c = rw (c.in-Expression.is, expression_tree) (last _ _ c.put_punctuator-in-Expression.result c.in_ok-put_expr-in-Expression.ensures c.put_punctuator-in-Expression.ensures)
+
+pub put_stmt-returns-in_ok-put_in_parentheses-in-Switch : goal.put_stmt-returns-in_ok-put_in_parentheses-in-Switch
+put_stmt-returns-in_ok-put_in_parentheses-in-Switch t c = rw (c.in-Switch.is, switch_tree, ← c.deref-in-Switch.ensures.value) (last _ _ c.put_block-in-Switch.result c.in_ok-put_keyword-in-Switch.ensures (last _ _ c.put_block-in-Switch.result c.in_ok-put_in_parentheses-in-Switch.ensures c.put_block-in-Switch.ensures))
 
 pub put_stmt-returns-in_ok-put_stmt-in-If : goal.put_stmt-returns-in_ok-put_stmt-in-If
 put_stmt-returns-in_ok-put_stmt-in-If t c = rw (c.in-If.is, branch_tree, ← c.deref-in-If.ensures) (last _ _ c.put_else.result c.in_ok-put_keyword-in-If.ensures (last _ _ c.put_else.result c.in_ok-put_in_parentheses-in-If.ensures (last _ _ c.put_else.result c.in_ok-put_stmt-in-If.ensures c.put_else.ensures)))

@@ -4,7 +4,7 @@ use Rattle.qs_syntax.specs.TreeOf.{parameter_tree, stmts_tree}
 use Rattle.qs_types.specs.Contexts.{inner_scope}
 use Rattle.qs_types.specs.TypeOf.{type_tree}
 use Rattle.qs_types.specs.UnitRules.{with_parameters}
-use Rattle.qs_typing_findings.specs.ContextOf.{context_tree, with_result}
+use Rattle.qs_typing_findings.specs.ContextOf.{around_tree, context_tree, with_result}
 use Rattle.qs_typing_findings.specs.Noted.{parameters_noted}
 use Rattle.qs_typing_findings.specs.UnitWalk.{statements_walked, with_body_begun, with_body_ended}
 use Rattle.qs_typing_findings.specs.WalkOf.{walk_tree}
@@ -14,7 +14,7 @@ use Rattle.qs_typing.proofs.functions.walk_body_items.Goals as goal
 pub leave_scope-requires : goal.leave_scope-requires
 leave_scope-requires c =
     items_leave (context_tree c.args.c.now) (context_tree c.enter_scope-around.new.self) (context_tree c.set_result-before.new.self) (context_tree c.declare_parameters.new.c)
-    (context_tree c.walk_statements.new.c) (context_tree c.set_result.new.self) c.enter_scope-around.result (option_map type_tree c.set_result-before.result) (option_map type_tree c.args.to)
+    (context_tree c.walk_statements.new.c) (context_tree c.set_result.new.self) (around_tree c.enter_scope-around.result) (option_map type_tree c.set_result-before.result) (option_map type_tree c.args.to)
     (map parameter_tree c.args.ps.now) (map (option_map type_tree) c.args.ts.now) (stmts_tree c.args.items.now)
     c.enter_scope-around.ensures.around c.enter_scope-around.ensures.inside c.set_result-before.ensures.before c.set_result-before.ensures.set c.in_ok-declare_parameters.ensures
     c.in_ok-walk_statements.ensures.context c.set_result.ensures.set
@@ -23,7 +23,7 @@ pub returns-clause-context : goal.returns-clause-context
 returns-clause-context c =
     on_ok_weaker c.end_body.result
     (λ _. items_end (context_tree c.args.c.now) (context_tree c.enter_scope-around.new.self) (context_tree c.set_result-before.new.self) (context_tree c.declare_parameters.new.c)
-    (context_tree c.walk_statements.new.c) (context_tree c.set_result.new.self) (context_tree c.leave_scope.new.self) c.enter_scope-around.result (option_map type_tree c.set_result-before.result)
+    (context_tree c.walk_statements.new.c) (context_tree c.set_result.new.self) (context_tree c.leave_scope.new.self) (around_tree c.enter_scope-around.result) (option_map type_tree c.set_result-before.result)
     (option_map type_tree c.args.to) (map parameter_tree c.args.ps.now) (map (option_map type_tree) c.args.ts.now) (stmts_tree c.args.items.now)
     c.enter_scope-around.ensures.around c.enter_scope-around.ensures.inside c.set_result-before.ensures.before c.set_result-before.ensures.set c.in_ok-declare_parameters.ensures
     c.in_ok-walk_statements.ensures.context c.set_result.ensures.set c.leave_scope.ensures)

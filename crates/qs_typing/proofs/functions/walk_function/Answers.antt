@@ -4,7 +4,7 @@ use Rattle.qs_syntax.specs.TreeOf.{function_tree, parameter_tree, stmts_tree}
 use Rattle.qs_types.specs.Contexts.{inner_scope}
 use Rattle.qs_types.specs.TypeOf.{type_tree}
 use Rattle.qs_types.specs.UnitRules.{after_function, parameter_types, result_type}
-use Rattle.qs_typing_findings.specs.ContextOf.{context_tree}
+use Rattle.qs_typing_findings.specs.ContextOf.{around_tree, context_tree}
 use Rattle.qs_typing_findings.specs.Functions.{items_walked}
 use Rattle.qs_typing_findings.specs.JudgedOf.{test_tree}
 use Rattle.qs_typing_findings.specs.UnitWalk.{function_walked}
@@ -15,14 +15,14 @@ use Rattle.qs_typing.proofs.functions.walk_function.Goals as goal
 
 pub leave_scope-requires : goal.leave_scope-requires
 leave_scope-requires c =
-    header_leaves (context_tree c.args.c.now) (context_tree c.enter_scope-around.new.self) (context_tree c.walk_parameters.new.c) c.enter_scope-around.result
+    header_leaves (context_tree c.args.c.now) (context_tree c.enter_scope-around.new.self) (context_tree c.walk_parameters.new.c) (around_tree c.enter_scope-around.result)
     (map parameter_tree c.deref.result.now) c.enter_scope-around.ensures.around c.enter_scope-around.ensures.inside c.in_ok-types.ensures.context
 
 pub header_tests-requires-clause-types : goal.header_tests-requires-clause-types
 header_tests-requires-clause-types c =
     let begun = context_tree c.enter_scope-around.new.self in
     let left : context_tree c.leave_scope.new.self ≡ context_tree c.args.c.now =
-    header_ends (context_tree c.args.c.now) begun (context_tree c.walk_parameters.new.c) (context_tree c.leave_scope.new.self) c.enter_scope-around.result
+    header_ends (context_tree c.args.c.now) begun (context_tree c.walk_parameters.new.c) (context_tree c.leave_scope.new.self) (around_tree c.enter_scope-around.result)
     (map parameter_tree c.deref.result.now) c.enter_scope-around.ensures.around c.enter_scope-around.ensures.inside c.in_ok-types.ensures.context c.leave_scope.ensures in
     let scope : begun ≡ inner_scope (context_tree c.leave_scope.new.self) = c.enter_scope-around.ensures.inside ∙ ap inner_scope (sym left) in
     ap (map (option_map type_tree)) c.deref-2.ensures.value ∙ c.in_ok-types.ensures.typed ∙ (λ i. parameter_types (scope i) (map parameter_tree (c.deref.ensures.value i)))
@@ -31,7 +31,7 @@ pub declare_function-requires-clause-types : goal.declare_function-requires-clau
 declare_function-requires-clause-types c =
     let begun = context_tree c.enter_scope-around.new.self in
     let left : context_tree c.leave_scope.new.self ≡ context_tree c.args.c.now =
-    header_ends (context_tree c.args.c.now) begun (context_tree c.walk_parameters.new.c) (context_tree c.leave_scope.new.self) c.enter_scope-around.result
+    header_ends (context_tree c.args.c.now) begun (context_tree c.walk_parameters.new.c) (context_tree c.leave_scope.new.self) (around_tree c.enter_scope-around.result)
     (map parameter_tree c.deref.result.now) c.enter_scope-around.ensures.around c.enter_scope-around.ensures.inside c.in_ok-types.ensures.context c.leave_scope.ensures in
     let scope : begun ≡ inner_scope (context_tree c.leave_scope.new.self) = c.enter_scope-around.ensures.inside ∙ ap inner_scope (sym left) in
     ap (map (option_map type_tree)) c.deref-4.ensures.value ∙ c.in_ok-types.ensures.typed ∙ (λ i. parameter_types (scope i) (map parameter_tree (c.deref.ensures.value i)))
@@ -39,7 +39,7 @@ declare_function-requires-clause-types c =
 pub returns-in-None-clause-context : goal.returns-in-None-clause-context
 returns-in-None-clause-context c =
     let left : context_tree c.leave_scope.new.self ≡ context_tree c.args.c.now =
-    header_ends (context_tree c.args.c.now) (context_tree c.enter_scope-around.new.self) (context_tree c.walk_parameters.new.c) (context_tree c.leave_scope.new.self) c.enter_scope-around.result
+    header_ends (context_tree c.args.c.now) (context_tree c.enter_scope-around.new.self) (context_tree c.walk_parameters.new.c) (context_tree c.leave_scope.new.self) (around_tree c.enter_scope-around.result)
     (map parameter_tree c.deref.result.now) c.enter_scope-around.ensures.around c.enter_scope-around.ensures.inside c.in_ok-types.ensures.context c.leave_scope.ensures in
     c.in_ok-declare_function.ensures ∙ ap (λ d. after_function d (function_tree c.args.f.now)) left
 
@@ -47,7 +47,7 @@ pub returns-in-None-clause-walked : goal.returns-in-None-clause-walked
 returns-in-None-clause-walked c =
     let context = context_tree c.args.c.now in
     let left : context_tree c.leave_scope.new.self ≡ context =
-    header_ends context (context_tree c.enter_scope-around.new.self) (context_tree c.walk_parameters.new.c) (context_tree c.leave_scope.new.self) c.enter_scope-around.result
+    header_ends context (context_tree c.enter_scope-around.new.self) (context_tree c.walk_parameters.new.c) (context_tree c.leave_scope.new.self) (around_tree c.enter_scope-around.result)
     (map parameter_tree c.deref.result.now) c.enter_scope-around.ensures.around c.enter_scope-around.ensures.inside c.in_ok-types.ensures.context c.leave_scope.ensures in
     no_body context (function_tree c.args.f.now) (walk_tree c.args.walk.now) (walk_tree c.judge.new.self) (ap (option_map (λ b. stmts_tree b.items)) c.in-None.is)
     (header_is context (context_tree c.enter_scope-around.new.self) (context_tree c.leave_scope.new.self) (function_tree c.args.f.now)
@@ -59,7 +59,7 @@ returns-in-None-clause-walked c =
 pub returns-clause-context : goal.returns-clause-context
 returns-clause-context c =
     let left : context_tree c.leave_scope.new.self ≡ context_tree c.args.c.now =
-    header_ends (context_tree c.args.c.now) (context_tree c.enter_scope-around.new.self) (context_tree c.walk_parameters.new.c) (context_tree c.leave_scope.new.self) c.enter_scope-around.result
+    header_ends (context_tree c.args.c.now) (context_tree c.enter_scope-around.new.self) (context_tree c.walk_parameters.new.c) (context_tree c.leave_scope.new.self) (around_tree c.enter_scope-around.result)
     (map parameter_tree c.deref.result.now) c.enter_scope-around.ensures.around c.enter_scope-around.ensures.inside c.in_ok-types.ensures.context c.leave_scope.ensures in
     on_ok_weaker c.walk_body_items.result (λ e. e ∙ c.in_ok-declare_function.ensures ∙ ap (λ d. after_function d (function_tree c.args.f.now)) left) c.walk_body_items.ensures.context
 
@@ -70,7 +70,7 @@ returns-clause-walked c =
     let begun = context_tree c.enter_scope-around.new.self in
     let ps = map parameter_tree c.deref.result.now in
     let left : context_tree c.leave_scope.new.self ≡ context =
-    header_ends context begun (context_tree c.walk_parameters.new.c) (context_tree c.leave_scope.new.self) c.enter_scope-around.result
+    header_ends context begun (context_tree c.walk_parameters.new.c) (context_tree c.leave_scope.new.self) (around_tree c.enter_scope-around.result)
     ps c.enter_scope-around.ensures.around c.enter_scope-around.ensures.inside c.in_ok-types.ensures.context c.leave_scope.ensures in
     let types : map (option_map type_tree) c.deref-in-Some-2.result.now ≡ parameter_types (inner_scope context) f.parameters =
     ap (map (option_map type_tree)) c.deref-in-Some-2.ensures.value ∙ c.in_ok-types.ensures.typed

@@ -38,6 +38,9 @@ decreases-walk_else l = 8 * else_size l.s.now + 2
 abbrev pub decreases-walk_block : goal.decreases-walk_block
 decreases-walk_block l = 8 * goal.size-walk_block l + 2
 
+abbrev pub decreases-walk_switch : goal.decreases-walk_switch
+decreases-walk_switch l = 8 * goal.size-walk_switch l + 2
+
 abbrev pub decreases-walk_statements : goal.decreases-walk_statements
 decreases-walk_statements l = 8 * goal.size-walk_statements l + 1
 

@@ -5,7 +5,7 @@ use Rattle.std.specs.Option.{option_or}
 use Rattle.qs_syntax.specs.declared.nodes.Node.{Node}
 use Rattle.qs_syntax.specs.declared.types.Base.{Base}
 use Rattle.qs_syntax_vocabulary.specs.declared.terminal.Terminal.{Terminal}
-use Rattle.qs_syntax.specs.Trees.{ExprTree, expr, ShapeTree, Exprs, no_exprs, expr_and, DeclaratorTree, InitialiserTree, value, list, Initialisers, no_initialisers, initialiser_and, VariableTree, ParameterTree, MembersTree, StartTree, no_start, start_expression, start_declaration, StmtTree, empty, expression, declaration, block, branch, while_loop, do_loop, for_loop, break, continue, return, Stmts, no_stmts, stmt_and, Else, no_else, else_by, StructTree, DefinedTree, of_struct, of_base, TypedefTree, FunctionTree, DeclTree, structure, forward, typedef, function, variables, UnitTree}
+use Rattle.qs_syntax.specs.Trees.{ExprTree, expr, ShapeTree, Exprs, no_exprs, expr_and, DeclaratorTree, InitialiserTree, value, list, Initialisers, no_initialisers, initialiser_and, VariableTree, ParameterTree, MembersTree, StartTree, no_start, start_expression, start_declaration, StmtTree, empty, expression, declaration, block, switch, case_label, default_label, branch, while_loop, do_loop, for_loop, break, continue, return, Stmts, no_stmts, stmt_and, Else, no_else, else_by, StructTree, DefinedTree, of_struct, of_base, TypedefTree, FunctionTree, DeclTree, structure, forward, typedef, function, variables, UnitTree}
 use Rattle.qs_syntax.specs.Trees as trees
 use Rattle.qs_syntax.specs.Nodes.{all_nodes, option_nodes, expr_nodes, shape_nodes, exprs_nodes, declarator_nodes, initialiser_nodes, initialisers_nodes, variable_nodes, declaration_nodes, parameter_nodes, members_nodes, start_nodes, stmt_nodes, stmts_nodes, else_nodes, struct_nodes, defined_nodes, typedef_nodes, function_nodes, decl_nodes, unit_nodes, unit_count}
 use Rattle.qs_types.specs.Types.{TypeTree, Structs}
@@ -15,7 +15,7 @@ use Rattle.qs_types.specs.ExpressionFaults.{Position, used, discarded, whole, op
 use Rattle.qs_types.specs.Expressions.{type_of, shape_judged}
 use Rattle.qs_types.specs.Declarations.{lengths_faults, variable_declared}
 use Rattle.qs_types.specs.InitialiserRules.{list_tests, initialiser_faults, elements_faults, option_part}
-use Rattle.qs_types.specs.StatementRules.{after_variable, after_statement, for_context, variable_tests, option_initialiser_faults, variable_faults, variables_faults, condition_tests, condition_faults, option_used, option_discarded, return_tests, loop_tests, for_tests, for_faults, start_faults, statement_faults, statements_faults, else_faults}
+use Rattle.qs_types.specs.StatementRules.{after_variable, after_statement, switch_context, for_context, variable_tests, option_initialiser_faults, variable_faults, variables_faults, condition_tests, condition_faults, option_used, option_discarded, return_tests, switch_tests, switch_faults, case_tests, default_tests, break_tests, continue_tests, for_tests, for_faults, start_faults, statement_faults, statements_faults, else_faults}
 use Rattle.qs_types.specs.UnitRules.{Before, no_members, with_option_tag, after_member, after_together, member_tests, member_faults, together_faults, members_faults, struct_faults, is_option_defined, after_defined, defined_type, defined_faults, after_type_name, type_name_tests, type_name_faults, type_names_faults, typedef_faults, header_tests, parameter_tests, parameters_faults, after_parameter, parameter_types, body_context, body_faults, function_faults, after_declaration, declaration_faults, declarations_faults, faults_in, is_name_in}
 use Rattle.qs_types.specs.declared.rules.Rule.TheVariants as rules
 use Rattle.qs_types.specs.Rules.{test}
@@ -179,6 +179,14 @@ module _ (P : ℕ → Type 0) where
     statement_told c (expression node e) k = expr_told c discarded e k.1
     statement_told c (declaration d) k = variables_told false c d.base d.variables k
     statement_told c (block ss) k = statements_told (inner_scope c) ss k
+    statement_told c (switch node e ss) k =
+        told_both (switch_faults c node e) (statements_faults (switch_context c e) ss)
+        (told_both (faults_of node.id (switch_tests (type_of c e))) (expr_faults c used e) (own_told node.id (switch_tests (type_of c e)) k.0)
+        (expr_told c used e (known_front (expr_nodes e) (stmts_nodes ss) k.1)))
+        (statements_told (switch_context c e) ss (known_back (expr_nodes e) (stmts_nodes ss) k.1))
+    statement_told c (case_label node e) k =
+        told_both (faults_of node.id (case_tests c e)) (expr_faults c used e) (own_told node.id (case_tests c e) k.0) (expr_told c used e k.1)
+    statement_told c (default_label node) k = own_told node.id (default_tests c) k.0
     statement_told c (branch node e s r) k =
         let rest = known_back (expr_nodes e) (stmt_nodes s ++ else_nodes r) k.1 in
         told_both (condition_faults c node e) (statement_faults (inner_scope c) s ++ else_faults c r)
@@ -200,8 +208,8 @@ module _ (P : ℕ → Type 0) where
         (told_both (for_faults after a node e u) (statement_faults (inside_loop (inner_scope after)) s)
         (for_told after a node e u k.0 (known_front (option_nodes expr_nodes e) (option_nodes expr_nodes u ++ stmt_nodes s) i) (known_front (option_nodes expr_nodes u) (stmt_nodes s) j))
         (statement_told (inside_loop (inner_scope after)) s (known_back (option_nodes expr_nodes u) (stmt_nodes s) j)))
-    statement_told c (break node) k = own_told node.id (loop_tests c) k.0
-    statement_told c (continue node) k = own_told node.id (loop_tests c) k.0
+    statement_told c (break node) k = own_told node.id (break_tests c) k.0
+    statement_told c (continue node) k = own_told node.id (continue_tests c) k.0
     statement_told c (return node e) k = told_both (faults_of node.id (return_tests c c.result e)) (option_used c e) (own_told node.id (return_tests c c.result e) k.0) (used_told c e k.1)
 
     statements_told : (c : Context) (ss : Stmts) → Known (stmts_nodes ss) → Told (statements_faults c ss)
@@ -485,6 +493,10 @@ module _ (P : ℕ → Type 0) where
     statement_sites_known c (expression node e) k = (k.1, tt)
     statement_sites_known c (declaration d) k = variables_sites_known false c d.base d.variables k
     statement_sites_known c (block ss) k = statements_sites_known (inner_scope c) ss k
+    statement_sites_known c (switch node e ss) k =
+        (known_front (expr_nodes e) (stmts_nodes ss) k.1, statements_sites_known (switch_context c e) ss (known_back (expr_nodes e) (stmts_nodes ss) k.1))
+    statement_sites_known c (case_label node e) k = (k.1, tt)
+    statement_sites_known c (default_label node) k = tt
     statement_sites_known c (branch node e s r) k =
         let rest = known_back (expr_nodes e) (stmt_nodes s ++ else_nodes r) k.1 in (
           known_front (expr_nodes e) (stmt_nodes s ++ else_nodes r) k.1,
@@ -607,6 +619,9 @@ module _ (P : ℕ → Type 0) where
     statement_locals_known c (expression node e) k = tt
     statement_locals_known c (declaration d) k = variables_locals_known c d.base d.variables k
     statement_locals_known c (block ss) k = statements_locals_known (inner_scope c) ss k
+    statement_locals_known c (switch node e ss) k = statements_locals_known (switch_context c e) ss (known_back (expr_nodes e) (stmts_nodes ss) k.1)
+    statement_locals_known c (case_label node e) k = tt
+    statement_locals_known c (default_label node) k = tt
     statement_locals_known c (branch node e s r) k =
         let rest = known_back (expr_nodes e) (stmt_nodes s ++ else_nodes r) k.1 in
         locals_both (statement_locals (inner_scope c) s) (else_locals c r) (statement_locals_known (inner_scope c) s (known_front (stmt_nodes s) (else_nodes r) rest))

@@ -13,7 +13,7 @@ use Rattle.qs_syntax.specs.Numbering.{relabel_nodes, numbered}
 use Rattle.qs_syntax.specs.Reads.{Form, Reads, ReadsArguments, place, a_name, an_empty_call, a_call, a_constant, a_text, in_parentheses, an_index, a_member, an_increment_after, a_decrement_after, a_postfix, an_increment, a_decrement, an_operator, a_size_of_type, a_size_of_value, a_cast, an_operand, stronger, an_operation, a_plain_level, a_choice, a_plain_conditional, an_assignment, a_plain_assignment, a_comma, a_last_argument, an_argument}
 use Rattle.qs_syntax.specs.ReadsDeclarations.{ReadsGiven, no_length, a_length, ReadsLengths, are_given, first_open, ReadsDeclarator, a_declarator, ReadsInitialiser, a_value, a_list, ReadsInitialisers, a_last_initialiser, a_last_with_comma, an_initialiser, ReadsVariable, an_unset_variable, a_set_variable, ReadsVariables, a_last_variable, a_variable, ReadsDeclaration, a_declaration, ReadsOuterDeclaration, an_outer_declaration, ReadsDeclarators, a_last_member, ReadsMembers, a_group, ReadsAllMembers, a_last_group, a_further_group, ReadsParameter, a_named_parameter, an_unnamed_parameter, ReadsParameters, a_last_parameter, a_parameter, ReadsHead, no_parameter, a_void_head, some_parameters}
 use Rattle.qs_syntax.specs.ReadsDeclarations as declarations
-use Rattle.qs_syntax.specs.ReadsStatements.{ReadsOptional, nothing_there, something_there, ReadsStart, a_start_declaration, a_start_expression, no_start_at_all, ReadsStatement, a_block, an_empty, an_expression, an_if, an_if_with_else, a_while, a_do, a_for, a_break, a_continue, a_return, ReadsItem, a_statement, a_declared, ReadsItems, no_item, an_item}
+use Rattle.qs_syntax.specs.ReadsStatements.{ReadsOptional, nothing_there, something_there, ReadsStart, a_start_declaration, a_start_expression, no_start_at_all, ReadsStatement, a_block, an_empty, an_expression, an_if, an_if_with_else, a_while, a_do, a_for, a_switch, a_break, a_continue, a_return, ReadsItem, a_statement, a_declared, ReadsItems, no_item, an_item, ReadsSwitchBlock, in_braces, ReadsSwitchItem, a_label, a_switch_statement, a_switch_declaration, ReadsSwitchItems, no_switch_item, a_switch_item, ReadsLabel, a_case, a_default}
 use Rattle.qs_syntax_vocabulary.specs.Marks.{NameSet, is_in, mark, marked}
 use Rattle.qs_syntax_vocabulary.specs.declared.terminal.Terminal.TheVariants as terminals
 use Rattle.qs_syntax.specs.ReadsTypes.{Names, a_plain_name, a_name_of_a_type}
@@ -207,6 +207,10 @@ module _ (P : ℕ → Type 0) (start : P 0) where
   start_stands (a_start_expression {ts = ts} s r) k = expr_stands r (front ts _ k)
   start_stands (no_start_at_all s) k = tt
 
+  label_stands : {h : ℕ} {ts : List Terminal} {s : StmtTree} → ReadsLabel h ts s → In ts → Stand (stmt_nodes s)
+  label_stands (a_case {ts = ts} at c r) k = (k.0, expr_stands r (front ts _ k.1))
+  label_stands (a_default at c) k = (k.0, tt)
+
   mutual
     statement_stands : {h : ℕ} {ts : List Terminal} {s : StmtTree} → ReadsStatement h ts s → In ts → Stand (stmt_nodes s)
     statement_stands (a_block {ts = ts} o c r) k = items_stand r (front ts _ k.1)
@@ -228,6 +232,8 @@ module _ (P : ℕ → Type 0) (start : P 0) where
           (two (option_nodes expr_nodes e) (option_nodes expr_nodes u ++ stmt_nodes s) (optional_stands re (front xs _ (back ws _ k.1.1)))
           (two (option_nodes expr_nodes u) (stmt_nodes s) (optional_stands ru (front ys _ (back xs _ (back ws _ k.1.1)).1)) (statement_stands rs (back ys _ (back xs _ (back ws _ k.1.1)).1).1))),
     )
+    statement_stands (a_switch {xs = xs} {e = e} {ss = ss} at o c r q) k =
+        (k.0, two (expr_nodes e) (stmts_nodes ss) (expr_stands r (front xs _ k.1.1)) (switch_stands q (back xs _ k.1.1).1))
     statement_stands (a_break at s) k = (k.0, tt)
     statement_stands (a_continue at s) k = (k.0, tt)
     statement_stands (a_return {ts = ts} at s r) k = (k.0, optional_stands r (front ts _ k.1))
@@ -239,6 +245,18 @@ module _ (P : ℕ → Type 0) (start : P 0) where
     items_stand : {h : ℕ} {ts : List Terminal} {ss : Stmts} → ReadsItems h ts ss → In ts → Stand (stmts_nodes ss)
     items_stand no_item k = tt
     items_stand (an_item {xs = xs} {s = s} {ss = ss} r q) k = two (stmt_nodes s) (stmts_nodes ss) (item_stands r (front xs _ k)) (items_stand q (back xs _ k))
+
+    switch_stands : {h : ℕ} {ts : List Terminal} {ss : Stmts} → ReadsSwitchBlock h ts ss → In ts → Stand (stmts_nodes ss)
+    switch_stands (in_braces {ts = ts} o c r) k = switch_items_stand r (front ts _ k.1)
+
+    switch_item_stands : {b c : Bool} {h : ℕ} {ts : List Terminal} {s : StmtTree} → ReadsSwitchItem b c h ts s → In ts → Stand (stmt_nodes s)
+    switch_item_stands (a_label r) k = label_stands r k
+    switch_item_stands (a_switch_statement r) k = statement_stands r k
+    switch_item_stands (a_switch_declaration r) k = declaration_stands r k
+
+    switch_items_stand : {b : Bool} {h : ℕ} {ts : List Terminal} {ss : Stmts} → ReadsSwitchItems b h ts ss → In ts → Stand (stmts_nodes ss)
+    switch_items_stand no_switch_item k = tt
+    switch_items_stand (a_switch_item {xs = xs} {s = s} {ss = ss} r q) k = two (stmt_nodes s) (stmts_nodes ss) (switch_item_stands r (front xs _ k)) (switch_items_stand q (back xs _ k))
 
   -- ---- units
 

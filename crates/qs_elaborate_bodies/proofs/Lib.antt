@@ -8,6 +8,7 @@ pub mod OperandLaws
 pub mod Branches
 pub mod Writes
 pub mod Expressions
+pub mod Items
 pub mod StatementRuns
 pub mod NumberingExamples
 pub mod WriteExamples

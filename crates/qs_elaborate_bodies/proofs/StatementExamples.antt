@@ -5,9 +5,10 @@ use Rattle.qs_memory.specs.Memory.{byte, nulls, parts_of}
 use Rattle.qs_memory.specs.declared.scalar.Scalar.TheVariants.{Char, Int}
 use Rattle.qs_calls.specs.declared.callee.Callee.{Callee}
 use Rattle.qs_calls.specs.declared.callee.Callee.TheVariants.{Function}
+use Rattle.qs_core.specs.declared.labels.CoreLabel.TheVariants.{Case, Default}
 use Rattle.qs_core.specs.Trees.{CoreExprTree, literal, temporary, conversion, CoreStmtTree, skip, seq, stmts_of, blank, bytes, pointer}
 use Rattle.qs_core.specs.Trees as core
-use Rattle.qs_meaning.specs.Typed.{unchanged, converted, Expr, constant, value, called, variable, no_arguments, set, Effect, nothing, discard, assign, perform, Stmt, evaluate, block, branch, while_loop, do_loop, for_loop, break, continue, return, return_nothing, no_stmts, stmt_and}
+use Rattle.qs_meaning.specs.Typed.{unchanged, converted, Expr, constant, value, called, variable, no_arguments, set, Effect, nothing, discard, assign, perform, Stmt, evaluate, block, switch, case_label, default_label, branch, while_loop, do_loop, for_loop, break, continue, return, return_nothing, no_stmts, stmt_and}
 use Rattle.qs_elaborate_bodies.specs.Parts.{Temporaries, keep, written, Listed, plain}
 use Rattle.qs_elaborate_bodies.specs.Statements.{statement_core}
 use Rattle.qs_elaborate_bodies.specs.Data.{data_core}
@@ -120,6 +121,58 @@ for_behind_call :
     statement_core (for_loop nothing (Some f) nothing (evaluate one_set)) []
     ≡ does (core.loop (seq (stmts_of (calls_f 0 ∷ core.branch first_temporary core_one_set core.break ∷ []))) skip ∷ []) (Int ∷ [])
 for_behind_call = refl
+
+-- ---- switches
+
+-- switch(x){case 1: f(); case 2: {x=1;f();} break; default: x=1;}: a label has the number of the part behind it
+switch_plain :
+    statement_core
+    (switch unchanged x
+    (stmt_and (case_label 1) (stmt_and call_f (stmt_and (case_label 2) (stmt_and both_done (stmt_and break (stmt_and default_label (stmt_and (evaluate one_set) no_stmts))))))))
+    []
+    ≡ does
+    (core.switch core_x (Case 1 0 ∷ Case 2 1 ∷ Default 3 ∷ []) (stmts_of (core_call_f ∷ both ∷ core.break ∷ core_one_set ∷ [])) ∷ [])
+    []
+switch_plain = refl
+
+-- switch(x){int y; f(); case 1: default: case 2: ;}: labels of one part; a declaration without initialiser and `;` are parts
+switch_labels :
+    statement_core
+    (switch unchanged x
+    (stmt_and (evaluate nothing) (stmt_and call_f (stmt_and (case_label 1) (stmt_and default_label (stmt_and (case_label 2) (stmt_and (evaluate nothing) no_stmts)))))))
+    []
+    ≡ does (core.switch core_x (Case 1 2 ∷ Default 2 ∷ Case 2 2 ∷ []) (stmts_of (skip ∷ core_call_f ∷ skip ∷ [])) ∷ []) []
+switch_labels = refl
+
+-- switch(f()){default: f();}, f of type char: what the operand does stands before it
+switch_behind_call :
+    statement_core (switch (converted Char Int) (called Char function_f no_arguments) (stmt_and default_label (stmt_and call_f no_stmts))) []
+    ≡ does (calls_f 0 ∷ core.switch (conversion Int (temporary Char 0)) (Default 0 ∷ []) (stmts_of (core_call_f ∷ [])) ∷ []) (Char ∷ [])
+switch_behind_call = refl
+
+-- switch(65){}: the operand is converted as a literal
+switch_without_items : statement_core (switch unchanged (constant Int 65) no_stmts) [] ≡ does (core.switch (literal Int 65) [] (stmts_of []) ∷ []) []
+switch_without_items = refl
+
+-- switch(f()){case 1: if(f())x=1;}: the temporaries of the parts follow that of the operand
+switch_numbered :
+    statement_core (switch unchanged f (stmt_and (case_label 1) (stmt_and (branch f (evaluate one_set) (evaluate nothing)) no_stmts))) []
+    ≡ does
+    (calls_f 0
+    ∷ core.switch first_temporary (Case 1 0 ∷ []) (stmts_of (seq (stmts_of (calls_f 1 ∷ core.branch (temporary Int 1) core_one_set skip ∷ [])) ∷ []))
+    ∷ [])
+    (Int ∷ Int ∷ [])
+switch_numbered = refl
+
+-- switch(x){case 1: switch(x){case 4294967295: break;} continue;}
+switch_nested :
+    statement_core
+    (switch unchanged x (stmt_and (case_label 1) (stmt_and (switch unchanged x (stmt_and (case_label 4294967295) (stmt_and break no_stmts))) (stmt_and continue no_stmts))))
+    []
+    ≡ does
+    (core.switch core_x (Case 1 0 ∷ []) (stmts_of (core.switch core_x (Case 4294967295 0 ∷ []) (stmts_of (core.break ∷ [])) ∷ core.continue ∷ [])) ∷ [])
+    []
+switch_nested = refl
 
 -- ---- jumps
 

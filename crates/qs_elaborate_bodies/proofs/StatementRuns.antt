@@ -1,20 +1,27 @@
 -- Elaboration keeps runs: statements.
-use Rattle.std.proofs.Common.{◌≡◌, ℕ, zero, suc, List, [], ◌∷◌, ◌++◌, Option, Some, None, refl, ◌∙◌}
-use Rattle.qs_memory.specs.Values.{Value}
+use Rattle.std.proofs.Common.{◌≡◌, ℕ, zero, suc, ◌+◌, Bool, true, false, List, [], ◌∷◌, ◌++◌, Option, Some, None, refl, sym, ap, subst, ◌∙◌, arith, if◌then◌else◌}
+use Rattle.std.specs.Option.{option_or}
+use Rattle.qs_memory.specs.Values.{Value, as_integer}
 use Rattle.qs_memory.specs.Pointers.{truth}
+use Rattle.qs_events.specs.Runs.{given}
 use Rattle.qs_calls.specs.World.{World, Environment}
-use Rattle.qs_core.specs.Trees.{CoreStmtTree}
+use Rattle.qs_core.specs.declared.labels.CoreLabel.{CoreLabel}
+use Rattle.qs_core.specs.declared.labels.CoreLabel.TheVariants.{Case, Default}
+use Rattle.qs_core.specs.Expressions.{Locals}
+use Rattle.qs_core.specs.Trees.{CoreStmtTree, stmts_of}
 use Rattle.qs_core.specs.Trees as core
-use Rattle.qs_core.specs.Statements.{Continuation, Continuations, after_step, after_body, repeated, runs}
-use Rattle.qs_meaning.specs.Typed.{Expr, Effect, Stmt, evaluate, block, branch, while_loop, do_loop, for_loop, break, continue, return, return_nothing, Stmts, no_stmts, stmt_and}
+use Rattle.qs_core.specs.Statements as core_statements
+use Rattle.qs_core.specs.Statements.{Continuation, Continuations, after_step, after_body, repeated, case_part, default_part, chosen_part, at_part, runs, runs_all, runs_from}
+use Rattle.qs_meaning.specs.Typed.{Expr, Effect, Stmt, evaluate, block, switch, case_label, default_label, branch, while_loop, do_loop, for_loop, break, continue, return, return_nothing, Stmts, no_stmts, stmt_and}
 use Rattle.qs_meaning.specs.States.{Next, Here, test}
-use Rattle.qs_meaning.specs.Meaning.{expression, effect, Targets, in_loop, turns, condition, statement, statements}
+use Rattle.qs_meaning.specs.Meaning.{expression, effect, Targets, in_loop, in_switch, is_case, is_default, turns, condition, statement, statements, behind_label}
 use Rattle.qs_elaborate_bodies.specs.Literals.{converted_core}
 use Rattle.qs_elaborate_bodies.specs.Parts.{Temporaries, next_number, Valued, Listed, one_statement}
 use Rattle.qs_elaborate_bodies.specs.Expressions.{expression_core, effect_core}
-use Rattle.qs_elaborate_bodies.specs.Statements.{tested, guarded, looped, statement_core, statements_core}
+use Rattle.qs_elaborate_bodies.specs.Statements.{tested, guarded, looped, labels_core, statement_core, statements_core, parts_core}
 use Rattle.qs_elaborate_bodies.proofs.Options.{given_same}
-use Rattle.qs_elaborate_bodies.proofs.Lists.{run_list, then_next, run-append, run_one}
+use Rattle.qs_elaborate_bodies.proofs.Lists.{run_list, then_next, run-append, runs_of, run_one}
+use Rattle.qs_elaborate_bodies.proofs.Items.{IsPart, Item, a_case, a_default, a_part, item_of, part_first, part_labels}
 use Rattle.qs_elaborate_bodies.proofs.OperandLaws.{Source, locals, context, worth, GivesValued}
 use Rattle.qs_elaborate_bodies.proofs.Branches.{chosen, converted_gives}
 use Rattle.qs_elaborate_bodies.proofs.Expressions.{expression_gives, effect_does}
@@ -77,12 +84,138 @@ module _ (h : Here) where
       turns_same _ _ (λ again next is.
       one_follows body source f (after_body kk (runs (one_statement step) (context h) (after_step kk again))) (in_loop k (rest next)) (body_agrees kk k a _ (rest next) (same again next is))) h.turns
 
+  -- ---- switches
+
+  -- one more statement in front
+  front_follows : (s : Stmt) (ts : Temporaries) (rest : List CoreStmtTree) (source : Targets → Next) → Follows (statement_core s ts).statements (statement s h) → Follows rest source
+      → Follows (one_statement (statement_core s ts).statements ∷ rest) (λ k. statement s h (record k { behind = source k }))
+  front_follows s ts rest source f r kk k a v t w =
+      one_follows (statement_core s ts).statements (statement s h) f (then_next kk (run_list rest (context h) kk)) (record k { behind = source k }) (record {
+        next = r kk k a;
+        on_break = a.on_break;
+        on_continue = a.on_continue;
+        on_return = a.on_return;
+      }) v t w
+
+  -- the parts from the first on are the items; a label among them does nothing
+  item_follows : (s : Stmt) (ss : Stmts) (ts : Temporaries) → Item s → Follows (statement_core s ts).statements (statement s h)
+      → ((us : Temporaries) → Follows (parts_core ss us).statements (statements ss h)) → Follows (parts_core (stmt_and s ss) ts).statements (statements (stmt_and s ss) h)
+  item_follows _ ss ts (a_case n) f r = r ts
+  item_follows _ ss ts a_default f r = r ts
+  item_follows _ ss ts (a_part s p) f r =
+      subst (λ (parts : List CoreStmtTree). Follows parts (statements (stmt_and s ss) h)) (sym (part_first s ss ts p))
+      (front_follows s ts (parts_core ss (statement_core s ts).temporaries).statements (statements ss h) f (r (statement_core s ts).temporaries))
+
+  -- what is looked for among the labels of core is what is looked for among the items
+  record Finds (test : Stmt → Bool) (find : List CoreLabel → Option ℕ) : Type 0 where
+    none : find [] ≡ None
+    at_case : (n part : ℕ) (labels : List CoreLabel) → find (Case n part ∷ labels) ≡ (if test (case_label n) then Some part else find labels)
+    at_default : (part : ℕ) (labels : List CoreLabel) → find (Default part ∷ labels) ≡ (if test default_label then Some part else find labels)
+    at_other : (s : Stmt) → IsPart s → test s ≡ false
+
+  finds_case : (n : ℕ) → Finds (is_case n) (λ labels. case_part labels n)
+  finds_case n = record { none = refl; at_case = λ m part labels. refl; at_default = λ part labels. refl; at_other = λ s p. p.no_case n }
+
+  finds_default : Finds is_default default_part
+  finds_default = record { none = refl; at_case = λ n part labels. refl; at_default = λ part labels. refl; at_other = λ s p. p.no_default }
+
+  -- the parts have numbers from this one on, by which what is run from them is known
+  abbrev Numbered : (parts : List CoreStmtTree) → (part : ℕ) → (from : ℕ → Continuation) → Continuations → Type 0
+  Numbered parts part from kk = (i j : ℕ) → j ≡ part + i → (l : Locals) (w : World) → from j l w ≡ runs_from (stmts_of parts) i (context h) kk l w
+
+  numbered_later : (s : CoreStmtTree) (parts : List CoreStmtTree) (part : ℕ) (from : ℕ → Continuation) (kk : Continuations) → Numbered (s ∷ parts) part from kk → Numbered parts (part + 1) from kk
+  numbered_later s parts part from kk is i j e l w = is (suc i) j (omega arith) l w
+
+  first_part : (parts : List CoreStmtTree) (kk : Continuations) (l : Locals) (w : World) → runs_from (stmts_of parts) 0 (context h) kk l w ≡ run_list parts (context h) kk l w
+  first_part [] kk l w = refl
+  first_part (s ∷ parts) kk l w = runs_of (s ∷ parts) (context h) kk l w
+
+  -- the run from the part that is found, or of what follows without one, is that of the items behind the label that is found
+  abbrev FoundIn : Stmts → Type 0
+  FoundIn ss =
+      (test : Stmt → Bool) (find : List CoreLabel → Option ℕ) → Finds test find
+      → (from : ℕ → Continuation) (kk : Continuations) (k : Targets) → Agree kk k → (behind : Continuation) (without : Next) → Same behind without
+      → (ts : Temporaries) (part : ℕ) → Numbered (parts_core ss ts).statements part from kk
+      → Same (at_part (find (labels_core part ss)) from behind) (behind_label test ss h k without)
+
+  none_found : FoundIn no_stmts
+  none_found test find finds from kk k a behind without same ts part is =
+      subst (λ (o : Option ℕ). Same (at_part o from behind) without) (sym finds.none) same
+
+  -- a label at which it goes on, or not
+  label_found :
+      (z : Bool) (rest : Option ℕ) (from : ℕ → Continuation) (behind : Continuation) (part : ℕ) (here later : Next) → Same (from part) here → Same (at_part rest from behind) later
+      → Same (at_part (if z then Some part else rest) from behind) (if z then here else later)
+  label_found true rest from behind part here later first second v t w = first v t w
+  label_found false rest from behind part here later first second v t w = second v t w
+
+  -- from a part on, where it is the first one
+  first_found : (ss : Stmts) (ts : Temporaries) (part : ℕ) (from : ℕ → Continuation) (kk : Continuations) (k : Targets) → Agree kk k → Follows (parts_core ss ts).statements (statements ss h)
+      → Numbered (parts_core ss ts).statements part from kk → Same (from part) (statements ss h k)
+  first_found ss ts part from kk k a f is v t w =
+      is 0 part (omega arith) (locals h v t) w ∙ first_part (parts_core ss ts).statements kk (locals h v t) w ∙ f kk k a v t w
+
+  item_found : (s : Stmt) (ss : Stmts) → Item s → ((us : Temporaries) → Follows (parts_core ss us).statements (statements ss h)) → FoundIn ss → FoundIn (stmt_and s ss)
+  item_found _ ss (a_case n) f later test find finds from kk k a behind without same ts part is =
+      subst (λ (o : Option ℕ). Same (at_part o from behind) (behind_label test (stmt_and (case_label n) ss) h k without)) (sym (finds.at_case n part (labels_core part ss)))
+      (label_found (test (case_label n)) (find (labels_core part ss)) from behind part (statements ss h k) (behind_label test ss h k without)
+      (first_found ss ts part from kk k a (f ts) is) (later test find finds from kk k a behind without same ts part is))
+  item_found _ ss a_default f later test find finds from kk k a behind without same ts part is =
+      subst (λ (o : Option ℕ). Same (at_part o from behind) (behind_label test (stmt_and default_label ss) h k without)) (sym (finds.at_default part (labels_core part ss)))
+      (label_found (test default_label) (find (labels_core part ss)) from behind part (statements ss h k) (behind_label test ss h k without)
+      (first_found ss ts part from kk k a (f ts) is) (later test find finds from kk k a behind without same ts part is))
+  item_found _ ss (a_part s p) f later test find finds from kk k a behind without same ts part is =
+      let us = (statement_core s ts).temporaries in
+      let numbered = numbered_later (one_statement (statement_core s ts).statements) (parts_core ss us).statements part from kk
+      (subst (λ (all : List CoreStmtTree). Numbered all part from kk) (part_first s ss ts p) is) in
+      subst (λ (z : Bool). Same (at_part (find (labels_core part (stmt_and s ss))) from behind) (if z then statements ss h k else behind_label test ss h k without)) (sym (finds.at_other s p))
+      (subst (λ (labels : List CoreLabel). Same (at_part (find labels) from behind) (behind_label test ss h k without)) (sym (part_labels s ss part p))
+      (later test find finds from kk k a behind without same us (part + 1) numbered))
+
+  -- 6.8.4.2p5: the part at the `case` of the value, or else that at `default`
+  either_part : (o other : Option ℕ) (from : ℕ → Continuation) (behind : Continuation) (l : Locals) (w : World)
+      → at_part (option_or o other) from behind l w ≡ at_part o from (at_part other from behind) l w
+  either_part None other from behind l w = refl
+  either_part (Some part) other from behind l w = refl
+
+  -- the items behind the label of the value, and else behind `default`, are the parts from the chosen one on
+  switch_same : (ss : Stmts) → FoundIn ss → (n : ℕ) (ts : Temporaries) (kk : Continuations) (k : Targets) → Agree kk k
+      → Same (at_part (chosen_part (labels_core 0 ss) n) (λ part. runs_from (stmts_of (parts_core ss ts).statements) part (context h) (core_statements.in_switch kk)) kk.next)
+      (behind_label (is_case n) ss h (in_switch k) (behind_label is_default ss h (in_switch k) k.behind))
+  switch_same ss found n ts kk k a v t w =
+      let inside = core_statements.in_switch kk in
+      let from : ℕ → Continuation = λ part. runs_from (stmts_of (parts_core ss ts).statements) part (context h) inside in
+      let agree : Agree inside (in_switch k) = record { next = a.next; on_break = a.next; on_continue = a.on_continue; on_return = a.on_return } in
+      let numbered : Numbered (parts_core ss ts).statements 0 from inside = λ i j e l w. from_number i j e l w inside in
+      let labels = labels_core 0 ss in
+      either_part (case_part labels n) (default_part labels) from kk.next (locals h v t) w
+      ∙ found (is_case n) (λ labels. case_part labels n) (finds_case n) from inside (in_switch k) agree (at_part (default_part labels) from kk.next)
+      (behind_label is_default ss h (in_switch k) k.behind)
+      (found is_default default_part finds_default from inside (in_switch k) agree kk.next k.behind a.next ts 0 numbered) ts 0 numbered v t w
+    where
+      from_number : (i j : ℕ) → j ≡ 0 + i → (l : Locals) (w : World) (inside : Continuations)
+          → runs_from (stmts_of (parts_core ss ts).statements) j (context h) inside l w ≡ runs_from (stmts_of (parts_core ss ts).statements) i (context h) inside l w
+      from_number i j e l w inside =
+          let same : j ≡ i = omega arith in ap (λ part. runs_from (stmts_of (parts_core ss ts).statements) part (context h) inside l w) same
+
   -- ---- statements
 
   mutual
     pub statement_follows : (s : Stmt) (ts : Temporaries) → Follows (statement_core s ts).statements (statement s h)
     statement_follows (evaluate e) ts kk k a v t w = (effect_does h e ts).gives k.behind kk v t w (λ v1 t1 w1 kept. a.next v1 t1 w1)
     statement_follows (block ss) ts kk k a v t w = statements_follow ss ts kk k a v t w
+    statement_follows (switch c e ss) ts kk k a v t w =
+        let g = expression_core e ts in
+        let labels = labels_core 0 ss in
+        let parts = (parts_core ss g.temporaries).statements in
+        let rest : List CoreStmtTree = core.switch (converted_core c g.value) labels (stmts_of parts) ∷ [] in
+        run-append g.statements rest (context h) kk (locals h v t) w
+        ∙ (converted_gives h (next_number ts) c g (expression e h) (expression_gives h e ts)).gives
+        (λ y v w. given (as_integer y) (λ n. behind_label (is_case n) ss h (in_switch k) (behind_label is_default ss h (in_switch k) k.behind) v w))
+        (then_next kk (run_list rest (context h) kk)) v t w (λ v1 t1 w1 kept.
+        given_same (worth h (converted_core c g.value) v1 t1 w1) _ _ (λ y. given_same (as_integer y) _ _ (λ n. switch_same ss (found ss) n g.temporaries kk k a v1 t1 w1)))
+    statement_follows (case_label n) ts kk k a v t w = a.next v t w
+    statement_follows default_label ts kk k a v t w = a.next v t w
     statement_follows (branch e s r) ts kk k a v t w =
         let g = expression_core e ts in
         let met = statement_core s g.temporaries in
@@ -133,3 +266,11 @@ module _ (h : Here) where
           on_continue = a.on_continue;
           on_return = a.on_return;
         }) v t w
+
+    parts_follow : (ss : Stmts) (ts : Temporaries) → Follows (parts_core ss ts).statements (statements ss h)
+    parts_follow no_stmts ts = λ kk k a v t w. a.next v t w
+    parts_follow (stmt_and s ss) ts = item_follows s ss ts (item_of s) (statement_follows s ts) (λ us. parts_follow ss us)
+
+    found : (ss : Stmts) → FoundIn ss
+    found no_stmts = none_found
+    found (stmt_and s ss) = item_found s ss (item_of s) (λ us. parts_follow ss us) (found ss)

@@ -1,5 +1,5 @@
 -- What expressions and statements in code are in core, where the function has these temporaries so far.
-use Rattle.std.specs.Prelude.{ℕ, Bool, List, [], Option}
+use Rattle.std.specs.Prelude.{ℕ, Bool, List, [], Option, length}
 use Rattle.std.specs.Global.{Vec}
 use Rattle.qs_memory.specs.declared.scalar.Scalar.{Scalar}
 use Rattle.qs_memory.specs.declared.operation.BinaryOperation.{BinaryOperation}
@@ -8,7 +8,9 @@ use Rattle.qs_core.specs.Trees.{CoreExprTree, CoreStmtTree}
 use Rattle.qs_core.specs.Trees as core
 use Rattle.qs_core.specs.TreeOf.{core_expr, core_stmt, core_stmts}
 use Rattle.qs_core.specs.declared.expressions.CoreExpr.{CoreExpr}
+use Rattle.qs_core.specs.declared.labels.CoreLabel.{CoreLabel}
 use Rattle.qs_core.specs.declared.statements.CoreStmt.{CoreStmt}
+use Rattle.qs_meaning.specs.Fits.{is_label}
 use Rattle.qs_typed_trees.specs.TreeOf.{conversion_tree, order_tree, expression_tree, lvalue_tree, arguments_tree, assignment_tree, effect_tree, effects_tree, option_expression, statement_tree, statements_tree}
 use Rattle.qs_typed_trees.specs.declared.expressions.Conversion.{Conversion}
 use Rattle.qs_typed_trees.specs.declared.expressions.Order.{Order}
@@ -169,6 +171,23 @@ turn condition s ts = turns.turn (option_expression condition) (statement_tree s
 
 abbrev pub statements_of : List Statement → Vec Scalar → Listed
 statements_of ss ts = statements.statements_core (statements_tree ss) ts.items
+
+-- ---- switches; what stands behind these parts
+
+abbrev pub label_of : (parts : Vec CoreStmt) → Statement → List CoreLabel
+label_of parts s = statements.label_before (length parts.items) (statement_tree s)
+
+abbrev pub behind : (parts : Vec CoreStmt) → Statement → ℕ
+behind parts s = statements.part_behind (statement_tree s) (length parts.items)
+
+abbrev pub item : Statement → Vec Scalar → Listed
+item s ts = statements.parted (is_label (statement_tree s)) (statement s ts)
+
+abbrev pub labels_of : (parts : Vec CoreStmt) → List Statement → List CoreLabel
+labels_of parts ss = statements.labels_core (length parts.items) (statements_tree ss)
+
+abbrev pub parts_of : List Statement → Vec Scalar → Listed
+parts_of ss ts = statements.parts_core (statements_tree ss) ts.items
 
 -- ---- reserved temporaries
 

@@ -1,7 +1,7 @@
 -- What core says of a function beside what its typed tree says: the names of its parameters and variables.
 use Rattle.std.specs.Prelude.{ℕ, ◌+◌, ◌==◌, List, [], ◌∷◌, ◌++◌, Option, Some, None, length, map, filter, if◌then◌else◌}
 use Rattle.qs_base.specs.Bytes.{same_bytes}
-use Rattle.qs_syntax.specs.Trees.{VariableTree, ParameterTree, StartTree, no_start, start_expression, start_declaration, StmtTree, empty, expression, declaration, block, branch, while_loop, do_loop, for_loop, break, continue, return, Stmts, no_stmts, stmt_and, Else, no_else, else_by, FunctionTree, DeclTree, structure, forward, function, variables, UnitTree, typedef}
+use Rattle.qs_syntax.specs.Trees.{VariableTree, ParameterTree, StartTree, no_start, start_expression, start_declaration, StmtTree, empty, expression, declaration, block, switch, case_label, default_label, branch, while_loop, do_loop, for_loop, break, continue, return, Stmts, no_stmts, stmt_and, Else, no_else, else_by, FunctionTree, DeclTree, structure, forward, function, variables, UnitTree, typedef}
 use Rattle.qs_types.specs.Contexts.{Context, start_context}
 use Rattle.qs_types.specs.UnitRules.{after_declaration}
 use Rattle.qs_meaning.specs.Units.{function_locals}
@@ -26,6 +26,9 @@ abbrev mutual
   statement_declares (expression node e) = []
   statement_declares (declaration d) = map declared_variable d.variables
   statement_declares (block ss) = statements_declare ss
+  statement_declares (switch node e ss) = statements_declare ss
+  statement_declares (case_label node e) = []
+  statement_declares (default_label node) = []
   statement_declares (branch node e s r) = statement_declares s ++ else_declares r
   statement_declares (while_loop node e s) = statement_declares s
   statement_declares (do_loop node s e) = statement_declares s

@@ -5,6 +5,7 @@ use Rattle.qs_memory.specs.declared.scalar.Scalar.{Scalar}
 use Rattle.qs_core.specs.Trees.{CoreExprTree, CoreStmtTree}
 use Rattle.qs_core.specs.TreeOf.{core_expr, core_stmt, core_stmts}
 use Rattle.qs_core.specs.declared.expressions.CoreExpr.{CoreExpr}
+use Rattle.qs_core.specs.declared.labels.CoreLabel.{CoreLabel}
 use Rattle.qs_core.specs.declared.statements.CoreStmt.{CoreStmt}
 use Rattle.qs_elaborate_bodies.specs.Parts as parts
 use Rattle.qs_elaborate_bodies.specs.LocationOf.{location_of}
@@ -15,6 +16,10 @@ use Rattle.qs_elaborate_bodies.specs.declared.parts.Location.{Location}
 -- these statements stand behind those from before
 abbrev pub Adds : {A E : Type 0} → List CoreStmtTree → (old new : Vec CoreStmt) → Result A E → Type 0
 Adds ss old new result = OnOk result (core_stmts new.items ≡ core_stmts old.items ++ ss)
+
+-- these labels stand behind those from before
+abbrev pub AddsLabels : {A E : Type 0} → List CoreLabel → (old new : Vec CoreLabel) → Result A E → Type 0
+AddsLabels labels old new result = OnOk result (new.items ≡ old.items ++ labels)
 
 -- the temporaries of the function are these now
 abbrev pub Leaves : {A E : Type 0} → parts.Temporaries → (new : Vec Scalar) → Result A E → Type 0

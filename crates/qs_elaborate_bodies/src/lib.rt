@@ -5,6 +5,7 @@ mod acting;
 mod branching;
 mod copies;
 mod expression;
+mod labels;
 mod literals;
 mod operations;
 mod parts;

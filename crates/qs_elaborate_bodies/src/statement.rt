@@ -1,17 +1,19 @@
 // Statements in core: lists of statements.
-ghost use Rattle.std.specs.Prelude.{[], ◌∷◌};
+ghost use Rattle.std.specs.Prelude.{◌≡◌, [], ◌∷◌, OnOk, length};
 ghost use Rattle.qs_core.specs.Trees as core;
 ghost use Rattle.qs_elaborate_bodies.specs.Parts as parts;
 ghost use Rattle.qs_elaborate_bodies.specs.CoreOf.{expression, effect, looped, statement, guarded, turn};
-ghost use Rattle.qs_elaborate_bodies.specs.CoreOf.{statements_of};
-ghost use Rattle.qs_elaborate_bodies.specs.Results.{Adds, Leaves, Makes, Lists};
+ghost use Rattle.qs_elaborate_bodies.specs.CoreOf.{statements_of, label_of, behind, item, labels_of};
+ghost use Rattle.qs_elaborate_bodies.specs.CoreOf.{parts_of};
+ghost use Rattle.qs_elaborate_bodies.specs.Results.{Adds, AddsLabels, Leaves, Makes, Lists};
 ghost use Rattle.qs_elaborate_bodies.specs.Statements.{tested};
 
 use crate::expression::{effect, expression};
+use crate::labels::{label, next_part, push_label};
 use crate::literals::converted;
 use crate::parts::{one_statement, push, push_branch};
 use qs_base::NoMemory;
-use qs_core::CoreStmt;
+use qs_core::{CoreLabel, CoreStmt};
 use qs_memory::Scalar;
 use qs_typed_trees::{Effect, Expression, Statement};
 use std::alloc::Global;
@@ -68,6 +70,20 @@ pub fn statement(
     match s {
         Statement::Evaluate(a) => effect(a, alloc, out, ts),
         Statement::Block(ss) => statements(ss, alloc, out, ts),
+        Statement::Switch {
+            promotion,
+            operand,
+            items: block,
+        } => {
+            let v = expression(operand, alloc, out, ts)?;
+            let v = converted(alloc, *promotion, v)?;
+            let mut labels = Vec::new(alloc);
+            let mut list = Vec::new(alloc);
+            items(block, alloc, &mut labels, &mut list, ts)?;
+            push(out, CoreStmt::Switch(v, labels, list))
+        }
+        Statement::Case(_) => Ok(()),
+        Statement::Default => Ok(()),
         Statement::Branch {
             condition,
             then,
@@ -182,6 +198,48 @@ pub fn statements(
 {
     for s in ss {
         statement(s, alloc, out, ts)?;
+    }
+    Ok(())
+}
+
+// An item of a switch: its label, or its part.
+#[cycle(statement)]
+fn item(
+    s: &Statement,
+    alloc: Global,
+    labels: &mut Vec<CoreLabel>,
+    out: &mut Vec<CoreStmt>,
+    ts: &mut Vec<Scalar>,
+) -> Result<(), NoMemory>
+    ensures labels { AddsLabels (label_of out.old s.now) labels.old labels.new result }
+    ensures statements { Adds (item s.now ts.old).statements out.old out.new result }
+    ensures number { OnOk result (length out.new.items ≡ behind out.old s.now) }
+    ensures temporaries { Leaves (item s.now ts.old).temporaries ts.new result }
+{
+    match label(s, next_part(out)?) {
+        Some(l) => push_label(labels, l),
+        None => {
+            let part = one(s, alloc, ts)?;
+            push(out, part)
+        }
+    }
+}
+
+// The items of a switch: its labels and its parts.
+#[cycle(statement)]
+fn items(
+    ss: &[Statement],
+    alloc: Global,
+    labels: &mut Vec<CoreLabel>,
+    out: &mut Vec<CoreStmt>,
+    ts: &mut Vec<Scalar>,
+) -> Result<(), NoMemory>
+    ensures labels { AddsLabels (labels_of out.old ss.now) labels.old labels.new result }
+    ensures statements { Adds (parts_of ss.now ts.old).statements out.old out.new result }
+    ensures temporaries { Leaves (parts_of ss.now ts.old).temporaries ts.new result }
+{
+    for s in ss {
+        item(s, alloc, labels, out, ts)?;
     }
     Ok(())
 }

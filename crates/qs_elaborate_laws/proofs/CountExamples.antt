@@ -59,3 +59,19 @@ written_expressions = refl
 -- the header and the list
 written_nodes : nodes_of writing ≡ Some ((1 + 1 + 19) ∷ [])
 written_nodes = refl
+
+-- ---- int main(int a){switch(a){case 1+2:a=1;default:;}return 0;}
+
+abbrev choosing : UnitTree
+choosing =
+    defined bases.Int 0 main_name (parameter bases.Int 0 97 ∷ [])
+    (c.switch (named 97) (c.case (plus (number 1) (number 2)) ∷ eval (set (named 97) (number 1)) ∷ c.default ∷ c.block [] ∷ []) ∷ c.return (number 0) ∷ [])
+    ∷ []
+
+-- of 1, 3, 3 and 1: the expression of a `case` is a constant, of which its value alone is left
+chosen_expressions : expressions_of choosing ≡ Some ((1 + 0 + 1 + 1) ∷ [])
+chosen_expressions = refl
+
+-- the header, the parameter, the switch, two labels and the return
+chosen_nodes : nodes_of choosing ≡ Some ((2 + 4 + 3) ∷ [])
+chosen_nodes = refl

@@ -3,29 +3,30 @@ use Rattle.std.proofs.Common.{◌≡◌, ◌≤◌, ℕ, ◌+◌, false, List, [
 use Rattle.std.proofs.lemmas.Option.{same_Some}
 use Rattle.qs_syntax.specs.declared.nodes.Node.{Node}
 use Rattle.qs_syntax.specs.declared.types.Base.{Base}
-use Rattle.qs_syntax.specs.Trees.{ExprTree, InitialiserTree, VariableTree, StartTree, no_start, start_expression, start_declaration, StmtTree, empty, expression, declaration, block, branch, while_loop, do_loop, for_loop, break, continue, return, Stmts, no_stmts, stmt_and, Else, no_else, else_by}
+use Rattle.qs_syntax.specs.Trees.{ExprTree, InitialiserTree, VariableTree, StartTree, no_start, start_expression, start_declaration, StmtTree, empty, expression, declaration, block, switch, case_label, default_label, branch, while_loop, do_loop, for_loop, break, continue, return, Stmts, no_stmts, stmt_and, Else, no_else, else_by}
 use Rattle.qs_syntax.specs.Nodes.{all_count, option_count, expr_count}
 use Rattle.qs_memory.proofs.Options.{followed}
 use Rattle.qs_types.specs.Types.{TypeTree}
 use Rattle.qs_types.specs.Rules.{breaks_one, faults_of}
 use Rattle.qs_types.specs.Contexts.{inner_scope, inside_loop}
+use Rattle.qs_types.specs.Constants.{constant_of}
 use Rattle.qs_types.specs.Expressions.{type_of}
 use Rattle.qs_types.specs.Declarations.{variable_declared}
 use Rattle.qs_types.specs.InitialiserRules.{initialiser_tests}
-use Rattle.qs_types.specs.StatementRules.{after_variable, variable_faults, option_initialiser_faults, variables_faults, condition_tests, condition_faults, option_condition_tests, option_typed, return_tests, start_faults, after_statement, for_tests, for_faults, statement_faults, statements_faults, else_faults}
+use Rattle.qs_types.specs.StatementRules.{after_variable, variable_faults, option_initialiser_faults, variables_faults, condition_tests, condition_faults, option_condition_tests, option_typed, return_tests, switch_faults, start_faults, after_statement, for_tests, for_faults, statement_faults, statements_faults, else_faults}
 use Rattle.qs_types.specs.StatementRules as rule_starts
 use Rattle.qs_meaning.specs.Typed.{Expr, Effect, Stmt}
 use Rattle.qs_meaning.specs.Typed as typed_trees
-use Rattle.qs_meaning.specs.Forms.{value_in_use}
+use Rattle.qs_meaning.specs.Forms.{TypedExpr, value_in_use}
 use Rattle.qs_meaning.specs.Names.{Scope, within, local_lvalue}
 use Rattle.qs_meaning.specs.Expressions.{typed}
-use Rattle.qs_meaning.specs.Statements.{initialised, behind_variable, variable_typed, variables_typed, effect_typed, option_effect, condition_typed, option_condition, start_typed, return_typed, inner, loop_body, in_for, statement_typed, statements_typed, else_typed}
+use Rattle.qs_meaning.specs.Statements.{initialised, behind_variable, variable_typed, variables_typed, effect_typed, option_effect, condition_typed, option_condition, start_typed, return_typed, inner, in_switch, loop_body, in_for, statement_typed, statements_typed, else_typed}
 use Rattle.qs_meaning.proofs.FaultlessExpressions.{none_left, none_right, unbroken}
 use Rattle.qs_elaborate_laws.specs.Counts.{nodes, effect_nodes, option_nodes, statement_nodes, statements_nodes}
 use Rattle.qs_elaborate_laws.specs.ExpressionCounts.{initialiser_expressions, variable_expressions, start_expressions, stmt_expressions, stmts_expressions, else_expressions}
 use Rattle.qs_elaborate_laws.proofs.CountedLess.{nodes_less, effect_less}
 use Rattle.qs_elaborate_laws.proofs.CountedInitialisers.{local_parts, local_typed, kept_fit}
-use Rattle.qs_elaborate_laws.proofs.CountedStatements.{initialiser_unbroken, initialiser_faultless, effect_counted, option_effect_counted, condition_counted, option_condition_counted, condition_kept, return_counted, start_known, option_known, if_tests}
+use Rattle.qs_elaborate_laws.proofs.CountedStatements.{initialiser_unbroken, initialiser_faultless, effect_counted, option_effect_counted, condition_counted, option_condition_counted, condition_kept, operand_counted, return_counted, start_known, option_known, if_tests}
 
 effect_as : (n : ℕ) (x set : Effect) → Some x ≡ Some set → effect_nodes x 0 ≤ n → effect_nodes set 0 ≤ n
 effect_as n x set e h = subst (λ z. effect_nodes z 0 ≤ n) (same_Some x set e) h
@@ -82,6 +83,9 @@ return_parts s node (Some e) a f q =
     let i = nodes_less (value_in_use x.value) in
     statement_as (expr_count e) _ a x.then (omega arith)
 
+operand_parts : (s : Scope) (node : Node) (e : ExprTree) (a : TypedExpr) → switch_faults s.context node e ≡ [] → typed s e ≡ Some a → nodes (value_in_use a) 0 ≤ expr_count e
+operand_parts s node e a f q = let h = operand_counted s node e a f q in let i = nodes_less (value_in_use a) in omega arith
+
 start_parts : (s : Scope) (start : StartTree) (set : Effect) → start_faults s.context start ≡ [] → start_typed s start ≡ Some set → effect_nodes set 0 ≤ start_expressions start
 start_parts s no_start set f q = effect_as 0 _ set q (omega arith)
 start_parts s (start_expression e) set f q = effect_parts s e set q
@@ -102,6 +106,15 @@ mutual
   statement_parts (block ss) s a f q =
       let rest = followed (statements_typed (inner s) ss) _ a q in
       statement_as (stmts_expressions ss) _ a rest.then (statements_parts ss (inner s) rest.value f rest.first)
+  statement_parts (switch node e ss) s a f q =
+      let x = followed (typed s e) _ a q in
+      let y = followed (statements_typed (in_switch s e) ss) _ a x.then in
+      let i = operand_parts s node e x.value (none_left _ _ f) x.first in
+      let j = statements_parts ss (in_switch s e) y.value (none_right (switch_faults s.context node e) _ f) y.first in
+      statement_as (expr_count e + stmts_expressions ss) _ a y.then (omega arith)
+  statement_parts (case_label node e) s a f q =
+      let n = followed (constant_of s.context e) _ a q in statement_as (expr_count e) _ a n.then (omega arith)
+  statement_parts (default_label node) s a f q = statement_as 0 _ a q (omega arith)
   statement_parts (branch node e t r) s a f q =
       let x = followed (condition_typed s e) _ a q in
       let y = followed (statement_typed (inner s) t) _ a x.then in

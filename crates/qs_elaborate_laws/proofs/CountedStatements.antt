@@ -4,29 +4,30 @@ use Rattle.std.specs.Cmp.{second_so}
 use Rattle.std.proofs.lemmas.Option.{same_Some}
 use Rattle.qs_syntax.specs.declared.nodes.Node.{Node}
 use Rattle.qs_syntax.specs.declared.types.Base.{Base}
-use Rattle.qs_syntax.specs.Trees.{ExprTree, InitialiserTree, VariableTree, StartTree, no_start, start_expression, start_declaration, StmtTree, empty, expression, declaration, block, branch, while_loop, do_loop, for_loop, break, continue, return, Stmts, no_stmts, stmt_and, Else, no_else, else_by}
+use Rattle.qs_syntax.specs.Trees.{ExprTree, InitialiserTree, VariableTree, StartTree, no_start, start_expression, start_declaration, StmtTree, empty, expression, declaration, block, switch, case_label, default_label, branch, while_loop, do_loop, for_loop, break, continue, return, Stmts, no_stmts, stmt_and, Else, no_else, else_by}
 use Rattle.qs_syntax.specs.Nodes.{all_count, option_count, expr_count, initialiser_count, variable_count, start_count, stmt_count, stmts_count, else_count}
 use Rattle.qs_memory.proofs.Options.{followed}
 use Rattle.qs_types.specs.Types.{TypeTree, is_void}
 use Rattle.qs_types.specs.Rules.{Test, breaks_one, faults_of}
 use Rattle.qs_types.specs.Contexts.{Context, inner_scope, inside_loop}
+use Rattle.qs_types.specs.Constants.{constant_of}
 use Rattle.qs_types.specs.Expressions.{type_of}
 use Rattle.qs_types.specs.Declarations.{lengths_faults, variable_declared}
 use Rattle.qs_types.specs.InitialiserRules.{initialiser_tests}
 use Rattle.qs_types.specs.Placed.{is_one_of}
-use Rattle.qs_types.specs.StatementRules.{after_variable, again_tests, variable_tests, variable_faults, option_initialiser_faults, variables_faults, condition_tests, condition_faults, option_condition_tests, option_typed, return_tests, returns, start_faults, after_statement, for_context, for_tests, for_faults, statement_faults, statements_faults, else_faults}
+use Rattle.qs_types.specs.StatementRules.{after_variable, again_tests, variable_tests, variable_faults, option_initialiser_faults, variables_faults, condition_tests, condition_faults, option_condition_tests, option_typed, return_tests, returns, switch_tests, switch_faults, start_faults, after_statement, for_context, for_tests, for_faults, statement_faults, statements_faults, else_faults}
 use Rattle.qs_types.specs.StatementRules as rule_starts
 use Rattle.qs_meaning.specs.Typed.{Expr, pointer_to, variable, object, local, Effect, Stmt}
 use Rattle.qs_meaning.specs.Typed as typed_trees
-use Rattle.qs_meaning.specs.Forms.{type_in_use}
+use Rattle.qs_meaning.specs.Forms.{TypedExpr, type_in_use, value_in_use}
 use Rattle.qs_meaning.specs.Names.{Scope, Locals, within, place_among, local_lvalue}
 use Rattle.qs_meaning.specs.Expressions.{typed}
-use Rattle.qs_meaning.specs.Statements.{initialised, behind_variable, variable_typed, variables_typed, effect_typed, option_effect, condition_typed, option_condition, start_typed, return_typed, inner, loop_body, in_for, statement_typed, statements_typed, else_typed}
+use Rattle.qs_meaning.specs.Statements.{initialised, behind_variable, variable_typed, variables_typed, effect_typed, option_effect, condition_typed, option_condition, start_typed, return_typed, inner, in_switch, loop_body, in_for, statement_typed, statements_typed, else_typed}
 use Rattle.qs_meaning.proofs.Options.{never}
 use Rattle.qs_meaning.proofs.FaultlessExpressions.{none_left, none_right, unbroken, second_unbroken}
 use Rattle.qs_meaning.proofs.Bodies.{not_held_back}
 use Rattle.qs_elaborate_laws.specs.Counts.{nodes, effect_nodes, option_nodes, statement_nodes, statements_nodes}
-use Rattle.qs_elaborate_laws.proofs.CountedTypes.{kept, typed_type, null_value, scalar_value, assignable_value}
+use Rattle.qs_elaborate_laws.proofs.CountedTypes.{kept, typed_type, null_value, integer_used, scalar_value, assignable_value}
 use Rattle.qs_elaborate_laws.proofs.CountedForms.{is_declared}
 use Rattle.qs_elaborate_laws.proofs.CountedExpressions.{expression_counted}
 use Rattle.qs_elaborate_laws.proofs.CountedInitialisers.{local_counted, local_typed, kept_fit}
@@ -118,6 +119,12 @@ option_condition_counted s (Some e) x tests q =
 pub condition_kept : (c : Context) (node : Node) (e : ExprTree) → condition_faults c node e ≡ [] → breaks_one (condition_tests (type_of c e)) ≡ false
 condition_kept c node e f = unbroken node.id (condition_tests (type_of c e)) (none_left (faults_of node.id (condition_tests (type_of c e))) _ f)
 
+pub operand_counted : (s : Scope) (node : Node) (e : ExprTree) (a : TypedExpr) → switch_faults s.context node e ≡ [] → typed s e ≡ Some a → nodes (value_in_use a) 1 ≤ expr_count e
+operand_counted s node e a f q =
+    let tests = unbroken node.id (switch_tests (type_of s.context e)) (none_left (faults_of node.id (switch_tests (type_of s.context e))) _ f) in
+    let kind = kept _ (subst (λ o. breaks_one (switch_tests o) ≡ false) (typed_type s e a q) tests) in
+    (expression_counted s e a q).value (integer_used a.type kind)
+
 pub return_counted : (s : Scope) (node : Node) (e : Option ExprTree) (a : Stmt) → faults_of node.id (return_tests s.context s.context.result e) ≡ [] → return_typed s e ≡ Some a
     → statement_nodes a 1 ≤ 1 + option_count expr_count e
 return_counted s node None a f q = statement_as 1 _ a q (omega arith)
@@ -166,6 +173,15 @@ mutual
   statement_counted (block ss) s a f q =
       let rest = followed (statements_typed (inner s) ss) _ a q in
       statement_as (stmts_count ss) _ a rest.then (statements_counted ss (inner s) rest.value f rest.first)
+  statement_counted (switch node e ss) s a f q =
+      let x = followed (typed s e) _ a q in
+      let y = followed (statements_typed (in_switch s e) ss) _ a x.then in
+      let i = operand_counted s node e x.value (none_left _ _ f) x.first in
+      let j = statements_counted ss (in_switch s e) y.value (none_right (switch_faults s.context node e) _ f) y.first in
+      statement_as (1 + expr_count e + stmts_count ss) _ a y.then (omega arith)
+  statement_counted (case_label node e) s a f q =
+      let n = followed (constant_of s.context e) _ a q in statement_as (1 + expr_count e) _ a n.then (omega arith)
+  statement_counted (default_label node) s a f q = statement_as 1 _ a q (omega arith)
   statement_counted (branch node e t r) s a f q =
       let x = followed (condition_typed s e) _ a q in
       let y = followed (statement_typed (inner s) t) _ a x.then in

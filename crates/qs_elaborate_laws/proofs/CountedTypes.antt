@@ -76,6 +76,16 @@ integer_value (pointer t) e = refl
 integer_value (array t n) e = refl
 integer_value (struct k) e = never e
 
+-- an integer is used as it is
+pub integer_used : (t : TypeTree) → is_integer t ≡ true → HasValue (decayed t)
+integer_used int e = refl
+integer_used unsigned e = refl
+integer_used char e = refl
+integer_used void e = refl
+integer_used (pointer t) e = refl
+integer_used (array t n) e = refl
+integer_used (struct k) e = never e
+
 pub pointer_value : (t : TypeTree) → is_pointer t ≡ true → HasValue t
 pointer_value int e = refl
 pointer_value unsigned e = refl

@@ -4,10 +4,10 @@ use Rattle.std.proofs.lemmas.List.{map-append}
 use Rattle.std.proofs.lemmas.Bool.{and_parts, or_right, and_from}
 use Rattle.qs_syntax.specs.declared.types.Base.{Base}
 use Rattle.qs_syntax.specs.declared.nodes.Node.{Node}
-use Rattle.qs_syntax.specs.Trees.{VariableTree, ParameterTree, StartTree, no_start, start_expression, start_declaration, StmtTree, empty, expression, declaration, block, branch, while_loop, do_loop, for_loop, break, continue, return, Stmts, no_stmts, stmt_and, Else, no_else, else_by, FunctionTree}
+use Rattle.qs_syntax.specs.Trees.{VariableTree, ParameterTree, StartTree, no_start, start_expression, start_declaration, StmtTree, empty, expression, declaration, block, switch, case_label, default_label, branch, while_loop, do_loop, for_loop, break, continue, return, Stmts, no_stmts, stmt_and, Else, no_else, else_by, FunctionTree}
 use Rattle.qs_syntax.specs.Nodes.{all_nodes, option_nodes, expr_nodes, lengths_nodes, initialiser_nodes, variable_nodes, parameter_nodes, start_nodes, stmt_nodes, stmts_nodes, else_nodes, function_nodes}
 use Rattle.qs_types.specs.Contexts.{Context, inner_scope, inside_loop}
-use Rattle.qs_types.specs.StatementRules.{after_variable, after_statement, for_context}
+use Rattle.qs_types.specs.StatementRules.{after_variable, after_statement, switch_context, for_context}
 use Rattle.qs_types.specs.UnitRules.{parameter_types, after_parameter}
 use Rattle.qs_types.specs.Placed.{Local, is_one_of, variables_locals, start_locals, statement_locals, statements_locals, else_locals, parameters_locals}
 use Rattle.qs_meaning.specs.Units.{nodes_of}
@@ -106,6 +106,9 @@ mutual
   statement_among (expression node e) = part_none (ids (node ∷ expr_nodes e))
   statement_among (declaration d) = variables_among d.variables
   statement_among (block ss) = statements_among ss
+  statement_among (switch node e ss) = past (statements_declare ss) node _ (behind (statements_declare ss) (expr_nodes e) (stmts_nodes ss) (statements_among ss))
+  statement_among (case_label node e) = part_none (ids (node ∷ expr_nodes e))
+  statement_among (default_label node) = part_none (node.id ∷ [])
   statement_among (branch node e s r) =
       past (statement_declares s ++ else_declares r) node _
       (behind (statement_declares s ++ else_declares r) (expr_nodes e) (stmt_nodes s ++ else_nodes r)
@@ -165,6 +168,9 @@ mutual
   statement_are (expression node e) c = refl
   statement_are (declaration d) c = variables_are c d.base d.variables
   statement_are (block ss) c = statements_are ss (inner_scope c)
+  statement_are (switch node e ss) c = statements_are ss (switch_context c e)
+  statement_are (case_label node e) c = refl
+  statement_are (default_label node) c = refl
   statement_are (branch node e s r) c =
       joined (statement_locals (inner_scope c) s) (else_locals c r) (statement_declares s) (else_declares r) (statement_are s (inner_scope c)) (else_are r c)
   statement_are (while_loop node e s) c = statement_are s (inside_loop (inner_scope c))

@@ -1,5 +1,5 @@
 -- What is read has names of the language.
-use Rattle.std.proofs.Common.{◌≡◌, ℕ, true, List, [], ◌∷◌, ◌++◌, map, refl, sym, ◌∙◌, subst}
+use Rattle.std.proofs.Common.{◌≡◌, ℕ, Bool, true, List, [], ◌∷◌, ◌++◌, map, refl, sym, ◌∙◌, subst}
 use Rattle.std.specs.List.{list_all}
 use Rattle.std.proofs.lemmas.List.Folds.{list_all-append}
 use Rattle.std.proofs.lemmas.Bool.{and_parts, and_from}
@@ -10,7 +10,7 @@ use Rattle.qs_syntax.specs.Trees.{VariableTree, ParameterTree, StartTree, StmtTr
 use Rattle.qs_syntax.specs.Nodes.{variable_count, parameter_count, decl_count}
 use Rattle.qs_syntax.specs.Numbering.{Relabelling, numbered, relabel_all, relabel_variable, relabel_parameter, relabel_start, relabel_stmt, relabel_stmts, relabel_decl, relabel_declaration}
 use Rattle.qs_syntax.specs.ReadsDeclarations.{a_declarator, ReadsVariable, an_unset_variable, a_set_variable, ReadsVariables, a_last_variable, a_variable, ReadsDeclaration, a_declaration, ReadsParameter, a_named_parameter, an_unnamed_parameter, ReadsParameters, a_last_parameter, a_parameter, ReadsHead, no_parameter, a_void_head, some_parameters}
-use Rattle.qs_syntax.specs.ReadsStatements.{ReadsStart, a_start_declaration, a_start_expression, no_start_at_all, ReadsStatement, a_block, an_empty, an_expression, an_if, an_if_with_else, a_while, a_do, a_for, a_break, a_continue, a_return, ReadsItem, a_statement, a_declared, ReadsItems, no_item, an_item}
+use Rattle.qs_syntax.specs.ReadsStatements.{ReadsStart, a_start_declaration, a_start_expression, no_start_at_all, ReadsStatement, a_block, an_empty, an_expression, an_if, an_if_with_else, a_while, a_do, a_for, a_switch, a_break, a_continue, a_return, ReadsItem, a_statement, a_declared, ReadsItems, no_item, an_item, ReadsSwitchBlock, in_braces, ReadsSwitchItem, a_label, a_switch_statement, a_switch_declaration, ReadsSwitchItems, no_switch_item, a_switch_item, ReadsLabel, a_case, a_default}
 use Rattle.qs_syntax.specs.ReadsTypes.{a_plain_name}
 use Rattle.qs_syntax.specs.ReadsUnits.{ReadsPlain, a_struct_with_members, a_forward, a_header, a_definition, some_variables, ReadsExternal, a_plain_external, a_typedef, ReadsExternals, a_last_external, an_external}
 use Rattle.qs_syntax_vocabulary.specs.Marks.{NameSet}
@@ -74,6 +74,10 @@ module _ (f : Relabelling) where
 
   -- ---- statements
 
+  label_named : {h : ℕ} {ts : List Terminal} {s : StmtTree} → ReadsLabel h ts s → (n : ℕ) → list_all has_name (statement_declares (relabel_stmt f n s)) ≡ true
+  label_named (a_case at c r) n = refl
+  label_named (a_default at c) n = refl
+
   mutual
     statement_named : {h : ℕ} {ts : List Terminal} {s : StmtTree} → ReadsStatement h ts s → AreTokens ts → (n : ℕ) → list_all has_name (statement_declares (relabel_stmt f n s)) ≡ true
     statement_named (a_block {ts = ts} o c rs) k n = items_named rs (front ts _ (next k)) n
@@ -88,6 +92,7 @@ module _ (f : Relabelling) where
     statement_named (a_for {ws = ws} {xs = xs} {ys = ys} {zs = zs} at o m c start e u r) k n =
         let parts = next (next k) in
         both_named _ _ (start_named start (front ws _ parts) _) (statement_named r (next (behind ys _ (next (behind xs _ (behind ws _ parts))))) _)
+    statement_named (a_switch {xs = xs} {ys = ys} at o c e r) k n = switch_named r (next (behind xs _ (next (next k)))) _
     statement_named (a_break at s) k n = refl
     statement_named (a_continue at s) k n = refl
     statement_named (a_return at s r) k n = refl
@@ -99,6 +104,18 @@ module _ (f : Relabelling) where
     items_named : {h : ℕ} {ts : List Terminal} {ss : Stmts} → ReadsItems h ts ss → AreTokens ts → (n : ℕ) → list_all has_name (statements_declare (relabel_stmts f n ss)) ≡ true
     items_named no_item k n = refl
     items_named (an_item {xs = xs} {ys = ys} r rs) k n = both_named _ _ (item_named r (front xs ys k) n) (items_named rs (behind xs ys k) _)
+
+    switch_named : {h : ℕ} {ts : List Terminal} {ss : Stmts} → ReadsSwitchBlock h ts ss → AreTokens ts → (n : ℕ) → list_all has_name (statements_declare (relabel_stmts f n ss)) ≡ true
+    switch_named (in_braces {ts = ts} o c rs) k n = switch_items_named rs (front ts _ (next k)) n
+
+    switch_item_named : {b c : Bool} {h : ℕ} {ts : List Terminal} {s : StmtTree} → ReadsSwitchItem b c h ts s → AreTokens ts → (n : ℕ) → list_all has_name (statement_declares (relabel_stmt f n s)) ≡ true
+    switch_item_named (a_label r) k n = label_named r n
+    switch_item_named (a_switch_statement r) k n = statement_named r k n
+    switch_item_named (a_switch_declaration r) k n = declaration_named r k n
+
+    switch_items_named : {b : Bool} {h : ℕ} {ts : List Terminal} {ss : Stmts} → ReadsSwitchItems b h ts ss → AreTokens ts → (n : ℕ) → list_all has_name (statements_declare (relabel_stmts f n ss)) ≡ true
+    switch_items_named no_switch_item k n = refl
+    switch_items_named (a_switch_item {xs = xs} {ys = ys} r rs) k n = both_named _ _ (switch_item_named r (front xs ys k) n) (switch_items_named rs (behind xs ys k) _)
 
   -- ---- units
 

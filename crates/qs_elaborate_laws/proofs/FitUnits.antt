@@ -114,8 +114,8 @@ module _ (names : List FunctionNames) (p : TypedProgram) (main : ℕ) where
   function_fits n g named h =
       let placed = and_parts (source.parameters_placed g.blocks 0 g.parameters g.variables) _ h in
       let ends = and_parts (source.end_fits g) _ placed.1 in
-      let body = and_parts (source.stmts_fit (source_interfaces.interface_of p) g false g.body) _ ends.1 in
-      let known = statements_fit_too unit (function_core n g) (source_interfaces.interface_of p) g (alike n g body.1) g.body false body.0 [] in
+      let body = and_parts (source.stmts_fit (source_interfaces.interface_of p) g false false g.body) _ ends.1 in
+      let known = statements_fit_too unit (function_core n g) (source_interfaces.interface_of p) g (alike n g body.1) g.body false false body.0 [] in
       and_from _ _ (and_from _ _ (and_from _ _ (and_from _ _ (and_from _ _ named.own named.variables) named.different)
       (parameters_kept g.blocks 0 (named_parameters n.parameters g.parameters) (named_variables n.variables g.variables)
       (ap (λ (ps : List Parameter). source.parameters_placed g.blocks 0 ps (map (λ (v : CoreVariableTree). v.scalar) (named_variables n.variables g.variables))) (places_are n.parameters g.parameters)

@@ -12,11 +12,13 @@ use Rattle.qs_memory.specs.declared.operation.Comparison.TheVariants.{Equal}
 use Rattle.qs_memory.specs.declared.operation.BinaryOperation.TheVariants.{Arithmetic, Compare}
 use Rattle.qs_calls.specs.declared.callee.Callee.TheVariants.{Function, PutChar}
 use Rattle.qs_calls.specs.declared.parameter.Parameter.TheVariants.{Plain}
-use Rattle.qs_core.specs.Trees.{CoreExprTree, literal, variable, temporary, binary, CoreStmtTree, skip, call, branch, loop, break, return, stmts_of, CoreUnitTree}
+use Rattle.qs_core.specs.declared.labels.CoreLabel.TheVariants.{Case, Default}
+use Rattle.qs_core.specs.declared.numbers.Target.TheVariants.{Variable}
+use Rattle.qs_core.specs.Trees.{CoreExprTree, literal, variable, temporary, binary, CoreStmtTree, skip, assign, call, branch, loop, switch, break, return, stmts_of, CoreUnitTree}
 use Rattle.qs_core.specs.Outline.{outline}
 use Rattle.qs_elaborate_bodies.specs.Units.{core_of}
 use Rattle.qs_elaborate_laws.proofs.UnitExamples.{core_seven}
-use Rattle.qs_meaning.proofs.Samples.{number, natural, named, plus, op, putchar, eval, when, while, defined, parameter, main_, main_name}
+use Rattle.qs_meaning.proofs.Samples.{number, natural, named, plus, op, putchar, eval, set, when, while, defined, parameter, main_, main_name}
 use Rattle.qs_meaning.proofs.Samples as c
 
 d0 : decimal 0 ≡ codes "0"
@@ -163,6 +165,84 @@ endless_outline :
     ++ codes ".1 return 0\n"
     ++ codes ".2 return 0\n"
 endless_outline = simp (d0, d1, d2, d3, d120) refl
+
+-- ---- int f(int x){switch(x){case 1:return 5;case 2:x=7;break;default:x=9;}return x;} int main(int a){return f(a);}
+
+abbrev choosing : UnitTree
+choosing =
+    defined bases.Int 0 (102 ∷ []) (parameter bases.Int 0 120 ∷ [])
+    (c.switch (named 120)
+    (c.case (number 1)
+    ∷ c.return (number 5)
+    ∷ c.case (number 2)
+    ∷ eval (set (named 120) (number 7))
+    ∷ c.break
+    ∷ c.default
+    ∷ eval (set (named 120) (number 9))
+    ∷ [])
+    ∷ c.return (named 120)
+    ∷ [])
+    ∷ defined bases.Int 0 main_name (parameter bases.Int 0 97 ∷ []) (c.return (c.call 102 (named 97 ∷ [])) ∷ [])
+    ∷ []
+
+abbrev core_choosing : CoreUnitTree
+core_choosing = record {
+  functions =
+      record {
+        name = codes "f";
+        parameters = record { name = codes "x"; place = Plain 0 } ∷ [];
+        variables = record { name = codes "x"; ordinal = 1; scalar = Int } ∷ [];
+        temporaries = [];
+        blocks = [];
+        result_type = Some Int;
+        body = stmts_of (
+            switch (variable Int 0) (Case 1 0 ∷ Case 2 1 ∷ Default 3 ∷ [])
+            (stmts_of (
+            return (Some (literal Int 5))
+            ∷ assign (Variable 0) (literal Int 7)
+            ∷ break
+            ∷ assign (Variable 0) (literal Int 9)
+            ∷ []))
+            ∷ return (Some (variable Int 0))
+            ∷ []);
+      }
+      ∷ record {
+        name = codes "main";
+        parameters = record { name = codes "a"; place = Plain 0 } ∷ [];
+        variables = record { name = codes "a"; ordinal = 1; scalar = Int } ∷ [];
+        temporaries = Int ∷ [];
+        blocks = [];
+        result_type = Some Int;
+        body = stmts_of (
+            call (Some 0) (Function (record { 0 = 0 })) (variable Int 0 ∷ [])
+            ∷ return (Some (temporary Int 0))
+            ∷ zero_returned
+            ∷ []);
+      }
+      ∷ [];
+  main = 1;
+  data_blocks = [];
+}
+
+choosing_in_core : core_from choosing ≡ Some core_choosing
+choosing_in_core = refl
+
+choosing_outline :
+    outline core_choosing
+    ≡ codes "function f x\n"
+    ++ codes ". seq 2\n"
+    ++ codes ".0 switch x 1@0 2@1 default@3\n"
+    ++ codes ".0.0 return 5\n"
+    ++ codes ".0.1 assign x 7\n"
+    ++ codes ".0.2 break\n"
+    ++ codes ".0.3 assign x 9\n"
+    ++ codes ".1 return x\n"
+    ++ codes "function main a\n"
+    ++ codes ". seq 3\n"
+    ++ codes ".0 call $0 f a\n"
+    ++ codes ".1 return $0\n"
+    ++ codes ".2 return 0\n"
+choosing_outline = simp (d0, d1, d2, d3, d5, d7, d9) refl
 
 -- ---- several variables of one name (the source stands in UnitExamples)
 

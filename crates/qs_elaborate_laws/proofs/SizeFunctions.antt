@@ -1,13 +1,14 @@
 -- The values of statements and of functions.
 use Rattle.std.proofs.Common.{◌≡◌, ◌≤◌, ℕ, ◌+◌, ◌*◌, max, Bool, true, false, List, [], ◌∷◌, Some, None, length, refl, arith}
 use Rattle.qs_memory.specs.declared.scalar.Scalar.{Scalar}
-use Rattle.qs_core.specs.Trees.{CoreStmtTree}
+use Rattle.qs_core.specs.Trees.{CoreStmtTree, stmts_of}
 use Rattle.qs_core.specs.Trees as core
-use Rattle.qs_meaning.specs.Typed.{Stmt, evaluate, block, branch, while_loop, do_loop, for_loop, break, continue, return, return_nothing, Stmts, no_stmts, stmt_and}
+use Rattle.qs_meaning.specs.Typed.{Stmt, evaluate, block, switch, case_label, default_label, branch, while_loop, do_loop, for_loop, break, continue, return, return_nothing, Stmts, no_stmts, stmt_and}
+use Rattle.qs_meaning.specs.Fits.{is_label}
 use Rattle.qs_elaborate_bodies.specs.Literals.{converted_core}
 use Rattle.qs_elaborate_bodies.specs.Parts.{Temporaries, Valued, Listed, one_statement}
 use Rattle.qs_elaborate_bodies.specs.Expressions.{expression_core, effect_core}
-use Rattle.qs_elaborate_bodies.specs.Statements.{tested, guarded, looped, branched, statement_core, statements_core}
+use Rattle.qs_elaborate_bodies.specs.Statements.{tested, guarded, looped, branched, labels_core, part_of, statement_core, statements_core, parts_core}
 use Rattle.qs_elaborate_bodies.specs.Names.{VariableName}
 use Rattle.qs_elaborate_bodies.specs.Units.{named_variables, end_of_body, body_core}
 use Rattle.qs_elaborate_laws.specs.Counts.{statement_nodes, statements_nodes}
@@ -36,12 +37,26 @@ guarded_within e body l m h k =
 looped_held : (body step : List CoreStmtTree) → list_held (looped body step ∷ []) ≡ max (list_held body) (list_held step)
 looped_held body step = omega (arith, held_one body, held_one step)
 
+-- an item of a switch as a part
+part_held : (z : Bool) (ss : List CoreStmtTree) → list_held (part_of z ss) ≤ list_held ss
+part_held true ss = omega arith
+part_held false ss = omega (arith, held_one ss)
+
 -- ---- statements
 
 mutual
   statement_within : (s : Stmt) (k : ℕ) (ts : Temporaries) → ListWithin (statement_core s ts) (length ts + 2 * statement_nodes s k)
   statement_within (evaluate a) k ts = effect_within a k ts
   statement_within (block ss) k ts = statements_within ss k ts
+  statement_within (switch c e ss) k ts =
+      let at = expression_core e ts in
+      let parts = parts_core ss at.temporaries in
+      let operand = converted_core c at.value in
+      let g = (expression_good e k ts).alone in
+      let p = parts_within ss k at.temporaries in
+      omega (arith, p, g.statements_fit, g.value_fits, (converted_below c at.value).held_less, held-append at.statements (core.switch operand (labels_core 0 ss) (stmts_of parts.statements) ∷ []))
+  statement_within (case_label n) k ts = omega arith
+  statement_within default_label k ts = omega arith
   statement_within (branch e a b) k ts =
       let c = expression_core e ts in
       let met = statement_core a c.temporaries in
@@ -93,6 +108,15 @@ mutual
       let f = statement_within s k ts in
       let r = statements_within ss k first.temporaries in
       omega (arith, f, r, held-append first.statements (statements_core ss first.temporaries).statements)
+
+  parts_within : (ss : Stmts) (k : ℕ) (ts : Temporaries) → ListWithin (parts_core ss ts) (length ts + 2 * statements_nodes ss k)
+  parts_within no_stmts k ts = omega arith
+  parts_within (stmt_and s ss) k ts =
+      let item = statement_core s ts in
+      let f = statement_within s k ts in
+      let r = parts_within ss k item.temporaries in
+      let p = part_held (is_label s) item.statements in
+      omega (arith, f, r, p, held-append (part_of (is_label s) item.statements) (parts_core ss item.temporaries).statements)
 
 -- ---- functions
 

@@ -1,19 +1,20 @@
 -- The words of statements, of functions and of units.
-use Rattle.std.proofs.Common.{◌≡◌, ◌≤◌, ℕ, ◌+◌, ◌*◌, Bool, true, false, List, [], ◌∷◌, Some, None, length, refl, arith, if◌then◌else◌}
+use Rattle.std.proofs.Common.{◌≡◌, ◌≤◌, ℕ, ◌+◌, ◌*◌, Bool, true, false, List, [], ◌∷◌, Some, None, length, refl, ap, arith, if◌then◌else◌}
 use Rattle.std.specs.Prelude.{sum_by}
 use Rattle.std.proofs.lemmas.List.Sums.{sum_by-cons}
 use Rattle.qs_calls.specs.declared.parameter.Parameter.{Parameter}
-use Rattle.qs_core.specs.Trees.{CoreStmtTree, CoreFunctionTree}
+use Rattle.qs_core.specs.Trees.{CoreStmtTree, stmts_of, CoreFunctionTree}
 use Rattle.qs_core.specs.Trees as core
-use Rattle.qs_core.specs.Sizes.{words}
-use Rattle.qs_meaning.specs.Typed.{Stmt, evaluate, block, branch, while_loop, do_loop, for_loop, break, continue, return, return_nothing, Stmts, no_stmts, stmt_and, Function}
+use Rattle.qs_core.specs.Sizes.{stmt_words, words}
+use Rattle.qs_meaning.specs.Typed.{Stmt, evaluate, block, switch, case_label, default_label, branch, while_loop, do_loop, for_loop, break, continue, return, return_nothing, Stmts, no_stmts, stmt_and, Function}
 use Rattle.qs_meaning.specs.Runs.{main_from}
 use Rattle.qs_elaborate_bodies.specs.Literals.{converted_core}
 use Rattle.qs_elaborate_bodies.specs.Parts.{Temporaries, Valued, Listed, one_statement}
 use Rattle.qs_elaborate_bodies.specs.Expressions.{expression_core, effect_core}
-use Rattle.qs_elaborate_bodies.specs.Statements.{tested, guarded, looped, statement_core, statements_core}
+use Rattle.qs_elaborate_bodies.specs.Statements.{tested, guarded, looped, labels_core, statement_core, statements_core, parts_core}
 use Rattle.qs_elaborate_bodies.specs.Names.{FunctionNames}
 use Rattle.qs_elaborate_bodies.specs.Units.{named_parameters, end_of_body, body_core, function_core, no_names, functions_core}
+use Rattle.qs_elaborate_bodies.proofs.Items.{Item, a_case, a_default, a_part, item_of, part_first, part_labels}
 use Rattle.qs_elaborate_laws.specs.Counts.{statement_nodes, statements_nodes, nodes_in}
 use Rattle.qs_elaborate_laws.specs.SizeLaws.{WordsAreFew, UnitWordsAreFew}
 use Rattle.qs_elaborate_laws.proofs.WordFacts.{computed, tested_small, converted_taken, list_words, words-append, words_one}
@@ -34,12 +35,35 @@ asked_list e = omega (arith, words-append e.statements (core.branch e.value core
 looped_list : (body step : List CoreStmtTree) → list_words (looped body step ∷ []) ≡ list_words body + list_words step + 3
 looped_list body step = omega (arith, words_one body, words_one step)
 
+-- ---- the items of a switch
+
+item_few : (s : Stmt) (ss : Stmts) (part : ℕ) (ts : Temporaries) → Item s → ListFew (statement_core s ts) (statement_nodes s 1)
+    → ((next : ℕ) (us : Temporaries) → list_words (parts_core ss us).statements + 7 * length (labels_core next ss) ≤ 24 * statements_nodes ss 1)
+    → list_words (parts_core (stmt_and s ss) ts).statements + 7 * length (labels_core part (stmt_and s ss)) ≤ 24 * statements_nodes (stmt_and s ss) 1
+item_few _ ss part ts (a_case n) few rest = let r = rest part ts in omega (arith, r)
+item_few _ ss part ts a_default few rest = let r = rest part ts in omega (arith, r)
+item_few _ ss part ts (a_part s p) few rest =
+    let item = statement_core s ts in
+    let r = rest (part + 1) item.temporaries in
+    let words : list_words (parts_core (stmt_and s ss) ts).statements ≡ stmt_words (one_statement item.statements) + list_words (parts_core ss item.temporaries).statements = ap list_words (part_first s ss ts p) in
+    let labels : length (labels_core part (stmt_and s ss)) ≡ length (labels_core (part + 1) ss) = ap length (part_labels s ss part p) in
+    omega (arith, few, r, words, labels, words_one item.statements)
+
 -- ---- statements
 
 mutual
   statement_few : (s : Stmt) (ts : Temporaries) → ListFew (statement_core s ts) (statement_nodes s 1)
   statement_few (evaluate a) ts = effect_few a ts
   statement_few (block ss) ts = statements_few ss ts
+  statement_few (switch c e ss) ts =
+      let at = expression_core e ts in
+      let parts = parts_core ss at.temporaries in
+      let operand = converted_core c at.value in
+      let g = (expression_good e ts).alone in
+      let p = parts_few ss 0 at.temporaries in
+      omega (arith, p, g.once, converted_taken c at.value, words-append at.statements (core.switch operand (labels_core 0 ss) (stmts_of parts.statements) ∷ []))
+  statement_few (case_label n) ts = omega arith
+  statement_few default_label ts = omega arith
   statement_few (branch e a b) ts =
       let c = expression_core e ts in
       let met = statement_core a c.temporaries in
@@ -94,6 +118,11 @@ mutual
       let f = statement_few s ts in
       let r = statements_few ss first.temporaries in
       omega (arith, f, r, words-append first.statements (statements_core ss first.temporaries).statements)
+
+  -- seven words for each label among them
+  parts_few : (ss : Stmts) (part : ℕ) (ts : Temporaries) → list_words (parts_core ss ts).statements + 7 * length (labels_core part ss) ≤ 24 * statements_nodes ss 1
+  parts_few no_stmts part ts = omega arith
+  parts_few (stmt_and s ss) part ts = item_few s ss part ts (item_of s) (statement_few s ts) (λ next us. parts_few ss next us)
 
 -- ---- functions
 

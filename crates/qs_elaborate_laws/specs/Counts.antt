@@ -4,7 +4,7 @@ use Rattle.std.specs.Prelude.{ℕ, ◌+◌, Bool, true, false, Option, Some, Non
 use Rattle.qs_meaning.specs.Typed.{Expr, constant, value, pointer_to, member, called, stepped_after, unary, cast, binary, logical_and, logical_or, conditional, assigned, sequence}
 use Rattle.qs_meaning.specs.Typed.{Lvalue, variable, object, Arguments, no_arguments, argument_and, Assignment, set, update}
 use Rattle.qs_meaning.specs.Typed.{Effect, nothing, discard, assign, perform, copy, fill, in_order}
-use Rattle.qs_meaning.specs.Typed.{Stmt, evaluate, block, branch, while_loop, do_loop, for_loop, break, continue, return, return_nothing, Stmts, no_stmts, stmt_and, Function}
+use Rattle.qs_meaning.specs.Typed.{Stmt, evaluate, block, switch, case_label, default_label, branch, while_loop, do_loop, for_loop, break, continue, return, return_nothing, Stmts, no_stmts, stmt_and, Function}
 
 -- ---- addresses
 
@@ -136,6 +136,9 @@ abbrev mutual
   pub statement_nodes : Stmt → (k : ℕ) → ℕ
   statement_nodes (evaluate a) k = effect_nodes a k
   statement_nodes (block ss) k = statements_nodes ss k
+  statement_nodes (switch c e ss) k = k + nodes e k + statements_nodes ss k
+  statement_nodes (case_label n) k = k
+  statement_nodes default_label k = k
   statement_nodes (branch e a b) k = k + nodes e k + statement_nodes a k + statement_nodes b k
   statement_nodes (while_loop e a) k = k + nodes e k + statement_nodes a k
   statement_nodes (do_loop a e) k = k + statement_nodes a k + nodes e k

@@ -1,6 +1,6 @@
 -- How many expressions there are in statements of the source, those in the lengths of arrays and below `sizeof` among them.
 use Rattle.std.specs.Prelude.{ℕ, ◌+◌}
-use Rattle.qs_syntax.specs.Trees.{InitialiserTree, value, list, Initialisers, no_initialisers, initialiser_and, VariableTree, DeclarationTree, StartTree, no_start, start_expression, start_declaration, StmtTree, empty, expression, declaration, block, branch, while_loop, do_loop, for_loop, break, continue, return, Stmts, no_stmts, stmt_and, Else, no_else, else_by}
+use Rattle.qs_syntax.specs.Trees.{InitialiserTree, value, list, Initialisers, no_initialisers, initialiser_and, VariableTree, DeclarationTree, StartTree, no_start, start_expression, start_declaration, StmtTree, empty, expression, declaration, block, switch, case_label, default_label, branch, while_loop, do_loop, for_loop, break, continue, return, Stmts, no_stmts, stmt_and, Else, no_else, else_by}
 use Rattle.qs_syntax.specs.Nodes.{all_count, option_count, expr_count, lengths_count}
 
 abbrev mutual
@@ -29,6 +29,9 @@ abbrev mutual
   stmt_expressions (expression node e) = expr_count e
   stmt_expressions (declaration d) = declaration_expressions d
   stmt_expressions (block ss) = stmts_expressions ss
+  stmt_expressions (switch node e ss) = expr_count e + stmts_expressions ss
+  stmt_expressions (case_label node e) = expr_count e
+  stmt_expressions (default_label node) = 0
   stmt_expressions (branch node e s r) = expr_count e + stmt_expressions s + else_expressions r
   stmt_expressions (while_loop node e s) = expr_count e + stmt_expressions s
   stmt_expressions (do_loop node s e) = stmt_expressions s + expr_count e

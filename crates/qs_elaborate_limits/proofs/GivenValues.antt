@@ -6,22 +6,23 @@ use Rattle.std.specs.Cmp.{first_so}
 use Rattle.std.proofs.lemmas.Option.{same_Some}
 use Rattle.qs_base.specs.Bytes.{same_bytes}
 use Rattle.qs_syntax.specs.declared.types.Base.{Base}
-use Rattle.qs_syntax.specs.Trees.{ExprTree, VariableTree, ParameterTree, StartTree, no_start, start_expression, start_declaration, StmtTree, empty, expression, declaration, block, branch, while_loop, do_loop, for_loop, break, continue, return, Stmts, no_stmts, stmt_and, Else, no_else, else_by, FunctionTree, DeclTree, structure, forward, function, variables, UnitTree, typedef}
+use Rattle.qs_syntax.specs.Trees.{ExprTree, VariableTree, ParameterTree, StartTree, no_start, start_expression, start_declaration, StmtTree, empty, expression, declaration, block, switch, case_label, default_label, branch, while_loop, do_loop, for_loop, break, continue, return, Stmts, no_stmts, stmt_and, Else, no_else, else_by, FunctionTree, DeclTree, structure, forward, function, variables, UnitTree, typedef}
 use Rattle.qs_memory.proofs.Options.{followed}
 use Rattle.qs_types.specs.Types.{TypeTree, int, unsigned, char, void, pointer, array, struct, same_type}
 use Rattle.qs_types.specs.Rules.{keeps, breaks_one, faults_of}
 use Rattle.qs_types.specs.declared.rules.Rule.TheVariants as rules
 use Rattle.qs_types.specs.GivenFunctions.{main_name}
-use Rattle.qs_types.specs.Contexts.{Context, inner_scope, inside_loop}
+use Rattle.qs_types.specs.Constants.{constant_of}
+use Rattle.qs_types.specs.Contexts.{Context, inner_scope, inside_loop, with_case}
 use Rattle.qs_types.specs.Placed.{Local, addressed_in, statements_locals}
-use Rattle.qs_types.specs.StatementRules.{after_variable, after_variables, after_start, after_statement, return_tests, condition_faults, start_faults, for_faults, statement_faults, statements_faults, else_faults}
+use Rattle.qs_types.specs.StatementRules.{after_variable, after_variables, after_start, after_statement, return_tests, case_value, switch_faults, condition_faults, start_faults, for_faults, statement_faults, statements_faults, else_faults}
 use Rattle.qs_types.specs.UnitRules.{may_be, parameter_types, result_type, with_parameter, with_parameters, header_of, is_main_type, main_tests, result_tests, header_tests, may_declare, parameters_faults, body_context, body_faults, function_faults, after_function, after_declaration, declaration_faults, declarations_faults}
 use Rattle.qs_types.specs.WellTyped.{WellTyped}
 use Rattle.qs_meaning.specs.Typed.{Stmt, Function, TypedProgram}
 use Rattle.qs_meaning.specs.Typed as typed_trees
 use Rattle.qs_meaning.specs.Names.{Scope, within}
 use Rattle.qs_meaning.specs.Expressions.{typed}
-use Rattle.qs_meaning.specs.Statements.{variables_typed, effect_typed, option_effect, condition_typed, option_condition, start_typed, return_typed, inner, loop_body, in_for, statement_typed, statements_typed, else_typed}
+use Rattle.qs_meaning.specs.Statements.{variables_typed, effect_typed, option_effect, condition_typed, option_condition, start_typed, return_typed, inner, in_switch, loop_body, in_for, statement_typed, statements_typed, else_typed}
 use Rattle.qs_meaning.specs.Units.{placed_among, variables_among, locals_of, parameters_in, scalars_of, sizes_of, parameters_typed, in_body, function_with, function_typed, file_variables_typed, declaration_typed, declarations_typed, start_scope, typed_of}
 use Rattle.qs_meaning.proofs.Options.{never}
 use Rattle.qs_meaning.proofs.FaultlessExpressions.{none_left, none_right, unbroken, first_unbroken, second_unbroken}
@@ -33,6 +34,9 @@ abbrev mutual
   pub gives_values : Stmt → Bool
   gives_values (typed_trees.evaluate a) = true
   gives_values (typed_trees.block ss) = all_give_values ss
+  gives_values (typed_trees.switch c e ss) = all_give_values ss
+  gives_values (typed_trees.case_label n) = true
+  gives_values typed_trees.default_label = true
   gives_values (typed_trees.branch e a b) = gives_values a && gives_values b
   gives_values (typed_trees.while_loop e a) = gives_values a
   gives_values (typed_trees.do_loop a e) = gives_values a
@@ -64,11 +68,18 @@ start_result no_start c = refl
 start_result (start_expression e) c = refl
 start_result (start_declaration d) c = variables_result d.base d.variables c
 
+case_result : (c : Context) (value : Option ℕ) → (with_case c value).result ≡ c.result
+case_result c None = refl
+case_result c (Some n) = refl
+
 statement_result : (t : StmtTree) (c : Context) → (after_statement c t).result ≡ c.result
 statement_result (declaration d) c = variables_result d.base d.variables c
 statement_result (empty node) c = refl
 statement_result (expression node e) c = refl
 statement_result (block ss) c = refl
+statement_result (switch node e ss) c = refl
+statement_result (case_label node e) c = case_result c (case_value c e)
+statement_result (default_label node) c = refl
 statement_result (branch node e t r) c = refl
 statement_result (while_loop node e t) c = refl
 statement_result (do_loop node t e) c = refl
@@ -106,6 +117,12 @@ mutual
   statement_gives (declaration d) s a r f q = let set = followed (variables_typed s d.base d.variables) _ a q in gives_as _ a set.then refl
   statement_gives (block ss) s a r f q =
       let rest = followed (statements_typed (inner s) ss) _ a q in gives_as _ a rest.then (statements_give ss (inner s) rest.value r f rest.first)
+  statement_gives (switch node e ss) s a r f q =
+      let x = followed (typed s e) _ a q in
+      let y = followed (statements_typed (in_switch s e) ss) _ a x.then in
+      gives_as _ a y.then (statements_give ss (in_switch s e) y.value r (none_right (switch_faults s.context node e) _ f) y.first)
+  statement_gives (case_label node e) s a r f q = let n = followed (constant_of s.context e) _ a q in gives_as _ a n.then refl
+  statement_gives (default_label node) s a r f q = gives_as _ a q refl
   statement_gives (branch node e t o) s a r f q =
       let x = followed (condition_typed s e) _ a q in
       let y = followed (statement_typed (inner s) t) _ a x.then in

@@ -1,12 +1,13 @@
 -- The bodies of core hold few values at once.
 use Rattle.std.proofs.Common.{◌≡◌, ◌≤◌, ℕ, ◌+◌, max, Bool, true, false, List, [], ◌∷◌, Some, None, refl, arith}
-use Rattle.qs_core.specs.Trees.{CoreStmtTree, CoreFunctionTree}
+use Rattle.qs_core.specs.Trees.{CoreStmtTree, stmts_of, CoreFunctionTree}
 use Rattle.qs_core.specs.Trees as core
-use Rattle.qs_meaning.specs.Typed.{Stmt, evaluate, block, branch, while_loop, do_loop, for_loop, break, continue, return, return_nothing, Stmts, no_stmts, stmt_and, Function}
+use Rattle.qs_meaning.specs.Typed.{Stmt, evaluate, block, switch, case_label, default_label, branch, while_loop, do_loop, for_loop, break, continue, return, return_nothing, Stmts, no_stmts, stmt_and, Function}
+use Rattle.qs_meaning.specs.Fits.{is_label}
 use Rattle.qs_elaborate_bodies.specs.Literals.{converted_core}
 use Rattle.qs_elaborate_bodies.specs.Parts.{Temporaries, Valued, Listed, one_statement}
 use Rattle.qs_elaborate_bodies.specs.Expressions.{expression_core, effect_core}
-use Rattle.qs_elaborate_bodies.specs.Statements.{tested, guarded, looped, branched, statement_core, statements_core}
+use Rattle.qs_elaborate_bodies.specs.Statements.{tested, guarded, looped, branched, labels_core, part_of, statement_core, statements_core, parts_core}
 use Rattle.qs_elaborate_bodies.specs.Names.{FunctionNames}
 use Rattle.qs_elaborate_bodies.specs.Units.{end_of_body, body_core, function_core, no_names, functions_core}
 use Rattle.qs_elaborate_laws.proofs.SizeFacts.{converted_below}
@@ -35,12 +36,27 @@ guarded_few e body l n h k =
 looped_most : (body step : List CoreStmtTree) → list_most (looped body step ∷ []) ≡ max (list_most body) (list_most step)
 looped_most body step = omega (arith, most_one body, most_one step)
 
+-- an item of a switch as a part
+part_most : (z : Bool) (ss : List CoreStmtTree) → list_most (part_of z ss) ≤ list_most ss
+part_most true ss = omega arith
+part_most false ss = omega (arith, most_one ss)
+
 -- ---- statements
 
 mutual
   statement_few : (s : Stmt) (ts : Temporaries) → ListFew (statement_core s ts) (statement_height s)
   statement_few (evaluate a) ts = effect_few a ts
   statement_few (block ss) ts = statements_few ss ts
+  statement_few (switch c e ss) ts =
+      let at = expression_core e ts in
+      let parts = parts_core ss at.temporaries in
+      let operand = converted_core c at.value in
+      let h = expression_few e ts in
+      let p = parts_few ss at.temporaries in
+      let x = converted_below c at.value in
+      omega (arith, h.statements_few, h.value_few, x.held_less, p, most-append at.statements (core.switch operand (labels_core 0 ss) (stmts_of parts.statements) ∷ []))
+  statement_few (case_label n) ts = omega arith
+  statement_few default_label ts = omega arith
   statement_few (branch e a b) ts =
       let c = expression_core e ts in
       let met = statement_core a c.temporaries in
@@ -90,6 +106,15 @@ mutual
       let f = statement_few s ts in
       let r = statements_few ss first.temporaries in
       omega (arith, f, r, most-append first.statements (statements_core ss first.temporaries).statements)
+
+  parts_few : (ss : Stmts) (ts : Temporaries) → ListFew (parts_core ss ts) (statements_height ss)
+  parts_few no_stmts ts = omega arith
+  parts_few (stmt_and s ss) ts =
+      let item = statement_core s ts in
+      let f = statement_few s ts in
+      let r = parts_few ss item.temporaries in
+      let p = part_most (is_label s) item.statements in
+      omega (arith, f, r, p, most-append (part_of (is_label s) item.statements) (parts_core ss item.temporaries).statements)
 
 -- ---- functions
 

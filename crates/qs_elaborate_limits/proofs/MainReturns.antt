@@ -3,7 +3,7 @@ use Rattle.std.proofs.Common.{◌≡◌, ◌≢◌, ℕ, zero, suc, ◌+◌, Boo
 use Rattle.std.specs.List.{slice_get}
 use Rattle.std.specs.Cmp.{first_so, second_so}
 use Rattle.std.proofs.lemmas.Option.{same_Some}
-use Rattle.qs_memory.specs.Values.{Value, integer}
+use Rattle.qs_memory.specs.Values.{Value, integer, as_integer}
 use Rattle.qs_memory.specs.Memory.{Memory, make, release}
 use Rattle.qs_events.specs.Events.{Returns}
 use Rattle.qs_events.specs.Runs.{Left, Ending, emit, has_ended, is_undefined, is_short, ending_of, given}
@@ -13,9 +13,9 @@ use Rattle.qs_calls.specs.Relations.{Relation, Keeps, CallsRelated}
 use Rattle.qs_calls.proofs.RelationLaws.{given_related, pass_related, activate_related}
 use Rattle.qs_core.specs.Trees.{CoreUnitTree}
 use Rattle.qs_core.specs.Units.{main_run}
-use Rattle.qs_meaning.specs.Typed.{Expr, Effect, Stmt, evaluate, block, branch, while_loop, do_loop, for_loop, break, continue, return, return_nothing, Stmts, no_stmts, stmt_and, Function, TypedProgram}
+use Rattle.qs_meaning.specs.Typed.{Expr, Effect, Stmt, evaluate, block, switch, case_label, default_label, branch, while_loop, do_loop, for_loop, break, continue, return, return_nothing, Stmts, no_stmts, stmt_and, Function, TypedProgram}
 use Rattle.qs_meaning.specs.States.{Next, Here, convert_by, conversion_then}
-use Rattle.qs_meaning.specs.Meaning.{Targets, in_loop, turns, condition, for_condition, effect, statement, statements}
+use Rattle.qs_meaning.specs.Meaning.{Targets, in_loop, in_switch, is_case, is_default, turns, condition, for_condition, effect, statement, statements, behind_label}
 use Rattle.qs_meaning.specs.Runs.{frame_of, body_of, calls_within, main_from, run_of, start_world}
 use Rattle.qs_meaning.specs.Runs as source
 use Rattle.qs_meaning.proofs.Options.{never, nothing}
@@ -73,6 +73,20 @@ module _ (n : ℕ) (c : CallsOf) (related : CallsRelated R c c) (first : ℕ) wh
   loop_leaves : (t : Targets) → AllLeave t → (rest : Next) → Leaves rest → AllLeave (in_loop t rest)
   loop_leaves t h rest r = record { behind = r; at_break = h.behind; at_continue = r; at_return = h.at_return }
 
+  switch_leaves : (t : Targets) → AllLeave t → AllLeave (in_switch t)
+  switch_leaves t h = record { behind = h.behind; at_break = h.behind; at_continue = h.at_continue; at_return = h.at_return }
+
+  -- a switch, from the label of its value on
+  abbrev chosen : Stmts → Targets → ℕ → Next
+  chosen ss t m = behind_label (is_case m) ss here (in_switch t) (behind_label is_default ss here (in_switch t) t.behind)
+
+  abbrev from_label : Stmts → Targets → Value → Next
+  from_label ss t y v w = given (as_integer y) (λ m. chosen ss t m v w)
+
+  either_leaves : (z : Bool) (k l : Next) → Leaves k → Leaves l → Leaves (if z then k else l)
+  either_leaves true k l h i = h
+  either_leaves false k l h i = i
+
   -- a turn of a `for`
   abbrev for_turn : Option Expr → Effect → Stmt → Targets → Next → Next
   for_turn e step a t k = for_condition e here (statement a here (in_loop t (effect step here k))) t.behind
@@ -81,6 +95,14 @@ module _ (n : ℕ) (c : CallsOf) (related : CallsRelated R c c) (first : ℕ) wh
     statement_leaves : (s : Stmt) (t : Targets) → gives_values s ≡ true → AllLeave t → Leaves (statement s here t)
     statement_leaves (evaluate a) t g h v w = effect_related R keeps n n (turns_leave n) c c related first a t.behind t.behind h.behind v w
     statement_leaves (block ss) t g h v w = statements_leave ss t g h v w
+    statement_leaves (switch to e ss) t g h v w =
+        expression_related R keeps n n (turns_leave n) c c related first e (λ x. conversion_then to x (from_label ss t)) (λ x. source.nowhere) (λ x v w.
+        given_related R keeps (convert_by to x) (λ y. from_label ss t y v w) (λ y. from_label ss t y v w) (λ y.
+        given_related R keeps (as_integer y) (λ m. chosen ss t m v w) (λ m. chosen ss t m v w) (λ m.
+        label_leaves ss (in_switch t) (is_case m) (behind_label is_default ss here (in_switch t) t.behind) g (switch_leaves t h)
+        (label_leaves ss (in_switch t) is_default t.behind g (switch_leaves t h) h.behind) v w))) v w
+    statement_leaves (case_label m) t g h v w = h.behind v w
+    statement_leaves default_label t g h v w = h.behind v w
     statement_leaves (branch e a b) t g h v w =
         condition_related R keeps n n (turns_leave n) c c related first e (statement a here t) (statement b here t) (statement a here t) (statement b here t)
         (statement_leaves a t (first_so _ _ g) h) (statement_leaves b t (second_so (gives_values a) _ g) h) v w
@@ -115,6 +137,14 @@ module _ (n : ℕ) (c : CallsOf) (related : CallsRelated R c c) (first : ℕ) wh
           at_continue = h.at_continue;
           at_return = h.at_return;
         }) v w
+
+    -- from a label on, or what is done without one
+    label_leaves : (ss : Stmts) (t : Targets) (test : Stmt → Bool) (without : Next) → all_give_values ss ≡ true → AllLeave t → Leaves without
+        → Leaves (behind_label test ss here t without)
+    label_leaves no_stmts t test without g h other = other
+    label_leaves (stmt_and s ss) t test without g h other =
+        either_leaves (test s) (statements ss here t) (behind_label test ss here t without) (statements_leave ss t (second_so (gives_values s) _ g) h)
+        (label_leaves ss t test without (second_so (gives_values s) _ g) h other)
 
 -- ---- main
 

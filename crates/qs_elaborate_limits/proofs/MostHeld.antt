@@ -7,7 +7,7 @@ use Rattle.std.proofs.lemmas.Option.{same_Some}
 use Rattle.qs_calls.specs.Starts.{Signature, signature_of}
 use Rattle.qs_calls.specs.declared.callee.Callee.{Callee}
 use Rattle.qs_calls.specs.declared.callee.Callee.TheVariants.{Function, PutChar, GetChar}
-use Rattle.qs_core.specs.Trees.{CoreExprTree, CoreStmtTree, skip, seq, assign, store, copy, fill, call, branch, loop, break, continue, return, CoreStmts, no_stmts, stmt_and, stmts_of, CoreParameterTree, CoreVariableTree, CoreFunctionTree, CoreUnitTree}
+use Rattle.qs_core.specs.Trees.{CoreExprTree, CoreStmtTree, skip, seq, assign, store, copy, fill, call, branch, loop, switch, break, continue, return, CoreStmts, no_stmts, stmt_and, stmts_of, CoreParameterTree, CoreVariableTree, CoreFunctionTree, CoreUnitTree}
 use Rattle.qs_core.specs.Expressions.{type_of}
 use Rattle.qs_memory.specs.Scalars.{same_scalars}
 use Rattle.qs_memory.proofs.ScalarLaws.{scalars_same}
@@ -35,6 +35,7 @@ abbrev mutual
   most_in (call x f es) = most_held es
   most_in (branch e a b) = max (held e) (max (most_in a) (most_in b))
   most_in (loop body step) = max (most_in body) (most_in step)
+  most_in (switch e labels ss) = max (held e) (most_in_all ss)
   most_in break = 0
   most_in continue = 0
   most_in (return e) = option_held e
@@ -103,6 +104,9 @@ module _ (u : CoreUnitTree) (k : ℕ) (some : 2 ≤ k) (few : (g : Callee) → T
         let i = statement_few true true body two.0 in
         let j = statement_few true false step two.1 in
         omega arith
+    statement_few b c (switch e labels ss) h =
+        let i = body_few true c ss (and_parts _ (stmts_fit u f true c ss) h).1 in
+        omega arith
     statement_few b c break h = omega arith
     statement_few b c continue h = omega arith
     statement_few b c (return e) h = omega arith
@@ -148,6 +152,7 @@ module _ (u : CoreUnitTree) (k : ℕ) (few : (g : Callee) → TakesFew k (signat
         let i = statement_arguments true true body two.0 in
         let j = statement_arguments true false step two.1 in
         omega arith
+    statement_arguments b c (switch e labels ss) h = body_arguments true c ss (and_parts _ (stmts_fit u f true c ss) h).1
     statement_arguments b c break h = omega arith
     statement_arguments b c continue h = omega arith
     statement_arguments b c (return e) h = omega arith

@@ -2,17 +2,18 @@
 use Rattle.std.proofs.Common.{◌≡◌, ◌≤◌, ℕ, ◌+◌, ◌*◌, max, ◌||◌, Bool, true, false, List, [], ◌∷◌, ◌++◌, Some, None, if◌then◌else◌, refl, arith}
 use Rattle.qs_memory.specs.declared.scalar.Scalar.{Scalar}
 use Rattle.qs_memory.specs.declared.scalar.Scalar.TheVariants as scalars
-use Rattle.qs_core.specs.Trees.{CoreExprTree, CoreStmtTree}
+use Rattle.qs_core.specs.Trees.{CoreExprTree, CoreStmtTree, stmts_of}
 use Rattle.qs_core.specs.Trees as core
 use Rattle.qs_core.specs.Nesting.{nesting, nesting_in_all, functions_nesting, list_nesting}
 use Rattle.qs_core.proofs.JoinedLaws.{joined_nest}
 use Rattle.qs_meaning.specs.Typed.{Expr, constant, value, pointer_to, member, called, stepped_after, unary, cast, binary, logical_and, logical_or, conditional, assigned, sequence, Lvalue, variable, object, Arguments, no_arguments, argument_and, Assignment, set, update, Effect, nothing, discard, assign, perform, copy, fill, in_order}
-use Rattle.qs_meaning.specs.Typed.{Stmt, evaluate, block, branch, while_loop, do_loop, for_loop, break, continue, return, return_nothing, Stmts, no_stmts, stmt_and, Function}
+use Rattle.qs_meaning.specs.Typed.{Stmt, evaluate, block, switch, case_label, default_label, branch, while_loop, do_loop, for_loop, break, continue, return, return_nothing, Stmts, no_stmts, stmt_and, Function}
+use Rattle.qs_meaning.specs.Fits.{is_label}
 use Rattle.qs_elaborate_bodies.specs.Literals.{is_literal, converted_core}
 use Rattle.qs_elaborate_bodies.specs.Acting.{acts, arguments_act}
 use Rattle.qs_elaborate_bodies.specs.Parts.{Temporaries, with_temporary, next_number, keep, Valued, in_temporary, saved, saved_if, Location, plain, pointed, Located, with_saved_address, address_saved_if, value_at, value_read, written, one_statement}
 use Rattle.qs_elaborate_bodies.specs.Expressions.{updated_core, step_amount, branch_with, truth_core, truth_literal, write_at, expression_core, lvalue_core, arguments_core, assignment_core, effect_core}
-use Rattle.qs_elaborate_bodies.specs.Statements.{tested, guarded, looped, statement_core, statements_core}
+use Rattle.qs_elaborate_bodies.specs.Statements.{tested, guarded, looped, labels_core, part_of, statement_core, statements_core, parts_core}
 use Rattle.qs_elaborate_bodies.specs.Names.{FunctionNames}
 use Rattle.qs_elaborate_bodies.specs.Units.{end_of_body, body_core, function_core, no_names, functions_core}
 use Rattle.qs_meaning.specs.Typed.{unchanged}
@@ -180,6 +181,11 @@ mutual
 
 -- ---- statements
 
+-- an item of a switch as a part
+part_nests : (z : Bool) (ss : List CoreStmtTree) → list_nesting (part_of z ss) ≤ 1 + list_nesting ss
+part_nests true ss = omega arith
+part_nests false ss = omega (arith, one_nests ss)
+
 -- a loop is a sequence in it, a conditional, and a sequence in that
 guarded_nests : (e : Valued) (body step : List CoreStmtTree) → nesting (looped (tested e (one_statement body) core.break) step) ≤ 1 + max (1 + max (list_nesting e.statements) (2 + list_nesting body)) (1 + list_nesting step)
 guarded_nests e body step =
@@ -189,6 +195,17 @@ mutual
   statement_nests : (s : Stmt) (ts : Temporaries) → list_nesting (statement_core s ts).statements ≤ 4 * statement_height s
   statement_nests (evaluate a) ts = omega (arith, effect_nests a ts)
   statement_nests (block ss) ts = statements_nest ss ts
+  statement_nests (switch c e ss) ts =
+      let at = expression_core e ts in
+      let parts = parts_core ss at.temporaries in
+      omega (
+        arith,
+        expression_nests e ts,
+        parts_nest ss at.temporaries,
+        joined_nest at.statements (core.switch (converted_core c at.value) (labels_core 0 ss) (stmts_of parts.statements) ∷ []),
+      )
+  statement_nests (case_label n) ts = omega arith
+  statement_nests default_label ts = omega arith
   statement_nests (branch e a b) ts =
       let c = expression_core e ts in
       let met = statement_core a c.temporaries in
@@ -249,6 +266,20 @@ mutual
       let first = statement_core s ts in
       let rest = statements_core ss first.temporaries in
       omega (arith, statement_nests s ts, statements_nest ss first.temporaries, joined_nest first.statements rest.statements)
+
+  -- a part is a sequence, or nests no deeper than its list
+  parts_nest : (ss : Stmts) (ts : Temporaries) → list_nesting (parts_core ss ts).statements ≤ 1 + 4 * statements_height ss
+  parts_nest no_stmts ts = omega arith
+  parts_nest (stmt_and s ss) ts =
+      let item = statement_core s ts in
+      let rest = parts_core ss item.temporaries in
+      omega (
+        arith,
+        statement_nests s ts,
+        parts_nest ss item.temporaries,
+        part_nests (is_label s) item.statements,
+        joined_nest (part_of (is_label s) item.statements) rest.statements,
+      )
 
 -- ---- functions
 

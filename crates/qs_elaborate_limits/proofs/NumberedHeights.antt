@@ -2,7 +2,7 @@
 use Rattle.std.proofs.Common.{◌≡◌, ◌≤◌, ℕ, ◌+◌, List, [], ◌∷◌, Option, Some, None, refl, ap, arith}
 use Rattle.std.proofs.Math.Logic.{∥∥₁_elim}
 use native.Mathlib.Bridge.{le_prop}
-use Rattle.qs_syntax.specs.Trees.{ExprTree, expr, ShapeTree, constant, text, name, unary, step, cast, sizeof_type, sizeof_expr, binary, assign, conditional, comma, subscript, member, call, Exprs, no_exprs, expr_and, InitialiserTree, value, list, Initialisers, no_initialisers, initialiser_and, VariableTree, DeclarationTree, StartTree, no_start, start_expression, start_declaration, StmtTree, empty, expression, declaration, block, branch, while_loop, do_loop, for_loop, break, continue, return, Stmts, no_stmts, stmt_and, Else, no_else, else_by, DeclTree, structure, forward, function, variables, UnitTree, typedef}
+use Rattle.qs_syntax.specs.Trees.{ExprTree, expr, ShapeTree, constant, text, name, unary, step, cast, sizeof_type, sizeof_expr, binary, assign, conditional, comma, subscript, member, call, Exprs, no_exprs, expr_and, InitialiserTree, value, list, Initialisers, no_initialisers, initialiser_and, VariableTree, DeclarationTree, StartTree, no_start, start_expression, start_declaration, StmtTree, empty, expression, declaration, block, switch, case_label, default_label, branch, while_loop, do_loop, for_loop, break, continue, return, Stmts, no_stmts, stmt_and, Else, no_else, else_by, DeclTree, structure, forward, function, variables, UnitTree, typedef}
 use Rattle.qs_syntax.specs.Nodes.{all_count, option_count, expr_count, declarator_count, initialiser_count, variable_count, parameter_count, start_count, stmt_count, decl_count}
 use Rattle.qs_syntax.specs.Numbering.{Relabelling, relabel_all, relabel_option, relabel_expr, relabel_shape, relabel_exprs, relabel_initialiser, relabel_initialisers, relabel_variable, relabel_declaration, relabel_start, relabel_stmt, relabel_stmts, relabel_else, relabel_decl, relabel_unit, numbered}
 use Rattle.qs_syntax.specs.Units.{height_limit, Reading, IsRead}
@@ -74,6 +74,9 @@ module _ (f : Relabelling) where
     stmt_keeps n (expression node e) = expr_keeps (f.onward n 1) e
     stmt_keeps n (declaration d) = declaration_keeps n d
     stmt_keeps n (block ss) = stmts_keeps n ss
+    stmt_keeps n (switch node e ss) = rw (expr_keeps (f.onward n 1) e, stmts_keeps (f.onward (f.onward n 1) (expr_count e)) ss) refl
+    stmt_keeps n (case_label node e) = refl
+    stmt_keeps n (default_label node) = refl
     stmt_keeps n (branch node e s r) =
         rw (expr_keeps (f.onward n 1) e, stmt_keeps (f.onward (f.onward n 1) (expr_count e)) s, else_keeps (f.onward (f.onward (f.onward n 1) (expr_count e)) (stmt_count s)) r) refl
     stmt_keeps n (while_loop node e s) = rw (expr_keeps (f.onward n 1) e, stmt_keeps (f.onward (f.onward n 1) (expr_count e)) s) refl

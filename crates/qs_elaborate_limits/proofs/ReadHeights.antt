@@ -1,10 +1,10 @@
 -- What tokens are read as is at most as high as the reading.
-use Rattle.std.proofs.Common.{◌≤◌, ℕ, List, Option, arith}
+use Rattle.std.proofs.Common.{◌≤◌, ℕ, Bool, List, Option, arith}
 use Rattle.qs_syntax_vocabulary.specs.declared.terminal.Terminal.{Terminal}
 use Rattle.qs_syntax.specs.Trees.{ExprTree, Exprs, InitialiserTree, Initialisers, VariableTree, DeclarationTree, StartTree, StmtTree, Stmts, DeclTree}
 use Rattle.qs_syntax.specs.Reads.{Form, Reads, ReadsArguments, a_name, an_empty_call, a_call, a_constant, a_text, in_parentheses, an_index, a_member, an_increment_after, a_decrement_after, a_postfix, an_increment, a_decrement, an_operator, a_size_of_type, a_size_of_value, a_cast, an_operand, stronger, an_operation, a_plain_level, a_choice, a_plain_conditional, an_assignment, a_plain_assignment, a_comma, a_last_argument, an_argument}
 use Rattle.qs_syntax.specs.ReadsDeclarations.{ReadsInitialiser, a_value, a_list, ReadsInitialisers, a_last_initialiser, a_last_with_comma, an_initialiser, ReadsVariable, an_unset_variable, a_set_variable, ReadsVariables, a_last_variable, a_variable, ReadsDeclaration, a_declaration}
-use Rattle.qs_syntax.specs.ReadsStatements.{ReadsOptional, nothing_there, something_there, ReadsStart, a_start_declaration, a_start_expression, no_start_at_all, ReadsStatement, a_block, an_empty, an_expression, an_if, an_if_with_else, a_while, a_do, a_for, a_break, a_continue, a_return, ReadsItem, a_statement, a_declared, ReadsItems, no_item, an_item}
+use Rattle.qs_syntax.specs.ReadsStatements.{ReadsOptional, nothing_there, something_there, ReadsStart, a_start_declaration, a_start_expression, no_start_at_all, ReadsStatement, a_block, an_empty, an_expression, an_if, an_if_with_else, a_while, a_do, a_for, a_switch, a_break, a_continue, a_return, ReadsItem, a_statement, a_declared, ReadsItems, no_item, an_item, ReadsSwitchBlock, in_braces, ReadsSwitchItem, a_label, a_switch_statement, a_switch_declaration, ReadsSwitchItems, no_switch_item, a_switch_item, ReadsLabel, a_case, a_default}
 use Rattle.qs_syntax_vocabulary.specs.Marks.{NameSet}
 use Rattle.qs_syntax.specs.ReadsUnits.{ReadsPlain, a_struct_with_members, a_forward, a_header, a_definition, some_variables, ReadsExternal, a_plain_external, a_typedef, ReadsExternals, a_last_external, an_external}
 use Rattle.qs_elaborate_limits.proofs.SourceHeights.{highest, option_height, expr_height, exprs_height, initialiser_height, initialisers_height, variable_height, declaration_height, start_height, stmt_height, stmts_height, decl_height, unit_height}
@@ -78,6 +78,10 @@ start_low (a_start_declaration r) = declaration_low r
 start_low (a_start_expression s r) = expr_low r
 start_low (no_start_at_all s) = omega arith
 
+label_low : {h : ℕ} {ts : List Terminal} {s : StmtTree} → ReadsLabel h ts s → stmt_height s ≤ h
+label_low (a_case at c r) = omega arith
+label_low (a_default at c) = omega arith
+
 mutual
   statement_low : {h : ℕ} {ts : List Terminal} {s : StmtTree} → ReadsStatement h ts s → stmt_height s ≤ h
   statement_low (a_block o c r) = let i = items_low r in omega arith
@@ -90,6 +94,7 @@ mutual
   statement_low (a_do at w o c n s r) = let i = statement_low s in let j = expr_low r in omega arith
   statement_low (a_for at o n c a e u s) =
       let i = start_low a in let j = optional_low e in let k = optional_low u in let l = statement_low s in omega arith
+  statement_low (a_switch at o c r s) = let i = expr_low r in let j = switch_low s in omega arith
   statement_low (a_break at s) = omega arith
   statement_low (a_continue at s) = omega arith
   statement_low (a_return at s r) = let i = optional_low r in omega arith
@@ -101,6 +106,18 @@ mutual
   items_low : {h : ℕ} {ts : List Terminal} {ss : Stmts} → ReadsItems h ts ss → stmts_height ss ≤ h
   items_low no_item = omega arith
   items_low (an_item r s) = let i = item_low r in let j = items_low s in omega arith
+
+  switch_low : {h : ℕ} {ts : List Terminal} {ss : Stmts} → ReadsSwitchBlock h ts ss → stmts_height ss ≤ h
+  switch_low (in_braces o c r) = let i = switch_items_low r in omega arith
+
+  switch_item_low : {b c : Bool} {h : ℕ} {ts : List Terminal} {s : StmtTree} → ReadsSwitchItem b c h ts s → stmt_height s ≤ h
+  switch_item_low (a_label r) = label_low r
+  switch_item_low (a_switch_statement r) = statement_low r
+  switch_item_low (a_switch_declaration r) = declaration_low r
+
+  switch_items_low : {b : Bool} {h : ℕ} {ts : List Terminal} {ss : Stmts} → ReadsSwitchItems b h ts ss → stmts_height ss ≤ h
+  switch_items_low no_switch_item = omega arith
+  switch_items_low (a_switch_item r s) = let i = switch_item_low r in let j = switch_items_low s in omega arith
 
 -- ---- units
 

@@ -1,7 +1,7 @@
 -- How high the expressions are that a tree of the source evaluates, and the statements that choose or repeat: such a node is 1 higher
 -- than its highest part. Other statements and lists are as high as the highest thing in them.
 use Rattle.std.specs.Prelude.{ℕ, ◌+◌, max, List, [], ◌∷◌, Option, Some, None}
-use Rattle.qs_syntax.specs.Trees.{ExprTree, expr, ShapeTree, constant, text, name, unary, step, cast, sizeof_type, sizeof_expr, binary, assign, conditional, comma, subscript, member, call, Exprs, no_exprs, expr_and, InitialiserTree, value, list, Initialisers, no_initialisers, initialiser_and, VariableTree, DeclarationTree, StartTree, no_start, start_expression, start_declaration, StmtTree, empty, expression, declaration, block, branch, while_loop, do_loop, for_loop, break, continue, return, Stmts, no_stmts, stmt_and, Else, no_else, else_by, DeclTree, structure, forward, function, variables, UnitTree, typedef}
+use Rattle.qs_syntax.specs.Trees.{ExprTree, expr, ShapeTree, constant, text, name, unary, step, cast, sizeof_type, sizeof_expr, binary, assign, conditional, comma, subscript, member, call, Exprs, no_exprs, expr_and, InitialiserTree, value, list, Initialisers, no_initialisers, initialiser_and, VariableTree, DeclarationTree, StartTree, no_start, start_expression, start_declaration, StmtTree, empty, expression, declaration, block, switch, case_label, default_label, branch, while_loop, do_loop, for_loop, break, continue, return, Stmts, no_stmts, stmt_and, Else, no_else, else_by, DeclTree, structure, forward, function, variables, UnitTree, typedef}
 
 abbrev pub highest : {A : Type 0} → (A → ℕ) → List A → ℕ
 highest height [] = 0
@@ -68,6 +68,9 @@ abbrev mutual
   stmt_height (expression node e) = expr_height e
   stmt_height (declaration d) = declaration_height d
   stmt_height (block ss) = stmts_height ss
+  stmt_height (switch node e ss) = 1 + max (expr_height e) (stmts_height ss)
+  stmt_height (case_label node e) = 0
+  stmt_height (default_label node) = 0
   stmt_height (branch node e s r) = 1 + max (expr_height e) (max (stmt_height s) (else_height r))
   stmt_height (while_loop node e s) = 1 + max (expr_height e) (stmt_height s)
   stmt_height (do_loop node s e) = 1 + max (stmt_height s) (expr_height e)

@@ -2,10 +2,11 @@
 use Rattle.std.proofs.Common.{◌≡◌, ◌≤◌, ℕ, ◌+◌, max, Bool, true, false, List, [], ◌∷◌, ◌++◌, Option, Some, None, subst, arith, if◌then◌else◌}
 use Rattle.std.proofs.lemmas.Option.{same_Some}
 use Rattle.qs_syntax.specs.declared.types.Base.{Base}
-use Rattle.qs_syntax.specs.Trees.{ExprTree, InitialiserTree, Initialisers, no_initialisers, initialiser_and, VariableTree, StartTree, no_start, start_expression, start_declaration, StmtTree, empty, expression, declaration, block, branch, while_loop, do_loop, for_loop, break, continue, return, Stmts, no_stmts, stmt_and, Else, no_else, else_by}
+use Rattle.qs_syntax.specs.Trees.{ExprTree, InitialiserTree, Initialisers, no_initialisers, initialiser_and, VariableTree, StartTree, no_start, start_expression, start_declaration, StmtTree, empty, expression, declaration, block, switch, case_label, default_label, branch, while_loop, do_loop, for_loop, break, continue, return, Stmts, no_stmts, stmt_and, Else, no_else, else_by}
 use Rattle.qs_syntax.specs.Trees as trees
 use Rattle.qs_memory.proofs.Options.{followed}
 use Rattle.qs_types.specs.Types.{TypeTree, is_array, Structs}
+use Rattle.qs_types.specs.Constants.{constant_of}
 use Rattle.qs_types.specs.Declarations.{text_of, variable_declared}
 use Rattle.qs_types.specs.InitialiserRules.{part_type}
 use Rattle.qs_types.specs.StatementRules.{after_statement}
@@ -16,7 +17,7 @@ use Rattle.qs_meaning.specs.Names.{Scope, within, local_lvalue}
 use Rattle.qs_meaning.specs.Expressions.{typed, plain_form}
 use Rattle.qs_meaning.specs.Blanks.{blank_of}
 use Rattle.qs_meaning.specs.Initialisers.{part_offset, Piece, pieces, pieces_from, text_set, assigned_set, piece_set, pieces_set, object_set, local_set}
-use Rattle.qs_meaning.specs.Statements.{initialised, behind_variable, variable_typed, variables_typed, effect_typed, option_effect, condition_typed, option_condition, start_typed, return_typed, inner, loop_body, in_for, statement_typed, statements_typed, else_typed}
+use Rattle.qs_meaning.specs.Statements.{initialised, behind_variable, variable_typed, variables_typed, effect_typed, option_effect, condition_typed, option_condition, start_typed, return_typed, inner, in_switch, loop_body, in_for, statement_typed, statements_typed, else_typed}
 use Rattle.qs_elaborate_limits.proofs.SourceHeights.{highest, option_height, expr_height, initialiser_height, initialisers_height, variable_height, start_height, stmt_height, stmts_height, else_height}
 use Rattle.qs_elaborate_limits.proofs.TypedHeights.{height, effect_height, condition_height, statement_height, statements_height}
 use Rattle.qs_elaborate_limits.proofs.FormHeights.{height_in_use, value_in_use_low, effect_low, effect_in_use_low, address_low, plain_low}
@@ -198,6 +199,15 @@ mutual
   statement_low (block ss) s a q =
       let rest = followed (statements_typed (inner s) ss) _ a q in
       statement_as (stmts_height ss) _ a rest.then (statements_low ss (inner s) rest.value rest.first)
+  statement_low (switch node e ss) s a q =
+      let x = followed (typed s e) _ a q in
+      let y = followed (statements_typed (in_switch s e) ss) _ a x.then in
+      let h = expression_low s e x.value x.first in
+      let i = value_in_use_low x.value in
+      let j = statements_low ss (in_switch s e) y.value y.first in
+      statement_as (1 + max (expr_height e) (stmts_height ss)) _ a y.then (omega arith)
+  statement_low (case_label node e) s a q = let n = followed (constant_of s.context e) _ a q in statement_as 0 _ a n.then (omega arith)
+  statement_low (default_label node) s a q = statement_as 0 _ a q (omega arith)
   statement_low (branch node e t r) s a q =
       let x = followed (condition_typed s e) _ a q in
       let y = followed (statement_typed (inner s) t) _ a x.then in

@@ -5,7 +5,7 @@ use Rattle.std.specs.Prelude.{ℕ, ◌+◌, max, Option, Some, None}
 use Rattle.qs_meaning.specs.Typed.{Expr, constant, value, pointer_to, member, called, stepped_after, unary, cast, binary, logical_and, logical_or, conditional, assigned, sequence}
 use Rattle.qs_meaning.specs.Typed.{Lvalue, variable, object, Arguments, no_arguments, argument_and, Assignment, set, update}
 use Rattle.qs_meaning.specs.Typed.{Effect, nothing, discard, assign, perform, copy, fill, in_order}
-use Rattle.qs_meaning.specs.Typed.{Stmt, evaluate, block, branch, while_loop, do_loop, for_loop, break, continue, return, return_nothing, Stmts, no_stmts, stmt_and}
+use Rattle.qs_meaning.specs.Typed.{Stmt, evaluate, block, switch, case_label, default_label, branch, while_loop, do_loop, for_loop, break, continue, return, return_nothing, Stmts, no_stmts, stmt_and}
 
 abbrev mutual
   pub height : Expr → ℕ
@@ -56,6 +56,9 @@ abbrev mutual
   pub statement_height : Stmt → ℕ
   statement_height (evaluate a) = effect_height a
   statement_height (block ss) = statements_height ss
+  statement_height (switch c e ss) = 1 + max (height e) (statements_height ss)
+  statement_height (case_label n) = 0
+  statement_height default_label = 0
   statement_height (branch e a b) = 1 + max (height e) (max (statement_height a) (statement_height b))
   statement_height (while_loop e a) = 1 + max (height e) (statement_height a)
   statement_height (do_loop a e) = 1 + max (statement_height a) (height e)

@@ -2,14 +2,14 @@
 use Rattle.std.proofs.Common.{◌≡◌, ◌≤◌, ℕ, ◌+◌, ◌*◌, Bool, true, false, not, List, [], ◌∷◌, ◌++◌, length, filter, Option, Some, None, is_some, sym, ap, ◌∙◌, subst, arith, length-append, cond}
 use Rattle.std.proofs.lemmas.Option.{same_Some}
 use Rattle.qs_syntax.specs.declared.types.Base.{Base}
-use Rattle.qs_syntax.specs.Trees.{InitialiserTree, value, list, Initialisers, no_initialisers, initialiser_and, VariableTree, ParameterTree, StartTree, no_start, start_expression, start_declaration, StmtTree, empty, expression, declaration, block, branch, while_loop, do_loop, for_loop, break, continue, return, Stmts, no_stmts, stmt_and, Else, no_else, else_by, FunctionTree, DeclTree, structure, forward, function, variables, UnitTree, typedef}
+use Rattle.qs_syntax.specs.Trees.{InitialiserTree, value, list, Initialisers, no_initialisers, initialiser_and, VariableTree, ParameterTree, StartTree, no_start, start_expression, start_declaration, StmtTree, empty, expression, declaration, block, switch, case_label, default_label, branch, while_loop, do_loop, for_loop, break, continue, return, Stmts, no_stmts, stmt_and, Else, no_else, else_by, FunctionTree, DeclTree, structure, forward, function, variables, UnitTree, typedef}
 use Rattle.qs_syntax.specs.Nodes.{all_count, option_count, initialiser_count, initialisers_count, variable_count, parameter_count, start_count, stmt_count, stmts_count, else_count, decl_count, unit_count}
 use Rattle.qs_memory.proofs.Options.{followed}
 use Rattle.qs_types.specs.Types.{TypeTree}
 use Rattle.qs_types.specs.Contexts.{Context, inner_scope, inside_loop}
 use Rattle.qs_types.specs.Rules.{faults_of}
 use Rattle.qs_types.specs.Placed.{Local, is_placed, addressed_in, variables_locals, start_locals, statement_locals, statements_locals, else_locals, parameters_locals}
-use Rattle.qs_types.specs.StatementRules.{after_variable, after_statement, for_context}
+use Rattle.qs_types.specs.StatementRules.{after_variable, after_statement, switch_context, for_context}
 use Rattle.qs_types.specs.UnitRules.{parameter_types, header_tests, parameters_faults, body_context, body_faults, after_declaration, declaration_faults, declarations_faults}
 use Rattle.qs_types.proofs.LimitLaws.{keeps_limits}
 use Rattle.qs_core.specs.Sizes.{values}
@@ -60,6 +60,9 @@ mutual
   statement_less (expression node e) = omega arith
   statement_less (declaration d) = variables_less d.variables
   statement_less (block ss) = statements_less ss
+  statement_less (switch node e ss) = let h = statements_less ss in omega arith
+  statement_less (case_label node e) = omega arith
+  statement_less (default_label node) = omega arith
   statement_less (branch node e s r) = let h = statement_less s in let k = else_less r in omega arith
   statement_less (while_loop node e s) = let h = statement_less s in omega arith
   statement_less (do_loop node s e) = let h = statement_less s in omega arith
@@ -93,6 +96,9 @@ mutual
   statement_few (expression node e) c = omega arith
   statement_few (declaration d) c = variables_few d.variables c d.base
   statement_few (block ss) c = statements_few ss (inner_scope c)
+  statement_few (switch node e ss) c = let h = statements_few ss (switch_context c e) in omega arith
+  statement_few (case_label node e) c = omega arith
+  statement_few (default_label node) c = omega arith
   statement_few (branch node e s r) c =
       let h = statement_few s (inner_scope c) in
       let k = else_few r c in

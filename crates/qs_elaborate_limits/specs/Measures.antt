@@ -2,7 +2,7 @@
 use Rattle.std.specs.Prelude.{ℕ, ◌+◌, max, List, [], ◌∷◌, length, sum_by}
 use Rattle.qs_types.specs.Layout.{rounded_up}
 use Rattle.qs_types.specs.Limits.{word_size}
-use Rattle.qs_core.specs.Trees.{CoreStmtTree, skip, seq, assign, store, copy, fill, call, branch, loop, break, continue, return, CoreStmts, no_stmts, stmt_and, DataBlockTree}
+use Rattle.qs_core.specs.Trees.{CoreStmtTree, skip, seq, assign, store, copy, fill, call, branch, loop, switch, break, continue, return, CoreStmts, no_stmts, stmt_and, DataBlockTree}
 use Rattle.qs_core.specs.Units.{data_block}
 
 -- the most arguments of one call
@@ -17,6 +17,7 @@ abbrev mutual
   arguments_in (call x f es) = length es
   arguments_in (branch e a b) = max (arguments_in a) (arguments_in b)
   arguments_in (loop body step) = max (arguments_in body) (arguments_in step)
+  arguments_in (switch e labels ss) = arguments_in_all ss
   arguments_in break = 0
   arguments_in continue = 0
   arguments_in (return e) = 0

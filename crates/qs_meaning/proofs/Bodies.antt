@@ -5,29 +5,32 @@ use Rattle.std.proofs.lemmas.List.Folds.{list_all-append}
 use Rattle.std.proofs.lemmas.Bool.{and_from}
 use Rattle.std.proofs.Math.Bool.{and-false}
 use Rattle.std.specs.Cmp.{first_so, second_so}
+use Rattle.qs_syntax.specs.declared.nodes.Node.{Node}
 use Rattle.qs_syntax.specs.declared.types.Base.{Base}
-use Rattle.qs_syntax.specs.Trees.{ExprTree, DeclaratorTree, InitialiserTree, VariableTree, StartTree, no_start, start_expression, start_declaration, StmtTree, empty, expression, declaration, block, branch, while_loop, do_loop, for_loop, break, continue, return, Stmts, no_stmts, stmt_and, Else, no_else, else_by}
+use Rattle.qs_syntax.specs.Trees.{ExprTree, DeclaratorTree, InitialiserTree, VariableTree, StartTree, no_start, start_expression, start_declaration, StmtTree, empty, expression, declaration, block, switch, case_label, default_label, branch, while_loop, do_loop, for_loop, break, continue, return, Stmts, no_stmts, stmt_and, Else, no_else, else_by}
 use Rattle.qs_syntax.specs.Trees as trees
 use Rattle.qs_types.specs.declared.extent.Extent.{Extent}
 use Rattle.qs_types.specs.Types.{TypeTree, int, unsigned, char, void, pointer, array, struct, is_scalar, Structs}
 use Rattle.qs_types.specs.Layout.{and_then, StructLayout, Layouts, array_extent, struct_extent, extent_by, extent_within, sized_by, is_sized, is_complete, extent_of, size_of, layout_of}
 use Rattle.qs_types.specs.declared.rules.Rule.TheVariants as rules
 use Rattle.qs_types.specs.Rules.{Test, keeps, breaks_one, faults_of, is_any}
-use Rattle.qs_types.specs.Contexts.{local_variable, Context, inner_scope, inside_loop, base_type}
+use Rattle.qs_types.specs.Contexts.{local_variable, Context, inner_scope, inside_loop, with_case, with_default, base_type}
+use Rattle.qs_types.specs.Constants.{constant_of}
 use Rattle.qs_types.specs.Expressions.{type_of}
 use Rattle.qs_types.specs.ExpressionFaults.{used, discarded, whole, expr_faults}
 use Rattle.qs_types.specs.Declarations.{all_typed, lengths_faults, lengths_of, whole_lengths, element_tests, object_type, size_tests, with_size_tests, object_declared, Declared, undeclared, declared, length_by, variable_declared}
 use Rattle.qs_types.specs.InitialiserRules.{is_typed, initialiser_tests, initialiser_faults}
-use Rattle.qs_types.specs.StatementRules.{after_variable, after_variables, holds_back, again_tests, variable_tests, variable_faults, option_initialiser_faults, variables_faults, condition_tests, condition_faults, option_used, option_discarded, return_tests, after_start, start_faults, after_statement, for_context, for_tests, for_faults, statement_faults, statements_faults, else_faults}
+use Rattle.qs_types.specs.StatementRules.{after_variable, after_variables, holds_back, again_tests, variable_tests, variable_faults, option_initialiser_faults, variables_faults, condition_tests, condition_faults, option_used, option_discarded, return_tests, switch_tests, switch_faults, switch_context, case_value, constant_tests, case_tests, after_start, start_faults, after_statement, for_context, for_tests, for_faults, statement_faults, statements_faults, else_faults}
 use Rattle.qs_types.specs.Placed.{addressed, Local, is_one_of, is_no_scalar, variables_locals, start_locals, statement_locals, statements_locals, else_locals}
 use Rattle.qs_types.specs.Sites.{site, option_sites, declarator_sites, option_initialiser_sites, variable_sites, variables_sites, start_sites, statement_sites, statements_sites, else_sites}
 use Rattle.qs_meaning.specs.Typed.{variable, object, pointer_to, local}
 use Rattle.qs_meaning.specs.Names.{Scope, within, local_lvalue, place_among}
 use Rattle.qs_meaning.specs.Expressions.{typed}
-use Rattle.qs_meaning.specs.Statements.{initialised, variable_typed, variables_typed, effect_typed, option_effect, condition_typed, option_condition, start_typed, return_typed, statement_typed, statements_typed, else_typed}
+use Rattle.qs_meaning.specs.Statements.{initialised, variable_typed, variables_typed, effect_typed, option_effect, condition_typed, option_condition, start_typed, return_typed, case_typed, statement_typed, statements_typed, else_typed}
 use Rattle.qs_meaning.specs.Forms.{address_in}
-use Rattle.qs_meaning.proofs.Options.{never, all_left, all_right, Known, onward, goes}
+use Rattle.qs_meaning.proofs.Options.{never, all_left, all_right, Known, known, onward, goes}
 use Rattle.qs_meaning.proofs.FaultlessExpressions.{HasTypes, none_left, none_right, unbroken, first_unbroken, second_unbroken, type_known, type_of_known}
+use Rattle.qs_meaning.proofs.TypedExpressions.{kept}
 use Rattle.qs_meaning.proofs.Bindings.{IsFine, EntityFine, Sound, has_types, are_taken, typed_known}
 use Rattle.qs_meaning.proofs.LocalInitialisers.{sites_taken, sites_left, sites_right, local_set_known}
 
@@ -142,6 +145,16 @@ module _ (s₀ : Scope) (declared_nodes : List ℕ) where
 
   pub loop_stands : (c : Context) → Stands c → Stands (inside_loop (inner_scope c))
   loop_stands c h = record { sound = record { names = h.sound.names; laid_out = h.sound.laid_out; members = h.sound.members }; result = h.result }
+
+  pub switch_stands : (c : Context) (e : ExprTree) → Stands c → Stands (switch_context c e)
+  switch_stands c e h = record { sound = record { names = h.sound.names; laid_out = h.sound.laid_out; members = h.sound.members }; result = h.result }
+
+  pub case_stands : (c : Context) (value : Option ℕ) → Stands c → Stands (with_case c value)
+  case_stands c None h = h
+  case_stands c (Some n) h = record { sound = record { names = h.sound.names; laid_out = h.sound.laid_out; members = h.sound.members }; result = h.result }
+
+  pub default_stands : (c : Context) → Stands c → Stands (with_default c)
+  default_stands c h = record { sound = record { names = h.sound.names; laid_out = h.sound.laid_out; members = h.sound.members }; result = h.result }
 
   -- a variable that has a type
   variable_stands : (c : Context) → Stands c → (base : Base) (v : VariableTree) → DeclaredAs c.structs (variable_declared c base v)
@@ -271,6 +284,17 @@ module _ (s₀ : Scope) (declared_nodes : List ℕ) where
       onward c.result _ h.result (onward (typed (within s₀ c) e) _ (typed_known (within s₀ c) declared_nodes h.sound e used f (taken_alone c e taken))
       (record { value = _; is = refl }))
 
+  switch_known : (c : Context) → Stands c → (node : Node) (e : ExprTree) → switch_faults c node e ≡ [] → sites_taken declared_nodes placed (site c e) ≡ true → Known
+      (typed (within s₀ c) e)
+  switch_known c h node e f taken = typed_known (within s₀ c) declared_nodes h.sound e used (none_right (faults_of node.id (switch_tests (type_of c e))) _ f) (taken_alone c e taken)
+
+  case_known : (c : Context) → Stands c → (node : Node) (e : ExprTree) → (faults_of node.id (case_tests c e) ++ expr_faults c used e) ≡ [] → Known (case_typed (within s₀ c) e)
+  case_known c h node e f =
+      let t = type_of_known c (has_types (within s₀ c) declared_nodes h.sound) e used (none_right (faults_of node.id (case_tests c e)) _ f) in
+      let own = first_unbroken (constant_tests (type_of c e) (constant_of c e)) _ (unbroken node.id (case_tests c e) (none_left _ _ f)) in
+      let is = kept (is_some (constant_of c e)) (subst (λ o. breaks_one (constant_tests o (constant_of c e)) ≡ false) t.is own) in
+      onward (constant_of c e) _ (known (constant_of c e) is) (record { value = _; is = refl })
+
   record Started (c : Context) (start : StartTree) : Type 0 where
     tree : Known (start_typed (within s₀ c) start)
     stands : Stands (after_start c start)
@@ -289,6 +313,9 @@ module _ (s₀ : Scope) (declared_nodes : List ℕ) where
   statement_stands (empty node) c h f taken fine = h
   statement_stands (expression node e) c h f taken fine = h
   statement_stands (block ss) c h f taken fine = h
+  statement_stands (switch node e ts) c h f taken fine = h
+  statement_stands (case_label node e) c h f taken fine = case_stands c (case_value c e) h
+  statement_stands (default_label node) c h f taken fine = default_stands c h
   statement_stands (branch node e t r) c h f taken fine = h
   statement_stands (while_loop node e t) c h f taken fine = h
   statement_stands (do_loop node t e) c h f taken fine = h
@@ -319,6 +346,14 @@ module _ (s₀ : Scope) (declared_nodes : List ℕ) where
         (sites_right declared_nodes placed (statement_sites (inner_scope c) t) (else_sites c r) rest)
         (locals_right declared_nodes placed (statement_locals (inner_scope c) t) (else_locals c r) fine))
         (record { value = _; is = refl })))
+    statement_known (switch node e ts) c h f taken fine =
+        let inside = switch_context c e in
+        onward (typed (within s₀ c) e) _ (switch_known c h node e (none_left _ _ f) (sites_left declared_nodes placed (site c e) (statements_sites inside ts) taken))
+        (onward (statements_typed (within s₀ inside) ts) _ (all_known ts inside (switch_stands c e h) (none_right (switch_faults c node e) _ f)
+        (sites_right declared_nodes placed (site c e) (statements_sites inside ts) taken) fine)
+        (record { value = _; is = refl }))
+    statement_known (case_label node e) c h f taken fine = case_known c h node e f
+    statement_known (default_label node) c h f taken fine = record { value = _; is = refl }
     statement_known (while_loop node e t) c h f taken fine =
         let body = inside_loop (inner_scope c) in
         onward (condition_typed (within s₀ c) e) _ (condition_known c h e (none_right (faults_of node.id (condition_tests (type_of c e))) _ (none_left _ _ f))
@@ -396,11 +431,18 @@ module _ (s₀ : Scope) (declared_nodes : List ℕ) where
   start_structs (start_expression e) c = refl
   start_structs (start_declaration d) c = same_structs d.base d.variables c
 
+  case_structs : (c : Context) (value : Option ℕ) → (with_case c value).structs ≡ c.structs
+  case_structs c None = refl
+  case_structs c (Some n) = refl
+
   statement_structs : (t : StmtTree) (c : Context) → (after_statement c t).structs ≡ c.structs
   statement_structs (declaration d) c = same_structs d.base d.variables c
   statement_structs (empty node) c = refl
   statement_structs (expression node e) c = refl
   statement_structs (block ss) c = refl
+  statement_structs (switch node e ts) c = refl
+  statement_structs (case_label node e) c = case_structs c (case_value c e)
+  statement_structs (default_label node) c = refl
   statement_structs (branch node e t r) c = refl
   statement_structs (while_loop node e t) c = refl
   statement_structs (do_loop node t e) c = refl
@@ -426,6 +468,12 @@ module _ (s₀ : Scope) (declared_nodes : List ℕ) where
         (else_sized r c h (none_right (statement_faults (inner_scope c) t) _ parts)
         (sites_right declared_nodes placed (statement_sites (inner_scope c) t) (else_sites c r) rest)
         (locals_right declared_nodes placed (statement_locals (inner_scope c) t) (else_locals c r) fine))
+    statement_sized (switch node e ts) c h f taken fine =
+        let inside = switch_context c e in
+        body_sized ts inside (switch_stands c e h) (none_right (switch_faults c node e) _ f)
+        (sites_right declared_nodes placed (site c e) (statements_sites inside ts) taken) fine
+    statement_sized (case_label node e) c h f taken fine = refl
+    statement_sized (default_label node) c h f taken fine = refl
     statement_sized (while_loop node e t) c h f taken fine =
         let body = inside_loop (inner_scope c) in
         statement_sized t body (loop_stands c h) (none_right (condition_faults c node e) _ f)

@@ -1,10 +1,10 @@
 -- What is known in the examples: char c; int i; unsigned u; int *p; char *t; placed: int x; int a[3]; struct s {char m; int n;} v; struct s *q;
 -- of file scope: int g; char h[2]; functions: int f(char, int *); void k(void); putchar and getchar.
-use Rattle.std.proofs.Common.{ℕ, true, List, [], ◌∷◌, Option, Some}
+use Rattle.std.proofs.Common.{ℕ, true, false, List, [], ◌∷◌, Option, Some}
 use Rattle.qs_syntax.specs.Trees.{unnumbered, ExprTree, expr}
 use Rattle.qs_syntax.specs.Trees as trees
 use Rattle.qs_types.specs.Types.{TypeTree, int, unsigned, char, void, pointer, array, struct, Structs}
-use Rattle.qs_types.specs.Contexts.{Binding, local_variable, file_variable, function, Context, given_functions, no_type_names, add_tag}
+use Rattle.qs_types.specs.Contexts.{no_labels, Binding, local_variable, file_variable, function, Context, given_functions, no_type_names, add_tag}
 use Rattle.qs_meaning.specs.Names.{Scope}
 use Rattle.qs_meaning.specs.Forms.{Form, TypedExpr}
 
@@ -29,6 +29,8 @@ context = record {
       ∷ given_functions;
   result = Some char;
   in_loop = true;
+  in_switch = false;
+  labels = no_labels;
 }
 
 abbrev pub scope : Scope

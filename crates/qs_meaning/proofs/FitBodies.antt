@@ -48,7 +48,7 @@ use Rattle.qs_meaning.proofs.FitFunctions.{AllFile, all_in_function, parameters_
 module _ (i : Interface) (called : List ℕ → Bool) (there : TextBlock → Bool) (s : Scope)
     (short : (t : TextBlock) → there t ≡ true → is_short t ≡ true)
     (blocks : (t : TextBlock) → there t ≡ true → nat_lt (length s.statics.variables + place_among t.node s.statics.texts) (length i.data_blocks) ≡ true)
-    (h : IsFileScope s.context) (table : SmallTable s.context.structs) (small_names : SmallNames s.context.structs s.context.type_names) (flat : s.context.in_loop ≡ false)
+    (h : IsFileScope s.context) (table : SmallTable s.context.structs) (small_names : SmallNames s.context.structs s.context.type_names) (flat : (s.context.in_loop || s.context.in_switch) ≡ false)
     (f : FunctionTree) (body : Stmts) (faultless : function_faults s.context f ≡ []) (with_body : f.body ≡ Some body)
     (names : AllFile i called s.statics s.functions s.context.structs ((after_function s.context f).inner ++ (after_function s.context f).outer))
     (different : are_different (ids (all_nodes parameter_nodes f.parameters ++ stmts_nodes body)) ≡ true)
@@ -209,33 +209,41 @@ module _ (i : Interface) (called : List ℕ → Bool) (there : TextBlock → Boo
       named None = k
       named (Some x) = ((((l.0 t refl).fits), m.0 t refl), k)
 
-  with_loop : (ps : List ParameterTree) (ts : List (Option TypeTree)) (d : Context) → (with_parameters d ps ts).in_loop ≡ d.in_loop
-  with_loop [] ts d = refl
-  with_loop (p ∷ ps) [] d = refl
-  with_loop (p ∷ ps) (t ∷ ts) d = with_loop ps ts (with_parameter d p t p.name) ∙ one p.name
+  abbrev may_break : Context → Bool
+  may_break d = d.in_loop || d.in_switch
+
+  with_jumps : (ps : List ParameterTree) (ts : List (Option TypeTree)) (d : Context) → may_break (with_parameters d ps ts) ≡ may_break d
+  with_jumps [] ts d = refl
+  with_jumps (p ∷ ps) [] d = refl
+  with_jumps (p ∷ ps) (t ∷ ts) d = with_jumps ps ts (with_parameter d p t p.name) ∙ one p.name
     where
-      one : (x : Option (List ℕ)) → (with_parameter d p t x).in_loop ≡ d.in_loop
+      one : (x : Option (List ℕ)) → may_break (with_parameter d p t x) ≡ may_break d
       one None = refl
       one (Some x) = refl
 
-  in_body_there : InBody i g called there s₀ structs table short blocks false (body_context c f)
+  no_jump : may_break (body_context c f) ≡ false
+  no_jump = with_jumps f.parameters types (record (inner_scope (after_function c f)) { result = result_type c f }) ∙ flat
+
+  in_body_there : InBody i g called there s₀ structs table short blocks false false (body_context c f)
   in_body_there = record {
     same_structs = body_structs;
     names = with_names f.parameters types (record (inner_scope (after_function c f)) { result = result_type c f })
         (all_in_function i g called (places s₀) structs ((after_function c f).inner ++ (after_function c f).outer) names) parameters_are small_parameters scalar;
     result = λ t e. result_is ∙ ap result_scalar (sym (same_result f.parameters types (record (inner_scope (after_function c f)) { result = result_type c f })) ∙ e);
     named = subst (λ z. SmallNames z (body_context c f).type_names) body_structs body_named;
-    loop = λ e. never_loop (sym (with_loop f.parameters types (record (inner_scope (after_function c f)) { result = result_type c f }) ∙ flat) ∙ e);
+    loop = λ e. never (sym (no_loop (body_context c f).in_loop (body_context c f).in_switch no_jump) ∙ e);
+    breaks = λ e. never (sym no_jump ∙ e);
   }
     where
-      never_loop : {A : Type 0} → false ≡ true → A
-      never_loop e = never e
+      no_loop : (l s : Bool) → (l || s) ≡ false → l ≡ false
+      no_loop true s e = e
+      no_loop false s e = refl
 
   body_faultless : statements_faults (body_context c f) body ≡ []
   body_faultless = subst (λ o. body_faults c f o ≡ []) with_body (none_right (parameters_faults (inner_scope c) (is_some f.body) f.parameters) _ (header_parts s c f h faultless))
 
-  body_fits : stmts_fit i g false made.statements ≡ true
-  body_fits = statements_there i g called there s₀ structs table short blocks body false (body_context c f) made.statements in_body_there body_faultless sure statements_are filled
+  body_fits : stmts_fit i g false false made.statements ≡ true
+  body_fits = statements_there i g called there s₀ structs table short blocks body false false (body_context c f) made.statements in_body_there body_faultless sure statements_are filled
       made.typed_body
 
   -- ---- parameters and result
@@ -293,5 +301,5 @@ module _ (i : Interface) (called : List ℕ → Bool) (there : TextBlock → Boo
       and_from _ _ (subst (λ (z : typed_trees.Function). parameters_placed g.blocks 0 z.parameters z.variables ≡ true) (sym made.is)
       (parameters_there f.parameters types (plain_among operands in_statements) made.parameters made.scalars 0 [] refl refl scalar parameters_are made.of_variables made.typed_parameters))
       (and_from _ _ (subst (λ (z : typed_trees.Function). end_fits z ≡ true) (sym made.is) main_there)
-      (and_from _ _ (subst (λ (z : typed_trees.Function). stmts_fit i g false z.body ≡ true) (sym made.is) body_fits)
+      (and_from _ _ (subst (λ (z : typed_trees.Function). stmts_fit i g false false z.body ≡ true) (sym made.is) body_fits)
       (subst (λ z. are_small z ≡ true) (sym blocks_are) sizes_are_small)))

@@ -1,5 +1,5 @@
 -- The locals of a function have different numbers, so each has its own place among the variables or the blocks.
-use Rattle.std.proofs.Common.{◌≡◌, ◌⊎◌, inl, inr, ℕ, suc, ◌+◌, ◌==◌, nat_lt, Bool, true, false, cond, not, ◌||◌, List, [], ◌∷◌, ◌++◌, length, map, filter, Option, Some, refl, sym, ap, ◌∙◌, subst, arith, if◌then◌else◌}
+use Rattle.std.proofs.Common.{◌≡◌, ◌⊎◌, inl, inr, ℕ, suc, ◌+◌, ◌==◌, nat_lt, Bool, true, false, cond, not, ◌||◌, List, [], ◌∷◌, ◌++◌, length, map, filter, Option, Some, None, refl, sym, ap, ◌∙◌, subst, arith, if◌then◌else◌}
 use Rattle.std.specs.List.{slice_get}
 use Rattle.std.proofs.lemmas.Bool.{eqb-true, eq-eqb, and_from, or_right}
 use Rattle.std.proofs.lemmas.Bool.Decides.{nat_tests}
@@ -8,20 +8,20 @@ use Rattle.std.proofs.lemmas.Option.{slice_get_within, same_Some}
 use Rattle.std.specs.Cmp.{first_so, second_so}
 use Rattle.qs_syntax.specs.declared.nodes.Node.{Node}
 use Rattle.qs_syntax.specs.declared.types.Base.{Base}
-use Rattle.qs_syntax.specs.Trees.{VariableTree, ParameterTree, StartTree, no_start, start_expression, start_declaration, StmtTree, empty, expression, declaration, block, branch, while_loop, do_loop, for_loop, break, continue, return, Stmts, no_stmts, stmt_and, Else, no_else, else_by}
+use Rattle.qs_syntax.specs.Trees.{VariableTree, ParameterTree, StartTree, no_start, start_expression, start_declaration, StmtTree, empty, expression, declaration, block, switch, case_label, default_label, branch, while_loop, do_loop, for_loop, break, continue, return, Stmts, no_stmts, stmt_and, Else, no_else, else_by}
 use Rattle.qs_syntax.specs.Nodes.{all_nodes, option_nodes, expr_nodes, lengths_nodes, initialiser_nodes, variable_nodes, parameter_nodes, start_nodes, stmt_nodes, stmts_nodes, else_nodes}
 use Rattle.qs_memory.specs.Partial.{◌>>=◌}
 use Rattle.qs_memory.specs.declared.scalar.Scalar.{Scalar}
 use Rattle.qs_memory.proofs.Options.{followed}
 use Rattle.qs_types.specs.Types.{TypeTree, Structs}
 use Rattle.qs_types.specs.Layout.{size_of}
-use Rattle.qs_types.specs.Contexts.{Context, inner_scope, inside_loop}
-use Rattle.qs_types.specs.StatementRules.{after_variable, after_variables, after_start, after_statement, for_context}
+use Rattle.qs_types.specs.Contexts.{Context, inner_scope, inside_loop, with_case}
+use Rattle.qs_types.specs.StatementRules.{after_variable, after_variables, after_start, switch_context, case_value, after_statement, for_context}
 use Rattle.qs_types.specs.Placed.{Local, is_one_of, variables_locals, start_locals, statement_locals, statements_locals, else_locals, parameters_locals}
 use Rattle.qs_meaning.specs.Conversions.{scalar_of}
 use Rattle.qs_meaning.specs.Names.{place_among}
 use Rattle.qs_meaning.specs.Units.{nodes_of, scalars_of, sizes_of}
-use Rattle.qs_meaning.specs.FitLaws.{are_different, is_filled, variables_filled, start_filled, statement_filled, statements_filled, else_filled}
+use Rattle.qs_meaning.specs.FitLaws.{are_different, is_filled, ends_in_label, variables_filled, start_filled, statement_filled, statements_filled, else_filled}
 use Rattle.qs_meaning.proofs.Options.{never}
 use Rattle.qs_meaning.proofs.FitTypes.{is_small, SmallNames}
 use Rattle.qs_meaning.proofs.FitDeclarations.{variable_small}
@@ -277,6 +277,10 @@ mutual
   statement_among (expression node e) c = sub_nothing (ids (node ∷ expr_nodes e))
   statement_among (declaration d) c = variables_among d.variables c d.base
   statement_among (block ss) c = statements_among ss (inner_scope c)
+  statement_among (switch node e ss) c =
+      skip node.id (among_back (statements_locals (switch_context c e) ss) (expr_nodes e) (stmts_nodes ss) (statements_among ss (switch_context c e)))
+  statement_among (case_label node e) c = sub_nothing (ids (node ∷ expr_nodes e))
+  statement_among (default_label node) c = sub_nothing (node.id ∷ [])
   statement_among (branch node e t r) c =
       skip node.id (among_back (statement_locals (inner_scope c) t ++ else_locals c r) (expr_nodes e) (stmt_nodes t ++ else_nodes r)
       (among_both (statement_locals (inner_scope c) t) (else_locals c r) (stmt_nodes t) (else_nodes r) (statement_among t (inner_scope c)) (else_among r c)))
@@ -328,11 +332,18 @@ start_structs no_start c = refl
 start_structs (start_expression e) c = refl
 start_structs (start_declaration d) c = variables_structs d.base d.variables c
 
+case_structs : (c : Context) (value : Option ℕ) → (with_case c value).structs ≡ c.structs
+case_structs c None = refl
+case_structs c (Some n) = refl
+
 statement_structs : (t : StmtTree) (c : Context) → (after_statement c t).structs ≡ c.structs
 statement_structs (declaration d) c = variables_structs d.base d.variables c
 statement_structs (empty node) c = refl
 statement_structs (expression node e) c = refl
 statement_structs (block ss) c = refl
+statement_structs (switch node e ss) c = refl
+statement_structs (case_label node e) c = case_structs c (case_value c e)
+statement_structs (default_label node) c = refl
 statement_structs (branch node e t r) c = refl
 statement_structs (while_loop node e t) c = refl
 statement_structs (do_loop node t e) c = refl
@@ -355,11 +366,18 @@ start_named no_start c named = named
 start_named (start_expression e) c named = named
 start_named (start_declaration d) c named = variables_named false d.base d.variables c named
 
+case_named : (c : Context) (value : Option ℕ) → Named c → Named (with_case c value)
+case_named c None named = named
+case_named c (Some n) named = named
+
 statement_named : (t : StmtTree) (c : Context) → Named c → Named (after_statement c t)
 statement_named (declaration d) c named = variables_named false d.base d.variables c named
 statement_named (empty node) c named = named
 statement_named (expression node e) c named = named
 statement_named (block ss) c named = named
+statement_named (switch node e ss) c named = named
+statement_named (case_label node e) c named = case_named c (case_value c e) named
+statement_named (default_label node) c named = named
 statement_named (branch node e t r) c named = named
 statement_named (while_loop node e t) c named = named
 statement_named (do_loop node t e) c named = named
@@ -386,6 +404,9 @@ mutual
   statement_small (expression node e) c named h = tt
   statement_small (declaration d) c named h = variables_small d.variables c named d.base h
   statement_small (block ss) c named h = statements_small ss (inner_scope c) named h
+  statement_small (switch node e ss) c named h = statements_small ss (switch_context c e) named (second_so (not (ends_in_label false ss)) _ h)
+  statement_small (case_label node e) c named h = tt
+  statement_small (default_label node) c named h = tt
   statement_small (branch node e t r) c named h =
       small_both c.structs (statement_locals (inner_scope c) t) (else_locals c r) (statement_small t (inner_scope c) named (first_so _ _ h)) (else_small r c named (second_so (statement_filled t) _ h))
   statement_small (while_loop node e t) c named h = statement_small t (inside_loop (inner_scope c)) named h

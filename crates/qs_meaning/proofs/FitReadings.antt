@@ -22,7 +22,7 @@ use Rattle.qs_syntax.specs.Numbering.{relabel_nodes, relabel_all, relabel_option
 use Rattle.qs_syntax.specs.Reads.{Form, Reads, ReadsArguments, ReadsTexts, no_text, a_further_text, place, a_name, an_empty_call, a_call, a_constant, a_text, in_parentheses, an_index, a_member, an_increment_after, a_decrement_after, a_postfix, an_increment, a_decrement, an_operator, a_size_of_type, a_size_of_value, a_cast, an_operand, stronger, an_operation, a_plain_level, a_choice, a_plain_conditional, an_assignment, a_plain_assignment, a_comma, a_last_argument, an_argument}
 use Rattle.qs_syntax.specs.ReadsDeclarations.{ReadsGiven, no_length, a_length, ReadsLengths, are_given, first_open, ReadsDeclarator, a_declarator, ReadsInitialiser, a_value, a_list, ReadsInitialisers, a_last_initialiser, a_last_with_comma, an_initialiser, ReadsVariable, an_unset_variable, a_set_variable, ReadsVariables, a_last_variable, a_variable, ReadsDeclaration, a_declaration, ReadsOuterDeclaration, an_outer_declaration, ReadsDeclarators, a_last_member, ReadsMembers, a_group, ReadsAllMembers, a_last_group, a_further_group, ReadsParameter, a_named_parameter, an_unnamed_parameter, ReadsParameters, a_last_parameter, a_parameter, ReadsHead, no_parameter, a_void_head, some_parameters}
 use Rattle.qs_syntax.specs.ReadsDeclarations as declarations
-use Rattle.qs_syntax.specs.ReadsStatements.{ReadsOptional, nothing_there, something_there, ReadsStart, a_start_declaration, a_start_expression, no_start_at_all, ReadsStatement, a_block, an_empty, an_expression, an_if, an_if_with_else, a_while, a_do, a_for, a_break, a_continue, a_return, ReadsItem, a_statement, a_declared, ReadsItems, no_item, an_item}
+use Rattle.qs_syntax.specs.ReadsStatements.{ReadsOptional, nothing_there, something_there, ReadsStart, a_start_declaration, a_start_expression, no_start_at_all, ReadsStatement, a_block, an_empty, an_expression, an_if, an_if_with_else, a_while, a_do, a_for, a_switch, a_break, a_continue, a_return, ReadsItem, a_statement, a_declared, ReadsItems, no_item, an_item, ReadsLabel, a_case, a_default, ReadsSwitchBlock, in_braces, ReadsSwitchItem, a_label, a_switch_statement, a_switch_declaration, ReadsSwitchItems, no_switch_item, a_switch_item}
 use Rattle.qs_syntax.specs.ReadsTypes.{Names}
 use Rattle.qs_syntax.specs.ReadsUnits.{ReadsPlain, a_struct_with_members, a_forward, a_header, a_definition, some_variables, ReadsDefined, a_struct_with_tag, a_struct_without_tag, a_known_type, ReadsTypeNames, a_last_name, a_name_before, ReadsExternal, a_plain_external, a_typedef, ReadsExternals, a_last_external, an_external}
 use Rattle.qs_syntax.proofs.NodeLaws.{unit_at}
@@ -30,10 +30,10 @@ use Rattle.qs_types.specs.Types.{TypeTree}
 use Rattle.qs_types.specs.Contexts.{Context, start_context, inner_scope, inside_loop}
 use Rattle.qs_types.specs.InitialiserRules.{option_part}
 use Rattle.qs_types.specs.Placed.{is_one_of}
-use Rattle.qs_types.specs.StatementRules.{after_variable, after_statement, for_context}
+use Rattle.qs_types.specs.StatementRules.{after_variable, switch_context, after_statement, for_context}
 use Rattle.qs_types.specs.Sites.{Site, site, sites, option_sites, declarator_sites, declarators_sites, initialiser_sites, elements_sites, variable_sites, variables_sites, start_sites, statement_sites, statements_sites, members_sites, defined_sites, type_names_sites, parameters_sites, declaration_sites, declarations_sites}
 use Rattle.qs_types.specs.UnitRules.{with_option_tag, after_defined, defined_type, after_type_name, body_context, after_declaration}
-use Rattle.qs_meaning.specs.FitLaws.{are_different, numbers_differ, literals_fit, all_literals_fit, unit_literals_fit, is_filled, variables_filled, start_filled, statement_filled, statements_filled, has_declarators, members_filled, defined_filled, declaration_filled, lists_are_filled, IsAsRead, ReadIsAsRead}
+use Rattle.qs_meaning.specs.FitLaws.{are_different, numbers_differ, literals_fit, all_literals_fit, unit_literals_fit, is_filled, variables_filled, start_filled, is_label, ends_in_label, statement_filled, statements_filled, has_declarators, members_filled, defined_filled, declaration_filled, lists_are_filled, IsAsRead, ReadIsAsRead}
 use Rattle.qs_meaning.proofs.Options.{all_left, all_right}
 use Rattle.qs_meaning.proofs.FitLocals.{ids}
 
@@ -266,6 +266,41 @@ start_read (a_start_declaration {d = d} r) i n c = let x = declaration_read r i 
 start_read (a_start_expression {ts = ts} s r) i n c = record { fine = and_from _ _ (expr_read r (front ts _ i) n) refl; full = refl }
 start_read (no_start_at_all s) i n c = record { fine = refl; full = refl }
 
+-- ---- labels have statements behind them
+
+no_label : {h : ℕ} {ts : List Terminal} {s : StmtTree} → ReadsStatement h ts s → (n : ℕ) → is_label (relabel_stmt numbered n s) ≡ false
+no_label (a_block o k r) n = refl
+no_label (an_empty at) n = refl
+no_label (an_expression s r) n = refl
+no_label (an_if at o k r q) n = refl
+no_label (an_if_with_else at o k m r q closed w) n = refl
+no_label (a_while at o k r q) n = refl
+no_label (a_do at w o k m q r) n = refl
+no_label (a_for at o m k ra re ru rs) n = refl
+no_label (a_switch at o k r q) n = refl
+no_label (a_break at s) n = refl
+no_label (a_continue at s) n = refl
+no_label (a_return at s r) n = refl
+
+label_is : {b l : Bool} {h : ℕ} {ts : List Terminal} {s : StmtTree} → ReadsSwitchItem b l h ts s → (n : ℕ) → is_label (relabel_stmt numbered n s) ≡ l
+label_is (a_label (a_case at k r)) n = refl
+label_is (a_label (a_default at k)) n = refl
+label_is (a_switch_statement r) n = no_label r n
+label_is (a_switch_declaration r) n = refl
+
+switch_items_end : {b : Bool} {h : ℕ} {ts : List Terminal} {ss : Stmts} → ReadsSwitchItems b h ts ss → (n : ℕ) → ends_in_label b (relabel_stmts numbered n ss) ≡ false
+switch_items_end no_switch_item n = refl
+switch_items_end (a_switch_item {s = s} {ss = ss} r q) n =
+    subst (λ b. ends_in_label b (relabel_stmts numbered (n + stmt_count s) ss) ≡ false) (sym (label_is r n)) (switch_items_end q (n + stmt_count s))
+
+switch_block_ends : {h : ℕ} {ts : List Terminal} {ss : Stmts} → ReadsSwitchBlock h ts ss → (n : ℕ) → ends_in_label false (relabel_stmts numbered n ss) ≡ false
+switch_block_ends (in_braces o k r) n = switch_items_end r n
+
+label_read : {h : ℕ} {ts : List Terminal} {s : StmtTree} → ReadsLabel h ts s → In ts → (n : ℕ) (c : Context)
+    → StatementRead (statement_sites c (relabel_stmt numbered n s)) (statement_filled (relabel_stmt numbered n s))
+label_read (a_case {ts = ts} at k r) i n c = record { fine = and_from _ _ (expr_read r (front ts _ i) _) refl; full = refl }
+label_read (a_default at k) i n c = record { fine = refl; full = refl }
+
 mutual
   statement_read : {h : ℕ} {ts : List Terminal} {s : StmtTree} → ReadsStatement h ts s → In ts → (n : ℕ) (c : Context)
       → StatementRead (statement_sites c (relabel_stmt numbered n s)) (statement_filled (relabel_stmt numbered n s))
@@ -316,6 +351,12 @@ mutual
             (optional_read ru (front ys _ (back xs _ (back ws _ i))) second behind) y.fine));
         full = and_from _ _ x.full y.full;
       }
+  statement_read (a_switch {xs = xs} {e = e} at o k r q) i n c =
+      let x = switch_block_read q (back xs _ i) (n + 1 + expr_count e) (switch_context c (relabel_expr numbered (n + 1) e)) in
+      record {
+        fine = and_from _ _ (expr_read r (front xs _ i) (n + 1)) x.fine;
+        full = and_from _ _ (ap not (switch_block_ends q (n + 1 + expr_count e))) x.full;
+      }
   statement_read (a_break at s) i n c = record { fine = refl; full = refl }
   statement_read (a_continue at s) i n c = record { fine = refl; full = refl }
   statement_read (a_return {ts = ts} at s r) i n c = record { fine = optional_read r (front ts _ i) _ c; full = refl }
@@ -331,6 +372,24 @@ mutual
   items_read (an_item {xs = xs} {s = s} {ss = ss} r q) i n c =
       let x = item_read r (front xs _ i) n c in
       let y = items_read q (back xs _ i) _ (after_statement c (relabel_stmt numbered n s)) in
+      record { fine = two (statement_sites c (relabel_stmt numbered n s)) _ x.fine y.fine; full = and_from _ _ x.full y.full }
+
+  switch_block_read : {h : ℕ} {ts : List Terminal} {ss : Stmts} → ReadsSwitchBlock h ts ss → In ts → (n : ℕ) (c : Context)
+      → StatementRead (statements_sites c (relabel_stmts numbered n ss)) (statements_filled (relabel_stmts numbered n ss))
+  switch_block_read (in_braces {ts = ts} o k r) i n c = switch_items_read r (front ts _ i) n c
+
+  switch_item_read : {b l : Bool} {h : ℕ} {ts : List Terminal} {s : StmtTree} → ReadsSwitchItem b l h ts s → In ts → (n : ℕ) (c : Context)
+      → StatementRead (statement_sites c (relabel_stmt numbered n s)) (statement_filled (relabel_stmt numbered n s))
+  switch_item_read (a_label r) i n c = label_read r i n c
+  switch_item_read (a_switch_statement r) i n c = statement_read r i n c
+  switch_item_read (a_switch_declaration {d = d} r) i n c = let x = declaration_read r i n in record { fine = x.sites false c d.base; full = x.filled }
+
+  switch_items_read : {b : Bool} {h : ℕ} {ts : List Terminal} {ss : Stmts} → ReadsSwitchItems b h ts ss → In ts → (n : ℕ) (c : Context)
+      → StatementRead (statements_sites c (relabel_stmts numbered n ss)) (statements_filled (relabel_stmts numbered n ss))
+  switch_items_read no_switch_item i n c = record { fine = refl; full = refl }
+  switch_items_read (a_switch_item {xs = xs} {s = s} {ss = ss} r q) i n c =
+      let x = switch_item_read r (front xs _ i) n c in
+      let y = switch_items_read q (back xs _ i) _ (after_statement c (relabel_stmt numbered n s)) in
       record { fine = two (statement_sites c (relabel_stmt numbered n s)) _ x.fine y.fine; full = and_from _ _ x.full y.full }
 
 -- ---- units

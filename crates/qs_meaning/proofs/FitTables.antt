@@ -1,5 +1,5 @@
 -- What is small stays so where structs are declared and defined.
-use Rattle.std.proofs.Common.{◌≡◌, ◌≤◌, ◌⊎◌, inl, inr, ℕ, ◌+◌, nat_le, max, Bool, true, false, ◌&&◌, List, [], ◌∷◌, ◌++◌, Option, Some, None, is_some, slice_set, refl, sym, ap, ◌∙◌, subst, arith, if◌then◌else◌, length}
+use Rattle.std.proofs.Common.{◌≡◌, ◌≤◌, ◌⊎◌, inl, inr, ℕ, ◌+◌, nat_le, max, Bool, ◌||◌, true, false, ◌&&◌, List, [], ◌∷◌, ◌++◌, Option, Some, None, is_some, slice_set, refl, sym, ap, ◌∙◌, subst, arith, if◌then◌else◌, length}
 use Rattle.std.specs.List.{list_all, slice_get}
 use Rattle.std.proofs.lemmas.Bool.Decides.{nat_tests}
 use Rattle.std.proofs.lemmas.List.Folds.{list_all-append}
@@ -82,11 +82,11 @@ pub record After (c d : Context) : Type 0 where
   pub grows : (t : TypeTree) → is_small c.structs t ≡ true → is_small d.structs t ≡ true
   pub inner : d.inner ≡ c.inner
   pub outer : d.outer ≡ c.outer
-  pub in_loop : d.in_loop ≡ c.in_loop
+  pub jumps : (d.in_loop || d.in_switch) ≡ (c.in_loop || c.in_switch)
   pub named : SmallNames c.structs c.type_names → SmallNames d.structs d.type_names
 
 unchanged_after : (c : Context) → SmallTable c.structs → After c c
-unchanged_after c table = record { table = table; grows = λ t h. h; inner = refl; outer = refl; in_loop = refl; named = λ n. n }
+unchanged_after c table = record { table = table; grows = λ t h. h; inner = refl; outer = refl; jumps = refl; named = λ n. n }
 
 pub after_next : (c d e : Context) → After c d → After d e → After c e
 after_next c d e h k = record {
@@ -94,7 +94,7 @@ after_next c d e h k = record {
   grows = λ t s. k.grows t (h.grows t s);
   inner = k.inner ∙ h.inner;
   outer = k.outer ∙ h.outer;
-  in_loop = k.in_loop ∙ h.in_loop;
+  jumps = k.jumps ∙ h.jumps;
   named = λ n. k.named (h.named n);
 }
 
@@ -109,7 +109,7 @@ appended_after c tags h table = record {
   grows = small_grows c.structs (c.structs ++ None ∷ []) g;
   inner = refl;
   outer = refl;
-  in_loop = refl;
+  jumps = refl;
   named = λ n. record { each = λ x t e. small_grows c.structs (c.structs ++ None ∷ []) g t (n.each x t e) };
 }
   where
@@ -206,7 +206,7 @@ module _ (c : Context) (h : IsFileScope c) (table : SmallTable c.structs) (k : �
     grows = small_grows c.structs more goes_on;
     inner = refl;
     outer = refl;
-    in_loop = refl;
+    jumps = refl;
     named = λ n. record { each = λ x t e. small_grows c.structs more goes_on t (n.each x t e) };
   }
     where
@@ -231,7 +231,7 @@ define_after c h table new (Some k) has small = given_members (has_no_members (s
 
     sized : (b : Bool) → is_some (sized_layout (layout_of c.structs) (member_types new)) ≡ b → struct_of c.structs k ≡ None
         → After c (record c { structs = with_members b c.structs k new })
-    sized false e n = record { table = table; grows = λ t h. h; inner = refl; outer = refl; in_loop = refl; named = λ n. n }
+    sized false e n = record { table = table; grows = λ t h. h; inner = refl; outer = refl; jumps = refl; named = λ n. n }
     sized true e n = defined_after c h table k new n e has small
 
     given_members : (b : Bool) → has_no_members (slice_get c.structs k) ≡ b
@@ -386,7 +386,7 @@ type_name_after c base d table small = go (is_type_name c d.name)
       grows = λ t h. h;
       inner = refl;
       outer = refl;
-      in_loop = refl;
+      jumps = refl;
       named = λ n. record { each = λ x t e. either n x t (appended_named d.name x (type_name_declared c base d).type c.type_names.types t e) };
     }
       where

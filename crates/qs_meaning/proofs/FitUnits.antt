@@ -174,7 +174,7 @@ module _ (unit : UnitTree) (program : TypedProgram) (typed : declarations_typed 
     scope : IsFileScope c
     table : SmallTable c.structs
     names : Names c.structs (c.inner ++ c.outer)
-    flat : c.in_loop ≡ false
+    flat : (c.in_loop || c.in_switch) ≡ false
     named : SmallNames c.structs c.type_names
 
   start_there : AtFile start_context
@@ -191,7 +191,7 @@ module _ (unit : UnitTree) (program : TypedProgram) (typed : declarations_typed 
     scope = scope;
     table = a.table;
     names = subst (λ z. Names d.structs z) (λ j. sym a.inner j ++ sym a.outer j) (names_grow i called s₀.statics s₀.functions c.structs d.structs a.grows (c.inner ++ c.outer) h.names);
-    flat = a.in_loop ∙ h.flat;
+    flat = a.jumps ∙ h.flat;
     named = a.named h.named;
   }
 

@@ -5,6 +5,7 @@ mod InitialiserExamples
 mod Outcomes
 mod UndefinedExamples
 mod RunExamples
+mod SwitchExamples
 pub mod RelationLaws
 mod Growth
 pub mod Options
@@ -16,6 +17,7 @@ mod ValueExamples
 mod UnitExamples
 mod TypeNameUnits
 mod LocalInitialisers
+mod Labels
 pub mod Bodies
 pub mod Functions
 pub mod FunctionsTyped
@@ -31,6 +33,7 @@ mod FitConversions
 mod FitForms
 pub mod FitTypes
 mod FitLeaves
+mod ConstantWords
 mod FitSmall
 mod FitExpressions
 mod FitLayouts

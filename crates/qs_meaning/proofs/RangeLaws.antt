@@ -1,5 +1,5 @@
 -- Every moment that a run of a unit whose tree fits comes to is in range.
-use Rattle.std.proofs.Common.{◌≡◌, ℕ, zero, suc, ◌+◌, ◌-◌, ◌%◌, ◌^◌, ◌<◌, ◌≤◌, ◌&&◌, not, Bool, true, false, List, [], ◌∷◌, length, map, Option, Some, None, is_some, option_map, ◌||◌, refl, sym, ap, ◌∙◌, subst, arith}
+use Rattle.std.proofs.Common.{◌≡◌, ℕ, zero, suc, ◌+◌, ◌-◌, ◌%◌, ◌^◌, ◌<◌, ◌≤◌, ◌&&◌, not, Bool, true, false, List, [], ◌∷◌, length, map, Option, Some, None, is_some, option_map, ◌||◌, refl, sym, ap, ◌∙◌, subst, arith, if◌then◌else◌}
 use Rattle.std.specs.Prelude.{All}
 use Rattle.std.specs.List.{slice_get, list_all}
 use Rattle.std.proofs.lemmas.Bool.Decides.{nat_tests}
@@ -8,7 +8,7 @@ use Rattle.std.proofs.lemmas.List.Elements.{All-head, All-tail}
 use Rattle.std.proofs.lemmas.Option.{slice_get-map, same_Some}
 use Rattle.std.proofs.lemmas.Bool.{and_parts}
 use Rattle.qs_memory.specs.Partial.{◌>>=◌}
-use Rattle.qs_memory.specs.Values.{into, Value, integer, address, as_pointer}
+use Rattle.qs_memory.specs.Values.{into, Value, integer, address, as_integer, as_pointer}
 use Rattle.qs_memory.specs.Memory.{Memory, block_at, make, release}
 use Rattle.qs_memory.specs.Memory as blocks
 use Rattle.qs_memory.specs.Pointers.{member_of, truth}
@@ -34,11 +34,11 @@ use Rattle.qs_calls.specs.declared.callee.Callee.{Callee}
 use Rattle.qs_calls.specs.declared.callee.Callee.TheVariants as callees
 use Rattle.qs_calls.specs.declared.parameter.Parameter.{Parameter}
 use Rattle.qs_calls.specs.declared.parameter.Parameter.TheVariants.{Plain, Placed}
-use Rattle.qs_meaning.specs.Typed.{Conversion, unchanged, Object, local, static, Expr, constant, value, pointer_to, member, called, stepped_after, unary, cast, binary, logical_and, logical_or, conditional, assigned, sequence, Lvalue, variable, object, Arguments, no_arguments, argument_and, Assignment, set, update, Effect, nothing, discard, assign, perform, copy, fill, in_order, Stmt, evaluate, block, branch, while_loop, do_loop, for_loop, break, continue, return, return_nothing, Stmts, no_stmts, stmt_and, Function, StaticBlock}
+use Rattle.qs_meaning.specs.Typed.{Conversion, unchanged, Object, local, static, Expr, constant, value, pointer_to, member, called, stepped_after, unary, cast, binary, logical_and, logical_or, conditional, assigned, sequence, Lvalue, variable, object, Arguments, no_arguments, argument_and, Assignment, set, update, Effect, nothing, discard, assign, perform, copy, fill, in_order, Stmt, evaluate, block, branch, switch, case_label, default_label, while_loop, do_loop, for_loop, break, continue, return, return_nothing, Stmts, no_stmts, stmt_and, Function, StaticBlock}
 use Rattle.qs_meaning.specs.Interfaces.{types_of, signature, data_extent, interface_of}
-use Rattle.qs_meaning.specs.Fits.{type_after, assigned_type, type_of, conversion_fits, is_null, amount_type, object_there, taken, becomes, result_fits, expr_fits, lvalue_fits, arguments_fit, assignment_fits, effect_fits, returned_fits, option_fits, stmt_fits, stmts_fit, place_fits, parameters_placed, end_fits, function_fits}
+use Rattle.qs_meaning.specs.Fits.{type_after, assigned_type, type_of, conversion_fits, is_null, amount_type, object_there, taken, becomes, result_fits, operand_fits, labels_fit, expr_fits, lvalue_fits, arguments_fit, assignment_fits, effect_fits, returned_fits, option_fits, stmt_fits, stmts_fit, place_fits, parameters_placed, end_fits, function_fits}
 use Rattle.qs_meaning.specs.States.{Next, Here, choose, test, convert_by, pointer_at, Place, in_variable, in_object, read, write}
-use Rattle.qs_meaning.specs.Meaning.{operation_value, updated_value, step_amount, expression, lvalue, arguments, assignment, effect, Targets, in_loop, turns, condition, for_condition, statement, statements}
+use Rattle.qs_meaning.specs.Meaning.{operation_value, updated_value, step_amount, expression, lvalue, arguments, assignment, effect, Targets, in_loop, in_switch, is_case, is_default, turns, condition, for_condition, statement, statements, behind_label}
 use Rattle.qs_meaning.specs.Runs.{result_at_end, calls_within}
 use Rattle.qs_meaning.specs.Ranges.{VariablesAreOf, IsMoment, NextInRange, ValueInRange, ReturnsInRange, TargetsInRange, result_at, CallsInRange, ExpressionsHaveTypes, CallsStayInRange, BodiesStayInRange, RunsLeaveSound, InitialMemoryIsReady}
 use Rattle.qs_meaning.specs.Units.{block_of}
@@ -327,6 +327,13 @@ module _ (R : Relation) (keeps : Keeps R) (shorts : R short short) (i : Interfac
     loop_in_range : (start : Memory) (t u : Targets) → AllTargets start t u → (k l : Next) → Nexts start k l → AllTargets start (in_loop t k) (in_loop u l)
     loop_in_range start t u h k l f = record { behind = f; at_break = h.behind; at_continue = f; at_return = h.at_return }
 
+    switch_in_range : (start : Memory) (t u : Targets) → AllTargets start t u → AllTargets start (in_switch t) (in_switch u)
+    switch_in_range start t u h = record { behind = h.behind; at_break = h.behind; at_continue = h.at_continue; at_return = h.at_return }
+
+    chosen_in_range : (b : Bool) (start : Memory) (k k' l l' : Next) → Nexts start k l → Nexts start k' l' → Nexts start (if b then k else k') (if b then l else l')
+    chosen_in_range true start k k' l l' h f = h
+    chosen_in_range false start k k' l l' h f = f
+
     returned_in_range : (e : Conversion) (a : Expr) (o : Option Scalar) → returned_fits i g e a o ≡ true → (start : Memory) (k j : Return) → ReturnsInRange R i o start k j
         → Nexts start (expression a here (λ x v w. given (convert_by e x) (λ y. k (Some y) w))) (expression a there (λ x v w. given (convert_by e x) (λ y. j (Some y) w)))
     returned_in_range e a None fit start k j h v w is = cc
@@ -336,41 +343,58 @@ module _ (R : Relation) (keeps : Keeps R) (shorts : R short short) (i : Interfac
         h (Some y) w (record { typed = becomes_is_of w.memory a e s x y two.1 of f; ready = is.range.ready; after = is.after }))) v w is
 
     mutual
-      statement_in_range : (loops : Bool) (s : Stmt) → stmt_fits i g loops s ≡ true → (start : Memory) (t u : Targets) → AllTargets start t u
+      statement_in_range : (b c : Bool) (s : Stmt) → stmt_fits i g b c s ≡ true → (start : Memory) (t u : Targets) → AllTargets start t u
           → Nexts start (statement s here t) (statement s there u)
-      statement_in_range b (evaluate a) fit start t u h v w is = effect_in_range a fit start _ _ h.behind v w is
-      statement_in_range b (block ss) fit start t u h v w is = statements_in_range b ss fit start t u h v w is
-      statement_in_range b (branch e p q) fit start t u h v w is =
+      statement_in_range b c (evaluate a) fit start t u h v w is = effect_in_range a fit start _ _ h.behind v w is
+      statement_in_range b c (block ss) fit start t u h v w is = statements_in_range b c ss fit start t u h v w is
+      statement_in_range b c (branch e p q) fit start t u h v w is =
           let two = and_parts (expr_fits i g e) _ fit in
-          let parts = and_parts (stmt_fits i g b p) _ two.1 in
-          condition_in_range e two.0 start _ _ _ _ (statement_in_range b p parts.0 start t u h) (statement_in_range b q parts.1 start t u h) v w is
-      statement_in_range b (while_loop e p) fit start t u h v w is =
+          let parts = and_parts (stmt_fits i g b c p) _ two.1 in
+          condition_in_range e two.0 start _ _ _ _ (statement_in_range b c p parts.0 start t u h) (statement_in_range b c q parts.1 start t u h) v w is
+      statement_in_range b c (switch to e ss) fit start t u h v w is =
+          let two = and_parts (expr_fits i g e) _ fit in
+          let three = and_parts (operand_fits to e) _ two.1 in
+          let items = (and_parts (labels_fit ss) _ three.1).1 in
+          let inside = switch_in_range start t u h in
+          expression_in_range e two.0 start _ _ (λ x v w is of. given_in_range (convert_by to x) _ _ (λ y f. given_in_range (as_integer y) _ _ (λ n f.
+          label_in_range c (is_case n) ss items start _ _ inside _ _ (label_in_range c is_default ss items start _ _ inside _ _ h.behind) v w is))) v w is
+      statement_in_range b c (case_label n) fit start t u h v w is = h.behind v w is
+      statement_in_range b c default_label fit start t u h v w is = h.behind v w is
+      statement_in_range b c (while_loop e p) fit start t u h v w is =
           let two = and_parts (expr_fits i g e) _ fit in
           turns_in_range m start _ _ (λ k l f. condition_in_range e two.0 start _ _ _ _
-          (statement_in_range true p two.1 start _ _ (loop_in_range start t u h k l f)) h.behind) v w is
-      statement_in_range b (do_loop p e) fit start t u h v w is =
-          let two = and_parts (stmt_fits i g true p) _ fit in
-          turns_in_range m start _ _ (λ k l f. statement_in_range true p two.0 start _ _
+          (statement_in_range true true p two.1 start _ _ (loop_in_range start t u h k l f)) h.behind) v w is
+      statement_in_range b c (do_loop p e) fit start t u h v w is =
+          let two = and_parts (stmt_fits i g true true p) _ fit in
+          turns_in_range m start _ _ (λ k l f. statement_in_range true true p two.0 start _ _
           (loop_in_range start t u h _ _ (condition_in_range e two.1 start _ _ _ _ f h.behind))) v w is
-      statement_in_range b (for_loop begin e step p) fit start t u h v w is =
+      statement_in_range b c (for_loop begin e step p) fit start t u h v w is =
           let two = and_parts (effect_fits i g begin) _ fit in
           let three = and_parts (option_fits i g e) _ two.1 in
           let four = and_parts (effect_fits i g step) _ three.1 in
           effect_in_range begin two.0 start _ _ (turns_in_range m start _ _ (λ k l f.
           for_condition_in_range e three.0 start _ _ _ _
-          (statement_in_range true p four.1 start _ _ (loop_in_range start t u h _ _ (effect_in_range step four.0 start k l f))) h.behind)) v w is
-      statement_in_range b break fit start t u h v w is = h.at_break v w is
-      statement_in_range b continue fit start t u h v w is = h.at_continue v w is
-      statement_in_range b (return e a) fit start t u h v w is = returned_in_range e a g.result fit start t.at_return u.at_return h.at_return v w is
-      statement_in_range b return_nothing fit start t u h v w is = h.at_return None w (record { typed = tt; ready = is.range.ready; after = is.after })
+          (statement_in_range true true p four.1 start _ _ (loop_in_range start t u h _ _ (effect_in_range step four.0 start k l f))) h.behind)) v w is
+      statement_in_range b c break fit start t u h v w is = h.at_break v w is
+      statement_in_range b c continue fit start t u h v w is = h.at_continue v w is
+      statement_in_range b c (return e a) fit start t u h v w is = returned_in_range e a g.result fit start t.at_return u.at_return h.at_return v w is
+      statement_in_range b c return_nothing fit start t u h v w is = h.at_return None w (record { typed = tt; ready = is.range.ready; after = is.after })
 
-      statements_in_range : (loops : Bool) (ss : Stmts) → stmts_fit i g loops ss ≡ true → (start : Memory) (t u : Targets) → AllTargets start t u
+      statements_in_range : (b c : Bool) (ss : Stmts) → stmts_fit i g b c ss ≡ true → (start : Memory) (t u : Targets) → AllTargets start t u
           → Nexts start (statements ss here t) (statements ss there u)
-      statements_in_range b no_stmts fit start t u h v w is = h.behind v w is
-      statements_in_range b (stmt_and s ss) fit start t u h v w is =
-          let two = and_parts (stmt_fits i g b s) _ fit in
-          statement_in_range b s two.0 start _ _
-          (record { behind = statements_in_range b ss two.1 start t u h; at_break = h.at_break; at_continue = h.at_continue; at_return = h.at_return }) v w is
+      statements_in_range b c no_stmts fit start t u h v w is = h.behind v w is
+      statements_in_range b c (stmt_and s ss) fit start t u h v w is =
+          let two = and_parts (stmt_fits i g b c s) _ fit in
+          statement_in_range b c s two.0 start _ _
+          (record { behind = statements_in_range b c ss two.1 start t u h; at_break = h.at_break; at_continue = h.at_continue; at_return = h.at_return }) v w is
+
+      -- behind a label of a switch
+      label_in_range : (c : Bool) (is_label : Stmt → Bool) (ss : Stmts) → stmts_fit i g true c ss ≡ true → (start : Memory) (t u : Targets) → AllTargets start t u
+          → (k l : Next) → Nexts start k l → Nexts start (behind_label is_label ss here t k) (behind_label is_label ss there u l)
+      label_in_range c is_label no_stmts fit start t u h k l f v w is = f v w is
+      label_in_range c is_label (stmt_and s ss) fit start t u h k l f v w is =
+          let two = and_parts (stmt_fits i g true c s) _ fit in
+          chosen_in_range (is_label s) start _ _ _ _ (statements_in_range true c ss two.1 start t u h) (label_in_range c is_label ss two.1 start t u h k l f) v w is
 
   -- ---- passing arguments
 
@@ -470,7 +494,7 @@ module _ (R : Relation) (keeps : Keeps R) (shorts : R short short) (i : Interfac
         blocks = omega (arith, count);
       })
       (λ v x passed.
-      statements_in_range m _ _ (calls_in_range fs same all m depth) g first false g.body (and_parts (stmts_fit i g false g.body) _ body.1).0 w.memory _ _
+      statements_in_range m _ _ (calls_in_range fs same all m depth) g first false false g.body (and_parts (stmts_fit i g false false g.body) _ body.1).0 w.memory _ _
       (record {
         behind = λ v x moment. keeps.emit _ _ _ (returns (result_at_end g.is_main) _ (returned_later g.result w.memory first (result_at_end g.is_main) x
             (record { typed = end_is_of x.memory g.is_main g.result body.0; ready = moment.range.ready; after = moment.after })));
@@ -494,7 +518,7 @@ expressions_have_types u turns depth first g e start k j fits fit h =
 
 pub bodies_stay_in_range : BodiesStayInRange
 bodies_stay_in_range u turns depth first g ss start t r fits fit h =
-    statements_in_range ◌≡◌ same_keeps refl (interface_of u) turns _ _ (calls_stay_in_range u turns depth fits) g first true ss fit start t r h
+    statements_in_range ◌≡◌ same_keeps refl (interface_of u) turns _ _ (calls_stay_in_range u turns depth fits) g first true true ss fit start t r h
 
 -- ---- what a run leaves
 

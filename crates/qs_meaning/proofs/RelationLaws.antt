@@ -1,8 +1,8 @@
 -- The meaning keeps every relation between runs that events and undefined steps keep: runs with related ends, calls and turns are related.
-use Rattle.std.proofs.Common.{ℕ, Bool, true, false, List, Option, Some, None}
+use Rattle.std.proofs.Common.{ℕ, Bool, true, false, List, Option, Some, None, if◌then◌else◌}
 use Rattle.qs_memory.specs.declared.scalar.Scalar.{Scalar}
 use Rattle.qs_memory.specs.Partial.{◌>>=◌}
-use Rattle.qs_memory.specs.Values.{Value, address, as_pointer}
+use Rattle.qs_memory.specs.Values.{Value, address, as_integer, as_pointer}
 use Rattle.qs_memory.specs.Memory.{store}
 use Rattle.qs_memory.specs.Memory as blocks
 use Rattle.qs_memory.specs.Pointers.{member_of, truth}
@@ -11,9 +11,9 @@ use Rattle.qs_calls.specs.World.{World, with_memory, Environment, with_value}
 use Rattle.qs_calls.specs.Calls.{CallsOf}
 use Rattle.qs_calls.specs.Relations.{Relation, Keeps, ReturnsRelated, CallsRelated, BodiesRelated}
 use Rattle.qs_calls.proofs.RelationLaws.{given_related, invoke_related}
-use Rattle.qs_meaning.specs.Typed.{unchanged, Expr, constant, value, pointer_to, member, called, stepped_after, unary, cast, binary, logical_and, logical_or, conditional, assigned, sequence, Lvalue, variable, object, Arguments, no_arguments, argument_and, Assignment, set, update, Effect, nothing, discard, assign, perform, copy, fill, in_order, Stmt, evaluate, block, branch, while_loop, do_loop, for_loop, break, continue, return, return_nothing, Stmts, no_stmts, stmt_and, Function}
+use Rattle.qs_meaning.specs.Typed.{unchanged, Expr, constant, value, pointer_to, member, called, stepped_after, unary, cast, binary, logical_and, logical_or, conditional, assigned, sequence, Lvalue, variable, object, Arguments, no_arguments, argument_and, Assignment, set, update, Effect, nothing, discard, assign, perform, copy, fill, in_order, Stmt, evaluate, block, branch, switch, case_label, default_label, while_loop, do_loop, for_loop, break, continue, return, return_nothing, Stmts, no_stmts, stmt_and, Function}
 use Rattle.qs_meaning.specs.States.{Next, Here, choose, test, convert_by, Place, in_variable, in_object, read, write}
-use Rattle.qs_meaning.specs.Meaning.{operation_value, updated_value, step_amount, expression, lvalue, arguments, assignment, effect, Targets, in_loop, turns, condition, for_condition, statement, statements}
+use Rattle.qs_meaning.specs.Meaning.{operation_value, updated_value, step_amount, expression, lvalue, arguments, assignment, effect, Targets, in_loop, in_switch, is_case, is_default, turns, condition, for_condition, statement, statements, behind_label}
 use Rattle.qs_meaning.specs.Runs.{body_of}
 
 module _ (R : Relation) where
@@ -118,11 +118,23 @@ module _ (R : Relation) where
       loop_related : (t u : Targets) → TargetsRelated t u → (k l : Next) → NextRelated k l → TargetsRelated (in_loop t k) (in_loop u l)
       loop_related t u h k l i = record { behind = i; at_break = h.behind; at_continue = i; at_return = h.at_return }
 
+      switch_related : (t u : Targets) → TargetsRelated t u → TargetsRelated (in_switch t) (in_switch u)
+      switch_related t u h = record { behind = h.behind; at_break = h.behind; at_continue = h.at_continue; at_return = h.at_return }
+
+      chosen_related : (b : Bool) (k k' l l' : Next) → NextRelated k l → NextRelated k' l' → NextRelated (if b then k else k') (if b then l else l')
+      chosen_related true k k' l l' h i = h
+      chosen_related false k k' l l' h i = i
+
       mutual
         statement_related : (s : Stmt) (t u : Targets) → TargetsRelated t u → NextRelated (statement s here t) (statement s there u)
         statement_related (evaluate a) t u h v w = effect_related a _ _ h.behind v w
         statement_related (block ss) t u h v w = statements_related ss t u h v w
         statement_related (branch e a b) t u h v w = condition_related e _ _ _ _ (statement_related a t u h) (statement_related b t u h) v w
+        statement_related (switch i e ss) t u h v w =
+            expression_related e _ _ (λ x v w. given_related R keeps (convert_by i x) _ _ (λ y. given_related R keeps (as_integer y) _ _ (λ n.
+            label_related (is_case n) ss _ _ (switch_related t u h) _ _ (label_related is_default ss _ _ (switch_related t u h) _ _ h.behind) v w))) v w
+        statement_related (case_label n) t u h v w = h.behind v w
+        statement_related default_label t u h v w = h.behind v w
         statement_related (while_loop e a) t u h v w =
             turns_related _ _ (λ k l i. condition_related e _ _ _ _ (statement_related a _ _ (loop_related t u h k l i)) h.behind) v w
         statement_related (do_loop a e) t u h v w =
@@ -140,6 +152,13 @@ module _ (R : Relation) where
         statements_related no_stmts t u h v w = h.behind v w
         statements_related (stmt_and s ss) t u h v w =
             statement_related s _ _ (record { behind = statements_related ss t u h; at_break = h.at_break; at_continue = h.at_continue; at_return = h.at_return }) v w
+
+        -- behind a label of a switch
+        label_related : (is_label : Stmt → Bool) (ss : Stmts) (t u : Targets) → TargetsRelated t u → (k l : Next) → NextRelated k l
+            → NextRelated (behind_label is_label ss here t k) (behind_label is_label ss there u l)
+        label_related is_label no_stmts t u h k l i v w = i v w
+        label_related is_label (stmt_and s ss) t u h k l i v w =
+            chosen_related (is_label s) _ _ _ _ (statements_related ss t u h) (label_related is_label ss t u h k l i) v w
 
     pub body_related : (m n : ℕ) → TurnsRelated m n → (c d : CallsOf) → CallsRelated R c d → (g : Function) → BodiesRelated R (body_of g m c) (body_of g n d)
     body_related m n turns_related c d calls_related g first k l h v w =

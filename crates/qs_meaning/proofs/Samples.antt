@@ -171,6 +171,22 @@ when x s = trees.branch (unnumbered 0) x s no_else
 abbrev pub while : ExprTree → StmtTree → StmtTree
 while x s = trees.while_loop (unnumbered 0) x s
 
+-- the labels of a switch stand among its items
+abbrev pub switch : ExprTree → List StmtTree → StmtTree
+switch x ss = trees.switch (unnumbered 0) x (stmts_of ss)
+
+abbrev pub case : ExprTree → StmtTree
+case x = trees.case_label (unnumbered 0) x
+
+abbrev pub default : StmtTree
+default = trees.default_label (unnumbered 0)
+
+abbrev pub break : StmtTree
+break = trees.break (unnumbered 0)
+
+abbrev pub continue : StmtTree
+continue = trees.continue (unnumbered 0)
+
 -- ---- functions
 
 abbrev pub parameter : Base → ℕ → ℕ → ParameterTree

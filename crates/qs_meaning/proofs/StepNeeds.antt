@@ -15,7 +15,7 @@ use Rattle.qs_memory.specs.declared.operation.UnaryOperation.TheVariants as unar
 use Rattle.qs_memory.specs.declared.operation.BinaryOperation.{BinaryOperation}
 use Rattle.qs_memory.specs.declared.operation.BinaryOperation.TheVariants as binaries
 use Rattle.qs_memory.specs.Partial.{◌>>=◌, only_if}
-use Rattle.qs_memory.specs.Values.{Pointer, null, into, Value, integer, address, as_pointer, has_type, convert}
+use Rattle.qs_memory.specs.Values.{Pointer, null, into, Value, integer, address, as_integer, as_pointer, has_type, convert}
 use Rattle.qs_memory.specs.Integers.{reading, quotient, remainder, shifted_right, calculate}
 use Rattle.qs_memory.specs.Memory.{Memory, Target, target}
 use Rattle.qs_memory.specs.Pointers.{moved, directed, in_one_block, elements, equal, compares_pointers, truth}
@@ -231,6 +231,10 @@ second_no_address arithmetics.And m s t p fit h = no_address m t (integer_type s
 second_no_address arithmetics.Or m s t p fit h = no_address m t (integer_type s) p (word_is_integer s) fit h
 second_no_address arithmetics.Xor m s t p fit h = no_address m t (integer_type s) p (word_is_integer s) fit h
 
+operand_defined : (s : Scalar) (m : Memory) (x : Value) → is_promoted s ≡ true → IsOf m s x → IsSome (as_integer x)
+operand_defined s m (integer n) fit of = refl
+operand_defined s m (address p) fit of = let e = is_integer_at m s p (promoted_no_pointer s fit) of.typed in cc
+
 binary_defined : (op : BinaryOperation) (s t : Scalar) (m : Memory) (x y : Value) → binary_takes op s t ≡ true → IsOf m s x → IsOf m t y
     → IsSome (apply_binary op m x y) ↔ BinaryNeeds op m x y
 binary_defined (binaries.Arithmetic op n) s t m (integer x) (integer y) fit of og = arithmetic_defined op n m x y
@@ -261,6 +265,7 @@ steps_on_types_are_defined = record {
   conversion = conversion_defined;
   null_constant = null_defined;
   pointer = pointer_defined;
+  operand = operand_defined;
   unary = unary_defined;
   binary = binary_defined;
   tested = tested;

@@ -2,7 +2,7 @@
 use Rattle.std.specs.Prelude.{◌≡◌, ℕ, ◌^◌, not, ◌&&◌, nat_lt, Bool, true, false, List, [], ◌∷◌, map, Option, Some, None}
 use Rattle.std.specs.List.{list_all}
 use Rattle.qs_syntax.specs.declared.nodes.Node.{Node}
-use Rattle.qs_syntax.specs.Trees.{ExprTree, expr, ShapeTree, Exprs, no_exprs, expr_and, DeclaratorTree, InitialiserTree, value, list, no_initialisers, initialiser_and, VariableTree, MembersTree, StartTree, no_start, start_expression, start_declaration, StmtTree, empty, expression, declaration, block, branch, while_loop, do_loop, for_loop, break, continue, return, Stmts, no_stmts, stmt_and, Else, no_else, else_by, DeclTree, structure, forward, function, variables, UnitTree, DefinedTree, of_struct, of_base, typedef}
+use Rattle.qs_syntax.specs.Trees.{ExprTree, expr, ShapeTree, Exprs, no_exprs, expr_and, DeclaratorTree, InitialiserTree, value, list, no_initialisers, initialiser_and, VariableTree, MembersTree, StartTree, no_start, start_expression, start_declaration, StmtTree, empty, expression, declaration, block, switch, case_label, default_label, branch, while_loop, do_loop, for_loop, break, continue, return, Stmts, no_stmts, stmt_and, Else, no_else, else_by, DeclTree, structure, forward, function, variables, UnitTree, DefinedTree, of_struct, of_base, typedef}
 use Rattle.qs_syntax.specs.Trees as trees
 use Rattle.qs_syntax.specs.Nodes.{unit_nodes}
 use Rattle.qs_syntax.specs.Units.{IsRead}
@@ -54,7 +54,8 @@ abbrev mutual
 abbrev pub unit_literals_fit : UnitTree → Bool
 unit_literals_fit unit = list_all (λ (s : Site). literals_fit s.expression) (unit_sites unit)
 
--- ---- 6.7.9p1, 6.7.2.1p1: a list of initialisers has one at least, and a list of members too, as the grammar asks
+-- ---- 6.7.9p1, 6.7.2.1p1, 6.8.1p1: a list of initialisers has one at least, and a list of members too, and labels stand before statements, as
+-- the grammar asks
 
 abbrev pub is_filled : Option InitialiserTree → Bool
 is_filled None = true
@@ -70,12 +71,26 @@ start_filled no_start = true
 start_filled (start_expression e) = true
 start_filled (start_declaration d) = variables_filled d.variables
 
+abbrev pub is_label : StmtTree → Bool
+is_label (case_label node e) = true
+is_label (default_label node) = true
+is_label _ = false
+
+-- whether the last of some items is a label; before is whether one stands before them
+abbrev pub ends_in_label : (before : Bool) → Stmts → Bool
+ends_in_label before no_stmts = before
+ends_in_label before (stmt_and s ss) = ends_in_label (is_label s) ss
+
 abbrev mutual
   pub statement_filled : StmtTree → Bool
   statement_filled (empty node) = true
   statement_filled (expression node e) = true
   statement_filled (declaration d) = variables_filled d.variables
   statement_filled (block ss) = statements_filled ss
+  -- 6.8.1p1: each label has a statement behind it
+  statement_filled (switch node e ss) = not (ends_in_label false ss) && statements_filled ss
+  statement_filled (case_label node e) = true
+  statement_filled (default_label node) = true
   statement_filled (branch node e s r) = statement_filled s && else_filled r
   statement_filled (while_loop node e s) = statement_filled s
   statement_filled (do_loop node s e) = statement_filled s

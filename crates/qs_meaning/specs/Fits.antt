@@ -6,7 +6,7 @@ use Rattle.qs_memory.specs.declared.scalar.Scalar.{Scalar}
 use Rattle.qs_memory.specs.declared.scalar.Scalar.TheVariants as scalars
 use Rattle.qs_memory.specs.declared.operation.BinaryOperation.{BinaryOperation}
 use Rattle.qs_memory.specs.declared.operation.BinaryOperation.TheVariants as operations
-use Rattle.qs_memory.specs.Scalars.{same_scalar, is_type, is_pointer}
+use Rattle.qs_memory.specs.Scalars.{same_scalar, is_type, is_pointer, is_promoted}
 use Rattle.qs_memory.specs.Values.{integer, width, has_type}
 use Rattle.qs_memory.specs.Memory.{blank_cells}
 use Rattle.qs_memory.specs.Sizes.{largest_size}
@@ -15,7 +15,7 @@ use Rattle.qs_memory.specs.Operands.{unary_takes, binary_takes}
 use Rattle.qs_calls.specs.declared.parameter.Parameter.{Parameter}
 use Rattle.qs_calls.specs.declared.parameter.Parameter.TheVariants.{Plain, Placed}
 use Rattle.qs_calls.specs.Starts.{Signature, Interface, signature_of}
-use Rattle.qs_meaning.specs.Typed.{Conversion, unchanged, converted, Order, as_written, exchanged, Object, local, static, Expr, constant, value, pointer_to, member, called, stepped_after, unary, cast, binary, logical_and, logical_or, conditional, assigned, sequence, Lvalue, variable, object, Arguments, no_arguments, argument_and, Assignment, set, update, Effect, nothing, discard, assign, perform, copy, fill, in_order, Stmt, evaluate, block, branch, while_loop, do_loop, for_loop, break, continue, return, return_nothing, Stmts, no_stmts, stmt_and, Function, TypedProgram}
+use Rattle.qs_meaning.specs.Typed.{Conversion, unchanged, converted, Order, as_written, exchanged, Object, local, static, Expr, constant, value, pointer_to, member, called, stepped_after, unary, cast, binary, logical_and, logical_or, conditional, assigned, sequence, Lvalue, variable, object, Arguments, no_arguments, argument_and, Assignment, set, update, Effect, nothing, discard, assign, perform, copy, fill, in_order, Stmt, evaluate, block, branch, switch, case_label, default_label, while_loop, do_loop, for_loop, break, continue, return, return_nothing, Stmts, no_stmts, stmt_and, Function, TypedProgram}
 use Rattle.qs_meaning.specs.Interfaces.{interface_of}
 
 -- ---- types of values
@@ -159,23 +159,46 @@ abbrev pub option_fits : Interface → Function → Option Expr → Bool
 option_fits i g None = true
 option_fits i g (Some e) = expr_fits i g e
 
-abbrev mutual
-  pub stmt_fits : Interface → Function → (in_loop : Bool) → Stmt → Bool
-  stmt_fits i g in_loop (evaluate a) = effect_fits i g a
-  stmt_fits i g in_loop (block ss) = stmts_fit i g in_loop ss
-  stmt_fits i g in_loop (branch e a b) = expr_fits i g e && (stmt_fits i g in_loop a && stmt_fits i g in_loop b)
-  stmt_fits i g in_loop (while_loop e a) = expr_fits i g e && stmt_fits i g true a
-  stmt_fits i g in_loop (do_loop a e) = stmt_fits i g true a && expr_fits i g e
-  stmt_fits i g in_loop (for_loop start e step a) =
-      effect_fits i g start && (option_fits i g e && (effect_fits i g step && stmt_fits i g true a))
-  stmt_fits i g in_loop break = in_loop
-  stmt_fits i g in_loop continue = in_loop
-  stmt_fits i g in_loop (return c a) = returned_fits i g c a g.result
-  stmt_fits i g in_loop return_nothing = true
+-- 6.8.4.2p1, p5: an integer, which is converted to its promoted type
+abbrev pub operand_fits : Conversion → Expr → Bool
+operand_fits c a = conversion_fits c (type_of a) (is_null a) && is_promoted (type_after c (type_of a))
 
-  pub stmts_fit : Interface → Function → (in_loop : Bool) → Stmts → Bool
-  stmts_fit i g in_loop no_stmts = true
-  stmts_fit i g in_loop (stmt_and s ss) = stmt_fits i g in_loop s && stmts_fit i g in_loop ss
+abbrev pub is_label : Stmt → Bool
+is_label (case_label n) = true
+is_label default_label = true
+is_label _ = false
+
+-- whether the last of some items is a label; before is whether one stands before them
+abbrev pub ends_in_label : (before : Bool) → Stmts → Bool
+ends_in_label before no_stmts = before
+ends_in_label before (stmt_and s ss) = ends_in_label (is_label s) ss
+
+-- 6.8.1p1: each label has a statement behind it
+abbrev pub labels_fit : Stmts → Bool
+labels_fit ss = not (ends_in_label false ss)
+
+abbrev mutual
+  -- where a break, and a continue, may stand
+  pub stmt_fits : Interface → Function → (may_break may_continue : Bool) → Stmt → Bool
+  stmt_fits i g b c (evaluate a) = effect_fits i g a
+  stmt_fits i g b c (block ss) = stmts_fit i g b c ss
+  stmt_fits i g b c (branch e p q) = expr_fits i g e && (stmt_fits i g b c p && stmt_fits i g b c q)
+  stmt_fits i g b c (switch to e ss) = expr_fits i g e && (operand_fits to e && (labels_fit ss && stmts_fit i g true c ss))
+  -- a value of int or unsigned
+  stmt_fits i g b c (case_label n) = has_type scalars.Int (integer n)
+  stmt_fits i g b c default_label = true
+  stmt_fits i g b c (while_loop e p) = expr_fits i g e && stmt_fits i g true true p
+  stmt_fits i g b c (do_loop p e) = stmt_fits i g true true p && expr_fits i g e
+  stmt_fits i g b c (for_loop start e step p) =
+      effect_fits i g start && (option_fits i g e && (effect_fits i g step && stmt_fits i g true true p))
+  stmt_fits i g b c break = b
+  stmt_fits i g b c continue = c
+  stmt_fits i g b c (return to a) = returned_fits i g to a g.result
+  stmt_fits i g b c return_nothing = true
+
+  pub stmts_fit : Interface → Function → (may_break may_continue : Bool) → Stmts → Bool
+  stmts_fit i g b c no_stmts = true
+  stmts_fit i g b c (stmt_and s ss) = stmt_fits i g b c s && stmts_fit i g b c ss
 
 -- ---- functions and units
 
@@ -198,7 +221,7 @@ abbrev pub are_small : List ℕ → Bool
 are_small sizes = list_all (λ n. nat_le n largest_size) sizes
 
 abbrev pub function_fits : Interface → Function → Bool
-function_fits i g = parameters_placed g.blocks 0 g.parameters g.variables && (end_fits g && (stmts_fit i g false g.body && are_small g.blocks))
+function_fits i g = parameters_placed g.blocks 0 g.parameters g.variables && (end_fits g && (stmts_fit i g false false g.body && are_small g.blocks))
 
 abbrev pub program_fits : TypedProgram → Bool
 program_fits u = list_all (function_fits (interface_of u)) u.functions

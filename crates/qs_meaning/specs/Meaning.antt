@@ -1,9 +1,9 @@
 -- The meaning of expressions and statements (C11 6.5, 6.8): what is done, in order, and what follows. Operands, arguments and the sides of
 -- an assignment are evaluated left to right.
-use Rattle.std.specs.Prelude.{ℕ, zero, suc, List, [], ◌∷◌, Option, Some, None}
+use Rattle.std.specs.Prelude.{ℕ, zero, suc, ◌==◌, Bool, true, false, List, [], ◌∷◌, Option, Some, None, if◌then◌else◌}
 use Rattle.qs_memory.specs.declared.operation.BinaryOperation.{BinaryOperation}
 use Rattle.qs_memory.specs.Partial.{◌>>=◌}
-use Rattle.qs_memory.specs.Values.{Value, integer, address, as_pointer}
+use Rattle.qs_memory.specs.Values.{Value, integer, address, as_integer, as_pointer}
 use Rattle.qs_memory.specs.Memory.{Memory}
 use Rattle.qs_memory.specs.Memory as blocks
 use Rattle.qs_memory.specs.Pointers.{member_of}
@@ -11,7 +11,7 @@ use Rattle.qs_memory.specs.Operations.{apply_unary, apply_binary}
 use Rattle.qs_events.specs.Runs.{short, given}
 use Rattle.qs_calls.specs.World.{with_memory, Return}
 use Rattle.qs_calls.specs.Calls.{invoke, used}
-use Rattle.qs_meaning.specs.Typed.{Conversion, unchanged, Order, as_written, exchanged, Expr, constant, value, pointer_to, member, called, stepped_after, unary, cast, binary, logical_and, logical_or, conditional, assigned, sequence, Lvalue, variable, object, Arguments, no_arguments, argument_and, Assignment, set, update, Effect, nothing, discard, assign, perform, copy, fill, in_order, Stmt, evaluate, block, branch, while_loop, do_loop, for_loop, break, continue, return, return_nothing, Stmts, no_stmts, stmt_and}
+use Rattle.qs_meaning.specs.Typed.{Conversion, unchanged, Order, as_written, exchanged, Expr, constant, value, pointer_to, member, called, stepped_after, unary, cast, binary, logical_and, logical_or, conditional, assigned, sequence, Lvalue, variable, object, Arguments, no_arguments, argument_and, Assignment, set, update, Effect, nothing, discard, assign, perform, copy, fill, in_order, Stmt, evaluate, block, branch, switch, case_label, default_label, while_loop, do_loop, for_loop, break, continue, return, return_nothing, Stmts, no_stmts, stmt_and}
 use Rattle.qs_meaning.specs.States.{Next, Here, test, convert_by, conversion_then, pointer_at, Place, in_variable, in_object, read, write}
 
 -- ---- operations
@@ -117,6 +117,19 @@ pub record Targets : Type 0 where
 abbrev pub in_loop : Targets → (rest : Next) → Targets
 in_loop t rest = record { behind = rest; at_break = t.behind; at_continue = rest; at_return = t.at_return }
 
+-- the items of a switch (6.8.6.2p2, 6.8.6.3p2): `break` leads behind the switch, `continue` out of it
+abbrev pub in_switch : Targets → Targets
+in_switch t = record t { at_break = t.behind }
+
+-- 6.8.4.2p5: the labels that a value goes to
+abbrev pub is_case : (value : ℕ) → Stmt → Bool
+is_case n (case_label m) = m == n
+is_case n _ = false
+
+abbrev pub is_default : Stmt → Bool
+is_default default_label = true
+is_default _ = false
+
 -- so many turns at most
 abbrev pub turns : ℕ → (turn : Next → Next) → Next
 turns zero turn = λ v w. short
@@ -139,6 +152,13 @@ abbrev mutual
   statement (block ss) h t = statements ss h t
   -- 6.8.4.1
   statement (branch e a b) h t = condition e h (statement a h t) (statement b h t)
+  -- 6.8.4.2p4, p5: it goes on behind the `case` of the value, else behind `default`; where there is neither, none of its items is done
+  statement (switch c e ss) h t =
+      expression e h (λ x. conversion_then c x (λ y v w. given (as_integer y) (λ n.
+      behind_label (is_case n) ss h (in_switch t) (behind_label is_default ss h (in_switch t) t.behind) v w)))
+  -- 6.8.1p4: a label doesn't alter the flow of control
+  statement (case_label n) h t = t.behind
+  statement default_label h t = t.behind
   -- 6.8.5.1: a turn begins with the condition
   statement (while_loop e a) h t = turns h.turns (λ again. condition e h (statement a h (in_loop t again)) t.behind)
   -- 6.8.5.2: a turn begins with the body
@@ -158,3 +178,8 @@ abbrev mutual
   pub statements : Stmts → Here → Targets → Next
   statements no_stmts h t = t.behind
   statements (stmt_and s ss) h t = statement s h (record t { behind = statements ss h t })
+
+  -- the statements behind the first label that passes a test, or what is done without such a label
+  pub behind_label : (is_label : Stmt → Bool) → Stmts → Here → Targets → (without : Next) → Next
+  behind_label is_label no_stmts h t without = without
+  behind_label is_label (stmt_and s ss) h t without = if is_label s then statements ss h t else behind_label is_label ss h t without

@@ -89,7 +89,7 @@ CallsStayInRange =
 abbrev pub BodiesStayInRange : Type 0
 BodiesStayInRange =
     (u : TypedProgram) (turns depth first : ℕ) (g : Function) (ss : Stmts) (start : Memory) (t r : Targets)
-    → program_fits u ≡ true → stmts_fit (interface_of u) g true ss ≡ true → TargetsInRange ◌≡◌ (interface_of u) g first start t r
+    → program_fits u ≡ true → stmts_fit (interface_of u) g true true ss ≡ true → TargetsInRange ◌≡◌ (interface_of u) g first start t r
     → NextInRange ◌≡◌ (interface_of u) g first start (statements ss (in_call u turns depth first) t) (statements ss (in_call u turns depth first) r)
 
 -- what a run leaves is sound too, so another one may start from it

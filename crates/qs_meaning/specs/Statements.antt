@@ -5,10 +5,12 @@ use Rattle.qs_syntax.specs.Trees.{ExprTree, InitialiserTree, VariableTree, Start
 use Rattle.qs_syntax.specs.Trees as trees
 use Rattle.qs_types.specs.Types.{TypeTree}
 use Rattle.qs_memory.specs.Partial.{◌>>=◌}
+use Rattle.qs_types.specs.Constants.{constant_of}
+use Rattle.qs_types.specs.Conversions.{promoted}
 use Rattle.qs_types.specs.Contexts.{inner_scope, inside_loop}
 use Rattle.qs_types.specs.Declarations.{variable_declared}
-use Rattle.qs_types.specs.StatementRules.{after_variable, after_statement, for_context}
-use Rattle.qs_meaning.specs.Typed.{Expr, Effect, nothing, in_order, Stmt, evaluate, block, branch, while_loop, do_loop, for_loop, break, continue, return, return_nothing, Stmts, no_stmts, stmt_and}
+use Rattle.qs_types.specs.StatementRules.{after_variable, switch_context, after_statement, for_context}
+use Rattle.qs_meaning.specs.Typed.{Expr, Effect, nothing, in_order, Stmt, evaluate, block, branch, switch, case_label, default_label, while_loop, do_loop, for_loop, break, continue, return, return_nothing, Stmts, no_stmts, stmt_and}
 use Rattle.qs_meaning.specs.Conversions.{conversion}
 use Rattle.qs_meaning.specs.Forms.{lvalue, type_in_use, value_in_use, effect_in_use}
 use Rattle.qs_meaning.specs.Names.{Scope, within, local_lvalue}
@@ -64,11 +66,21 @@ abbrev pub return_typed : Scope → Option ExprTree → Option Stmt
 return_typed s None = Some return_nothing
 return_typed s (Some e) = s.context.result >>= λ t. typed s e >>= λ a. Some (return (conversion (type_in_use a) t) (value_in_use a))
 
+-- ---- labels (6.8.1)
+
+-- 6.8.4.2p5: the value is converted to the promoted type of the operand. That is int or unsigned, and in both it is the same 32 bits.
+abbrev pub case_typed : Scope → ExprTree → Option Stmt
+case_typed s e = constant_of s.context e >>= λ n. Some (case_label n)
+
 -- ---- statements
 
 -- 6.8.2, 6.8.4p3, 6.8.5p5: blocks, the statements that are parts of others, and a `for` are scopes
 abbrev pub inner : Scope → Scope
 inner s = within s (inner_scope s.context)
+
+-- 6.8.4p3, 6.8.4.2p2: what stands in a switch with this operand
+abbrev pub in_switch : Scope → ExprTree → Scope
+in_switch s operand = within s (switch_context s.context operand)
 
 abbrev pub loop_body : Scope → Scope
 loop_body s = within s (inside_loop (inner_scope s.context))
@@ -85,6 +97,12 @@ abbrev mutual
   statement_typed s (trees.empty node) = Some (evaluate nothing)
   statement_typed s (trees.branch node e t r) =
       condition_typed s e >>= λ c. statement_typed (inner s) t >>= λ a. else_typed s r >>= λ b. Some (branch c a b)
+  -- 6.8.4.2p5: the integer promotions are performed on the operand
+  statement_typed s (trees.switch node e ts) =
+      typed s e >>= λ a. statements_typed (in_switch s e) ts >>= λ b.
+      Some (switch (conversion (type_in_use a) (promoted (type_in_use a))) (value_in_use a) b)
+  statement_typed s (trees.case_label node e) = case_typed s e
+  statement_typed s (trees.default_label node) = Some default_label
   statement_typed s (trees.while_loop node e t) = condition_typed s e >>= λ c. statement_typed (loop_body s) t >>= λ b. Some (while_loop c b)
   statement_typed s (trees.do_loop node t e) = statement_typed (loop_body s) t >>= λ b. condition_typed s e >>= λ c. Some (do_loop b c)
   statement_typed s (trees.for_loop node start e u t) =

@@ -12,12 +12,13 @@ use Rattle.qs_memory.specs.declared.operation.UnaryOperation.{UnaryOperation}
 use Rattle.qs_memory.specs.declared.operation.UnaryOperation.TheVariants as unaries
 use Rattle.qs_memory.specs.declared.operation.BinaryOperation.{BinaryOperation}
 use Rattle.qs_memory.specs.declared.operation.BinaryOperation.TheVariants as binaries
-use Rattle.qs_memory.specs.Values.{Pointer, null, Value, integer, address, width, as_pointer}
+use Rattle.qs_memory.specs.Values.{Pointer, null, Value, integer, address, width, as_integer, as_pointer}
 use Rattle.qs_memory.specs.Integers.{reading, divides, is_count}
 use Rattle.qs_memory.specs.Memory.{Memory, store}
 use Rattle.qs_memory.specs.Pointers.{directed, member_of, truth}
 use Rattle.qs_memory.specs.Operations.{apply_unary, apply_binary}
 use Rattle.qs_memory.specs.Accesses.{MayWrite, IsMoved, AreInOneBlock, AreComparable}
+use Rattle.qs_memory.specs.Scalars.{is_promoted}
 use Rattle.qs_memory.specs.Operands.{unary_takes, binary_takes}
 use Rattle.qs_calls.specs.Starts.{IsOf}
 use Rattle.qs_meaning.specs.Typed.{Conversion}
@@ -96,6 +97,8 @@ pub record StepsOnTypesAreDefined : Type 0 where
   pub null_constant : (c : Conversion) (s : Scalar) → conversion_fits c s true ≡ true → IsSome (convert_by c (integer 0))
   -- 6.3.2.3: a value of a pointer's type is a pointer
   pub pointer : (m : Memory) (x : Value) → IsOf m scalars.Pointer x → IsSome (as_pointer x)
+  -- 6.8.4.2p1: the promoted operand of a switch is an integer
+  pub operand : (s : Scalar) (m : Memory) (x : Value) → is_promoted s ≡ true → IsOf m s x → IsSome (as_integer x)
   pub unary :
       (op : UnaryOperation) (s : Scalar) (m : Memory) (x : Value) → unary_takes op s ≡ true → IsOf m s x
       → IsSome (apply_unary op m x) ↔ UnaryNeeds op m x

@@ -95,6 +95,11 @@ mutual
     evaluate : Effect → Stmt
     block : Stmts → Stmt
     branch : Expr → Stmt → Stmt → Stmt
+    -- 6.8.4.2: the operand is converted to its promoted type; the labels of a switch stand among its items, each before what it labels
+    switch : Conversion → Expr → (items : Stmts) → Stmt
+    -- 6.8.4.2p5: the value is converted to the promoted type of the operand
+    case_label : (value : ℕ) → Stmt
+    default_label : Stmt
     while_loop : Expr → Stmt → Stmt
     do_loop : Stmt → Expr → Stmt
     -- 6.8.5.3: without a condition it goes on for ever

@@ -9,10 +9,14 @@ use Rattle.qs_types.specs.Expressions.{type_of}
 use Rattle.qs_types.specs.Placed.{is_one_of, addressed}
 use Rattle.qs_meaning.specs.Forms.{Form}
 use Rattle.qs_meaning.specs.Names.{Scope}
+use Rattle.qs_types.specs.Conversions.{promoted}
+use Rattle.qs_types.specs.StatementRules.{case_value}
 use Rattle.qs_types.specs.UnitRules.{function_faults}
 use Rattle.qs_types.specs.WellTyped.{WellTyped}
 use Rattle.qs_meaning.specs.Expressions.{typed}
-use Rattle.qs_meaning.specs.Typed.{Function, TypedProgram}
+use Rattle.qs_memory.specs.Partial.{◌>>=◌}
+use Rattle.qs_meaning.specs.Statements.{case_typed}
+use Rattle.qs_meaning.specs.Typed.{case_label, Function, TypedProgram}
 use Rattle.qs_meaning.specs.Units.{function_typed, typed_of}
 
 -- what holds of every scope of a well typed unit: arrays and structs are placed, variables and members have complete types, and structs
@@ -64,3 +68,12 @@ FunctionsTyped =
 -- a well typed unit has a typed tree
 abbrev pub UnitsTyped : Type 0
 UnitsTyped = (unit : UnitTree) → WellTyped unit → (u : TypedProgram) × (typed_of unit ≡ Some u)
+
+-- ---- labels
+
+-- a `case` of a switch has in the typed tree the value by which the rules on labels go: that of its expression, converted to the promoted type
+-- of the operand
+abbrev pub CasesHaveValues : Type 0
+CasesHaveValues =
+    (s : Scope) (t : TypeTree) (e : ExprTree) → s.context.labels.operand ≡ Some (promoted t)
+    → case_typed s e ≡ (case_value s.context e >>= λ n. Some (case_label n))

@@ -5,7 +5,8 @@ ghost use Rattle.qs_meaning.specs.Laws.{CallsFollow, MainGrows, RunsGrow};
 ghost use Rattle.qs_meaning.specs.Ranges.{BodiesStayInRange, CallsStayInRange, ExpressionsHaveTypes};
 ghost use Rattle.qs_meaning.specs.Ranges.{InitialMemoryIsReady, RunsLeaveSound};
 ghost use Rattle.qs_meaning.specs.StepLaws.{StepsOnTypesAreDefined};
-ghost use Rattle.qs_meaning.specs.TypedLaws.{FunctionsTyped, TypedWhereTypes, UnitsTyped};
+ghost use Rattle.qs_meaning.specs.TypedLaws.{CasesHaveValues, FunctionsTyped, TypedWhereTypes};
+ghost use Rattle.qs_meaning.specs.TypedLaws.{UnitsTyped};
 ghost use Rattle.qs_meaning.specs.Whole.{TypedDataIsWhole};
 
 /// A greater bound keeps the run of a function that has ended or is undefined, and goes on from
@@ -27,6 +28,11 @@ pub fn calls_follow()
 /// Where an expression has a type, it has a typed tree.
 pub fn typed_where_types()
     ensures { TypedWhereTypes }
+{}
+
+/// A `case` has in the typed tree the value by which the rules on labels go.
+pub fn cases_have_values()
+    ensures { CasesHaveValues }
 {}
 
 /// A function that breaks no rule has a typed tree.

@@ -11,7 +11,7 @@ use Rattle.qs_types.specs.GivenFunctions.{putchar_name}
 use Rattle.qs_types.specs.Contexts.{Context, Entity, local_variable, file_variable, function, given, entity_of, inner_scope, inside_loop}
 use Rattle.qs_types.specs.Declarations.{variable_declared}
 use Rattle.qs_types.specs.InitialiserRules.{option_part}
-use Rattle.qs_types.specs.StatementRules.{after_variable, after_statement, for_context}
+use Rattle.qs_types.specs.StatementRules.{after_variable, switch_context, after_statement, for_context}
 use Rattle.qs_types.specs.Placed.{local_node, named_local, operand_of, addressed, shape_addressed, all_addressed}
 use Rattle.qs_types.specs.Sites.{Site, site, sites, option_sites, declarator_sites, initialiser_sites, elements_sites, option_initialiser_sites, variable_sites, variables_sites, start_sites, statement_sites, statements_sites, else_sites}
 use Rattle.qs_types.specs.declared.referent.Referent.TheVariants as referents
@@ -179,6 +179,16 @@ mutual
       both (site_same k c e (first.0.1, first.1.1))
       (both (statement_same k (inner_scope c) t (left k ts to rs ro rest)) (else_same k c o (right k ts to rs ro rest)) ∙ sym (split (statement_sites (inner_scope c) t) (else_sites c o)))
       ∙ sym (split (site c e) (statement_sites (inner_scope c) t ++ else_sites c o))
+  statement_same k c (trees.switch node e ts) n =
+      let te = declared_type node None ∷ of_nodes (its_type c) e in
+      let re = no_referent node None ∷ of_nodes (its_referent c) e in
+      let items = of_statements declared_type its_type (switch_context c e) ts in
+      let names = of_statements no_referent its_referent (switch_context c e) ts in
+      let first = left k te items re names n in
+      both (site_same k c e (first.0.1, first.1.1)) (statements_same k (switch_context c e) ts (right k te items re names n))
+      ∙ sym (split (site c e) (statements_sites (switch_context c e) ts))
+  statement_same k c (trees.case_label node e) n = site_same k c e (n.0.1, n.1.1)
+  statement_same k c (trees.default_label node) n = refl
   statement_same k c (trees.while_loop node e t) n =
       let te = declared_type node None ∷ of_nodes (its_type c) e in
       let re = no_referent node None ∷ of_nodes (its_referent c) e in

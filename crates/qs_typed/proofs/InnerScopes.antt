@@ -1,9 +1,9 @@
 -- What is known agrees with the scopes inside a scope with which it agrees.
-use Rattle.std.proofs.Common.{◌≡◌, ℕ, Bool, true, false, List, Option, Some, if◌then◌else◌}
+use Rattle.std.proofs.Common.{◌≡◌, ℕ, Bool, true, false, List, Option, Some, None, if◌then◌else◌}
 use Rattle.qs_base.specs.Bytes.{same_bytes}
 use Rattle.qs_types.specs.Types.{TypeTree}
 use Rattle.qs_types.specs.GivenFunctions.{Signature}
-use Rattle.qs_types.specs.Contexts.{Entity, local_variable, function, given, entity_of, with_name, inner_scope, inside_loop}
+use Rattle.qs_types.specs.Contexts.{Entity, local_variable, function, given, entity_of, with_name, inner_scope, inside_loop, inside_switch, with_case, with_default}
 use Rattle.qs_meaning.specs.Names.{Scope, within}
 use Rattle.qs_typed_nodes.specs.Known.{Known}
 use Rattle.qs_typed_nodes.specs.Agrees.{Agrees, GivenAreGiven}
@@ -27,6 +27,46 @@ inner_inside k s h = record {
 
 pub loop_inside : (k : Known) (s : Scope) → Inside k s → Inside k (within s (inside_loop s.context))
 loop_inside k s h = record {
+  agrees = record {
+    structs = h.agrees.structs;
+    bases = h.agrees.bases;
+    headers = h.agrees.headers;
+    locals = h.agrees.locals;
+    statics = h.agrees.statics;
+    functions = h.agrees.functions;
+  };
+  given = h.given;
+}
+
+pub switch_inside : (k : Known) (s : Scope) (operand : Option TypeTree) → Inside k s → Inside k (within s (inside_switch operand s.context))
+switch_inside k s operand h = record {
+  agrees = record {
+    structs = h.agrees.structs;
+    bases = h.agrees.bases;
+    headers = h.agrees.headers;
+    locals = h.agrees.locals;
+    statics = h.agrees.statics;
+    functions = h.agrees.functions;
+  };
+  given = h.given;
+}
+
+pub case_inside : (k : Known) (s : Scope) (value : Option ℕ) → Inside k s → Inside k (within s (with_case s.context value))
+case_inside k s None h = h
+case_inside k s (Some n) h = record {
+  agrees = record {
+    structs = h.agrees.structs;
+    bases = h.agrees.bases;
+    headers = h.agrees.headers;
+    locals = h.agrees.locals;
+    statics = h.agrees.statics;
+    functions = h.agrees.functions;
+  };
+  given = h.given;
+}
+
+pub default_inside : (k : Known) (s : Scope) → Inside k s → Inside k (within s (with_default s.context))
+default_inside k s h = record {
   agrees = record {
     structs = h.agrees.structs;
     bases = h.agrees.bases;

@@ -1,24 +1,24 @@
 -- Lists by the numbers of nodes have what is known at each place of a body.
-use Rattle.std.proofs.Common.{false, List, [], ◌∷◌, ◌++◌, Option, Some, None}
+use Rattle.std.proofs.Common.{ℕ, false, List, [], ◌∷◌, ◌++◌, Option, Some, None}
 use Rattle.qs_syntax.specs.declared.nodes.Node.{Node}
 use Rattle.qs_syntax.specs.declared.types.Base.{Base}
 use Rattle.qs_syntax.specs.Trees.{ExprTree, InitialiserTree, Initialisers, no_initialisers, initialiser_and, VariableTree, StartTree, no_start, start_expression, start_declaration, StmtTree, Stmts, no_stmts, stmt_and, Else, no_else, else_by}
 use Rattle.qs_syntax.specs.Trees as trees
 use Rattle.qs_types.specs.Types.{TypeTree}
-use Rattle.qs_types.specs.Contexts.{Context, inner_scope, inside_loop}
+use Rattle.qs_types.specs.Contexts.{Context, inner_scope, inside_loop, with_case}
 use Rattle.qs_types.specs.Declarations.{variable_declared}
 use Rattle.qs_types.specs.Expressions.{type_of}
-use Rattle.qs_types.specs.StatementRules.{after_variable, after_variables, after_statement, after_start, for_context}
+use Rattle.qs_types.specs.StatementRules.{after_variable, after_variables, operand_type, switch_context, case_value, after_statement, after_start, for_context}
 use Rattle.qs_types.specs.declared.referent.Referent.{Referent}
 use Rattle.qs_types.specs.Referents.{referent_of}
 use Rattle.qs_typing_findings.specs.ExprFindings.{node_of, of_nodes}
 use Rattle.qs_typing_findings.specs.UnitNodes.{of_option, of_declarator, of_initialiser, of_initialisers, of_option_initialiser, of_variables, of_start, of_statement, of_statements, of_else}
 use Rattle.qs_meaning.specs.Names.{Scope, within}
-use Rattle.qs_meaning.specs.Statements.{behind_variable, inner, loop_body, in_for}
+use Rattle.qs_meaning.specs.Statements.{behind_variable, inner, in_switch, loop_body, in_for}
 use Rattle.qs_typed_nodes.specs.Known.{Known}
 use Rattle.qs_typed_nodes.specs.Agrees.{ResultIs, ExpressionAt, OptionAt, InitialiserAt, InitialisersAt, InitialAt, VariablesAt, StartAt, StatementAt, StatementsAt, ElseAt}
 use Rattle.qs_typed.proofs.KnownNodes.{Each, each_left, each_right, StandsIn, at_node, nodes_known}
-use Rattle.qs_typed.proofs.InnerScopes.{Inside, inner_inside, loop_inside, local_inside}
+use Rattle.qs_typed.proofs.InnerScopes.{Inside, inner_inside, loop_inside, switch_inside, case_inside, default_inside, local_inside}
 
 -- ---- each node with its type, and with what its name stands for
 
@@ -125,12 +125,18 @@ for_inside k s h start = start_inside k (inner s) (inner_inside k s h) start
 loop_in : (k : Known) (s : Scope) → Inside k s → Inside k (loop_body s)
 loop_in k s h = loop_inside k (inner s) (inner_inside k s h)
 
+switch_in : (k : Known) (s : Scope) → Inside k s → (e : ExprTree) → Inside k (in_switch s e)
+switch_in k s h e = switch_inside k (inner s) (operand_type (type_of s.context e)) (inner_inside k s h)
+
 statement_inside : (k : Known) (s : Scope) → Inside k s → (t : StmtTree) → Inside k (within s (after_statement s.context t))
 statement_inside k s h (trees.empty node) = h
 statement_inside k s h (trees.expression node e) = h
 statement_inside k s h (trees.declaration d) = variables_inside k s h d.base d.variables
 statement_inside k s h (trees.block ss) = h
 statement_inside k s h (trees.branch node e t r) = h
+statement_inside k s h (trees.switch node e ts) = h
+statement_inside k s h (trees.case_label node e) = case_inside k s (case_value s.context e) h
+statement_inside k s h (trees.default_label node) = default_inside k s h
 statement_inside k s h (trees.while_loop node e t) = h
 statement_inside k s h (trees.do_loop node t e) = h
 statement_inside k s h (trees.for_loop node start e u t) = h
@@ -149,12 +155,19 @@ start_result k c no_start r = r
 start_result k c (start_expression e) r = r
 start_result k c (start_declaration d) r = variables_result k c d.base d.variables r
 
+case_result : (k : Known) (c : Context) (value : Option ℕ) → ResultIs k c → ResultIs k (with_case c value)
+case_result k c None r = r
+case_result k c (Some n) r = r
+
 statement_result : (k : Known) (c : Context) (t : StmtTree) → ResultIs k c → ResultIs k (after_statement c t)
 statement_result k c (trees.empty node) r = r
 statement_result k c (trees.expression node e) r = r
 statement_result k c (trees.declaration d) r = variables_result k c d.base d.variables r
 statement_result k c (trees.block ss) r = r
 statement_result k c (trees.branch node e t o) r = r
+statement_result k c (trees.switch node e ts) r = r
+statement_result k c (trees.case_label node e) r = case_result k c (case_value c e) r
+statement_result k c (trees.default_label node) r = r
 statement_result k c (trees.while_loop node e t) r = r
 statement_result k c (trees.do_loop node t e) r = r
 statement_result k c (trees.for_loop node start e u t) r = r
@@ -189,6 +202,16 @@ mutual
           else_at k s h r o (right k tt_ (of_else declared_type its_type c o) rt_ (of_else no_referent its_referent c o) rest),
         ),
       )
+  statement_at k s h r (trees.switch node e ts) n =
+      let c = s.context in
+      let te = declared_type node None ∷ of_nodes (its_type c) e in
+      let re = no_referent node None ∷ of_nodes (its_referent c) e in
+      let items = of_statements declared_type its_type (switch_context c e) ts in
+      let names = of_statements no_referent its_referent (switch_context c e) ts in
+      let first = left k te items re names n in
+      (expression_at k s h e (first.0.1, first.1.1), statements_at k (in_switch s e) (switch_in k s h e) r ts (right k te items re names n))
+  statement_at k s h r (trees.case_label node e) n = h.agrees
+  statement_at k s h r (trees.default_label node) n = tt
   statement_at k s h r (trees.while_loop node e t) n =
       let c = s.context in
       let te = declared_type node None ∷ of_nodes (its_type c) e in

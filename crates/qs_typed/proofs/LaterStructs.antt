@@ -40,7 +40,7 @@ layouts_kept old new h (suc d) (suc e) le k =
     (λ ms. then_kept (extents_by (layouts_within d old) (member_types ms)) (extents_by (layouts_within e new) (member_types ms)) (λ es. Some (struct_layout es)) (λ es. Some (struct_layout es))
     (extents_kept (layouts_within d old) (layouts_within e new) (layouts_kept old new h d e less) (member_types ms)) (λ es. is_kept (Some (struct_layout es))))
 
-layout_kept : (old new : Structs) → IsLater old new → (k : ℕ) → Keeps (layout_of old k) (layout_of new k)
+pub layout_kept : (old new : Structs) → IsLater old new → (k : ℕ) → Keeps (layout_of old k) (layout_of new k)
 layout_kept old new h k = layouts_kept old new h.members (defined_structs old) (defined_structs new) h.many k
 
 size_kept : (old new : Structs) → IsLater old new → (t : TypeTree) → Keeps (size_of old t) (size_of new t)
@@ -58,10 +58,10 @@ sized_kept l m h (array t n) =
     then_kept (sized_by l t) (sized_by m t) (λ e. extent_within (array_extent e n)) (λ e. extent_within (array_extent e n)) (sized_kept l m h t) (λ e. is_kept (extent_within (array_extent e n)))
 sized_kept l m h (struct k) = then_kept (l k) (m k) (λ x. extent_within (struct_extent x)) (λ x. extent_within (struct_extent x)) (h k) (λ x. is_kept (extent_within (struct_extent x)))
 
-pub size_within_kept : (old new : Structs) → IsLater old new → (t : TypeTree) → Keeps (size_within old t) (size_within new t)
+pub size_within_kept : (old new : Structs) → ((k : ℕ) → Keeps (layout_of old k) (layout_of new k)) → (t : TypeTree) → Keeps (size_within old t) (size_within new t)
 size_within_kept old new h t =
     then_kept (sized_by (layout_of old) t) (sized_by (layout_of new) t) (λ (e : Extent). Some e.size) (λ (e : Extent). Some e.size)
-    (sized_kept (layout_of old) (layout_of new) (layout_kept old new h) t) (λ e. is_kept (Some e.size))
+    (sized_kept (layout_of old) (layout_of new) h t) (λ e. is_kept (Some e.size))
 
 -- ---- blanks
 

@@ -6,25 +6,28 @@ use Rattle.qs_syntax.specs.Trees.{ExprTree, InitialiserTree, Initialisers, no_in
 use Rattle.qs_syntax.specs.Trees as trees
 use Rattle.qs_types.specs.Types.{TypeTree, int, unsigned, char, void, pointer, array, struct, is_array, MemberTree, Structs}
 use Rattle.qs_types.specs.Layout.{size_of, struct_of}
+use Rattle.qs_types.specs.Constants.{value_of, constant_of}
+use Rattle.qs_types.specs.Contexts.{context_with}
 use Rattle.qs_types.specs.Declarations.{text_of, variable_declared}
 use Rattle.qs_types.specs.InitialiserRules.{member_at, part_type}
 use Rattle.qs_types.specs.StatementRules.{after_statement}
-use Rattle.qs_meaning.specs.Typed.{Expr, member, object, copy, fill, in_order, evaluate, block, branch, while_loop, do_loop, for_loop, return, stmt_and}
+use Rattle.qs_meaning.specs.Typed.{Expr, member, object, copy, fill, in_order, evaluate, block, branch, switch, case_label, while_loop, do_loop, for_loop, return, stmt_and}
 use Rattle.qs_meaning.specs.Conversions.{scalar_of, conversion}
 use Rattle.qs_meaning.specs.Names.{Scope, within, local_lvalue}
 use Rattle.qs_meaning.specs.Forms.{lvalue, TypedExpr, address_of, effect_of, effect_in_use, type_in_use, value_in_use}
 use Rattle.qs_meaning.specs.Expressions.{typed, plain_form}
 use Rattle.qs_meaning.specs.Blanks.{blank_of}
 use Rattle.qs_meaning.specs.Initialisers.{part_offset, Piece, pieces, pieces_from, text_room, text_set, assigned_set, piece_set, pieces_set, filled, object_set, local_set}
-use Rattle.qs_meaning.specs.Statements.{initialised, behind_variable, variable_typed, variables_typed, effect_typed, option_effect, condition_typed, option_condition, start_typed, return_typed, inner, loop_body, in_for, statement_typed, statements_typed, else_typed}
+use Rattle.qs_meaning.specs.Statements.{initialised, behind_variable, variable_typed, variables_typed, effect_typed, option_effect, condition_typed, option_condition, start_typed, return_typed, case_typed, inner, in_switch, loop_body, in_for, statement_typed, statements_typed, else_typed}
 use Rattle.qs_typed_forms.specs.Between.{between}
 use Rattle.qs_typed_nodes.specs.Known.{Known, at_number, known}
-use Rattle.qs_typed_nodes.specs.KnownStatements.{text_set_known, assigned_set_known, piece_set_known, pieces_set_known, filled_known, object_set_known, local_set_known, initialised_known, variable_known, variables_known, effect_known, option_effect_known, condition_known, option_condition_known, start_known, return_known, statement_known, statements_known, else_known}
+use Rattle.qs_typed_nodes.specs.KnownStatements.{text_set_known, assigned_set_known, piece_set_known, pieces_set_known, filled_known, object_set_known, local_set_known, initialised_known, variable_known, variables_known, effect_known, option_effect_known, condition_known, option_condition_known, start_known, return_known, promotion, case_known, statement_known, statements_known, else_known}
 use Rattle.std.proofs.lemmas.Option.{same_Some}
 use Rattle.qs_typed_nodes.specs.Agrees.{Keeps, Grown, Agrees, ExpressionAt, OptionAt, InitialiserAt, InitialisersAt, ResultIs, InitialAt, VariableAt, VariablesAt, StartAt, StatementAt, StatementsAt, ElseAt}
 use Rattle.qs_typed_nodes.proofs.KeptAgreement.{kept, kept_by, is_kept, equal_kept, choice_kept}
 use Rattle.qs_typed_nodes.proofs.KeptAgreement as options
 use Rattle.qs_typed.proofs.UnitStructs.{size_kept, offset_kept, plain_kept}
+use Rattle.qs_typed.proofs.ValuesKept.{constant_kept}
 use Rattle.qs_typed.proofs.TiedExpressions.{typed_kept}
 
 at_kept : (k : Known) (s : Scope) (e : ExprTree) → ExpressionAt k s e → Keeps (typed s e) (known k e)
@@ -201,6 +204,11 @@ return_kept k s (Some e) r h = go s.context.result r
         (λ a. equal_kept (Some (return (conversion (type_in_use a) t) (value_in_use a))) (Some (return (between (scalar_of (type_in_use a)) k.result) (value_in_use a)))
         (ap (λ c. Some (return (between (scalar_of (type_in_use a)) c) (value_in_use a))) (r t refl)))
 
+case_kept : (k : Known) (s : Scope) → Agrees k s → (e : ExprTree) → Keeps (case_typed s e) (case_known k e)
+case_kept k s g e =
+    kept (constant_of s.context e) (value_of (context_with k.structs k.type_names) e) (λ n. Some (case_label n)) (λ n. Some (case_label n))
+    (constant_kept s.context (context_with k.structs k.type_names) (record { layouts = g.structs.layouts; bases = g.bases }) e) (λ n. is_kept (Some (case_label n)))
+
 -- ---- statements
 
 mutual
@@ -216,6 +224,13 @@ mutual
       kept (condition_typed s e) (condition_known k e) _ _ (condition_kept k s e h.0)
       (λ c. kept (statement_typed (inner s) t) (statement_known k t) _ _ (statement_kept k (inner s) t h.1.0)
       (λ a. kept (else_typed s r) (else_known k r) (λ b. Some (branch c a b)) (λ b. Some (branch c a b)) (else_kept k s r h.1.1) (λ b. is_kept (Some (branch c a b)))))
+  statement_kept k s (trees.switch node e ts) h =
+      kept (typed s e) (known k e) _ _ (at_kept k s e h.0)
+      (λ a. kept (statements_typed (in_switch s e) ts) (statements_known k ts) (λ b. Some (switch (promotion (type_in_use a)) (value_in_use a) b))
+      (λ b. Some (switch (promotion (type_in_use a)) (value_in_use a) b)) (statements_kept k (in_switch s e) ts h.1)
+      (λ b. is_kept (Some (switch (promotion (type_in_use a)) (value_in_use a) b))))
+  statement_kept k s (trees.case_label node e) h = case_kept k s h e
+  statement_kept k s (trees.default_label node) h = λ x e. e
   statement_kept k s (trees.while_loop node e t) h =
       kept (condition_typed s e) (condition_known k e) _ _ (condition_kept k s e h.0)
       (λ c. kept (statement_typed (loop_body s) t) (statement_known k t) (λ b. Some (while_loop c b)) (λ b. Some (while_loop c b)) (statement_kept k (loop_body s) t h.1)

@@ -41,7 +41,7 @@ use Rattle.qs_typed.proofs.KnownNodes.{at_node, nodes_known}
 use Rattle.qs_typed.proofs.KnownBodies.{Stand, left, right, declared_type, no_referent, its_type, its_referent}
 use Rattle.qs_typed.proofs.PieceParts.{InInitialiser, InInitialisers, InPieces, pieces_in}
 use Rattle.qs_typed.proofs.UnitContexts.{GoesTo, further, unit_goes}
-use Rattle.qs_typed.proofs.ValuesKept.{constant_kept}
+use Rattle.qs_typed.proofs.ValuesKept.{types_stay, constant_kept}
 use Rattle.qs_typed.proofs.UnitWhole.{numbered_types, numbered_referents, start_goes}
 
 -- the nodes of an expression are known; what is known of no function is left open
@@ -130,7 +130,7 @@ pointer_kept t s h e k =
 integer_kept : (t : Tables) (s : Scope) → Knows t s → (type : TypeTree) (e : ExprTree)
     → Keeps (constant_of s.context e >>= λ n. Some (bytes_of (width (scalar_of type)) n)) (integer_cells_known t type e)
 integer_kept t s h type e =
-    kept (constant_of s.context e) (value_of (context_with t.structs t.type_names) e) _ _ (constant_kept s.context (context_with t.structs t.type_names) h.goes e)
+    kept (constant_of s.context e) (value_of (context_with t.structs t.type_names) e) _ _ (constant_kept s.context (context_with t.structs t.type_names) (types_stay s.context (context_with t.structs t.type_names) h.goes) e)
     (λ n. is_kept (Some (bytes_of (width (scalar_of type)) n)))
 
 cells_kept : (t : Tables) (s : Scope) → Knows t s → (type : TypeTree) (e : ExprTree) → InExpression t s e → Keeps (constant_cells s type e) (constant_cells_known t type e)

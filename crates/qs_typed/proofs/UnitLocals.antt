@@ -7,7 +7,7 @@ use Rattle.qs_syntax.specs.Trees as trees
 use Rattle.qs_types.specs.Types.{TypeTree}
 use Rattle.qs_types.specs.Contexts.{Context, inner_scope, inside_loop}
 use Rattle.qs_types.specs.Declarations.{variable_declared, parameter_declared}
-use Rattle.qs_types.specs.StatementRules.{after_variable, after_statement, for_context}
+use Rattle.qs_types.specs.StatementRules.{after_variable, switch_context, after_statement, for_context}
 use Rattle.qs_types.specs.UnitRules.{after_parameter, parameter_types}
 use Rattle.qs_types.specs.Placed.{Local, parameters_locals, variables_locals, start_locals, statement_locals, statements_locals, else_locals}
 use Rattle.qs_typing_findings.specs.ExprFindings.{of_nodes}
@@ -66,6 +66,9 @@ mutual
   statement_same c (trees.block ss) = statements_same (inner_scope c) ss
   statement_same c (trees.branch node e t o) =
       joined (statement_locals (inner_scope c) t) (else_locals c o) (statement_nodes t) (else_nodes o) (statement_same (inner_scope c) t) (else_same c o)
+  statement_same c (trees.switch node e ss) = statements_same (switch_context c e) ss
+  statement_same c (trees.case_label node e) = refl
+  statement_same c (trees.default_label node) = refl
   statement_same c (trees.while_loop node e t) = statement_same (inside_loop (inner_scope c)) t
   statement_same c (trees.do_loop node t e) = statement_same (inside_loop (inner_scope c)) t
   statement_same c (trees.for_loop node start e u t) =
@@ -117,6 +120,11 @@ mutual
       let rest = each_right (StandsIn k.types) te (ts ++ to) n in
       both_at k (statement_locals (inner_scope c) t) (else_locals c o) (statement_at k (inner_scope c) t (each_left (StandsIn k.types) ts to rest))
       (else_at k c o (each_right (StandsIn k.types) ts to rest))
+  statement_at k c (trees.switch node e ss) n =
+      statements_at k (switch_context c e) ss
+      (each_right (StandsIn k.types) (declared_type node None ∷ of_nodes (its_type c) e) (of_statements declared_type its_type (switch_context c e) ss) n)
+  statement_at k c (trees.case_label node e) n = tt
+  statement_at k c (trees.default_label node) n = tt
   statement_at k c (trees.while_loop node e t) n =
       statement_at k (inside_loop (inner_scope c)) t
       (each_right (StandsIn k.types) (declared_type node None ∷ of_nodes (its_type c) e) (of_statement declared_type its_type (inside_loop (inner_scope c)) t) n)

@@ -8,7 +8,7 @@ use Rattle.qs_syntax.specs.declared.types.TypeName.{TypeName}
 use Rattle.qs_syntax.specs.Trees.{ExprTree, expr, ShapeTree}
 use Rattle.qs_syntax.specs.Trees as trees
 use Rattle.qs_types.specs.Types.{TypeTree, unsigned, is_integer, same_type}
-use Rattle.qs_types.specs.Layout.{and_then, size_within}
+use Rattle.qs_types.specs.Layout.{and_then, layout_of, size_within}
 use Rattle.qs_types.specs.Contexts.{Context, base_type, is_type_in, named_type, pointers, starred}
 use Rattle.qs_types.specs.Rules.{type_unless}
 use Rattle.qs_types.specs.Expressions.{Judged, type_of, shape_judged, cast_judged}
@@ -16,10 +16,18 @@ use Rattle.qs_types.specs.Conversions.{decayed}
 use Rattle.qs_types.specs.Constants.{is_built, is_unsigned, is_unsigned_shape, is_unsigned_base, is_unsigned_by, converted, truth, is_true, combined, decides, unary_value, value_of, shape_value, constant_of}
 use Rattle.qs_typed_nodes.specs.Agrees.{Keeps}
 use Rattle.qs_typed_nodes.proofs.KeptAgreement.{nothing, then_kept, is_kept, equal_kept, choice_kept}
-use Rattle.qs_typed.proofs.LaterStructs.{size_within_kept}
+use Rattle.qs_typed.proofs.LaterStructs.{layout_kept, size_within_kept}
 use Rattle.qs_typed.proofs.UnitContexts.{GoesTo}
 
-named_kept : (c d : Context) → GoesTo c d → (n : TypeName) → Keeps (named_type c n) (named_type d n)
+-- structs that are laid out stay so, and names of types what they stand for
+pub record TypesStay (c d : Context) : Type 0 where
+  pub layouts : (k : ℕ) → Keeps (layout_of c.structs k) (layout_of d.structs k)
+  pub bases : (b : Base) → Keeps (base_type c b) (base_type d b)
+
+pub types_stay : (c d : Context) → GoesTo c d → TypesStay c d
+types_stay c d g = record { layouts = layout_kept c.structs d.structs g.structs; bases = g.bases }
+
+named_kept : (c d : Context) → TypesStay c d → (n : TypeName) → Keeps (named_type c n) (named_type d n)
 named_kept c d g n =
     then_kept (base_type c n.base) (base_type d n.base) (λ t. Some (pointers n.stars t)) (λ t. Some (pointers n.stars t)) (g.bases n.base)
     (λ t. is_kept (Some (pointers n.stars t)))
@@ -65,7 +73,7 @@ cast_known : (c : Context) (n : TypeName) (a : ExprTree) (o : Option TypeTree) �
 cast_known c n a None h = never h
 cast_known c n a (Some t) h = base_known (base_type c n.base) n.stars (known_by (is_some (named_type c n)) _ _ h)
 
-unsigned_base : (c d : Context) → GoesTo c d → (b : Base) → is_some (base_type c b) ≡ true → is_unsigned_base c.type_names b ≡ is_unsigned_base d.type_names b
+unsigned_base : (c d : Context) → TypesStay c d → (b : Base) → is_some (base_type c b) ≡ true → is_unsigned_base c.type_names b ≡ is_unsigned_base d.type_names b
 unsigned_base c d g b h = go (base_type c b) refl h
   where
     go : (o : Option TypeTree) → base_type c b ≡ o → is_some o ≡ true → is_unsigned_base c.type_names b ≡ is_unsigned_base d.type_names b
@@ -73,10 +81,10 @@ unsigned_base c d g b h = go (base_type c b) refl h
     go (Some t) e h = ap (is_type_in (λ t. same_type t unsigned)) (e ∙ sym (g.bases b t e))
 
 mutual
-  unsigned_kept : (c d : Context) → GoesTo c d → (e : ExprTree) → IsTyped c e → is_unsigned c.type_names e ≡ is_unsigned d.type_names e
+  unsigned_kept : (c d : Context) → TypesStay c d → (e : ExprTree) → IsTyped c e → is_unsigned c.type_names e ≡ is_unsigned d.type_names e
   unsigned_kept c d g (expr node shape) h = shape_unsigned c d g shape h
 
-  shape_unsigned : (c d : Context) → GoesTo c d → (shape : ShapeTree) → is_some (judged_type (shape_judged c shape)) ≡ true
+  shape_unsigned : (c d : Context) → TypesStay c d → (shape : ShapeTree) → is_some (judged_type (shape_judged c shape)) ≡ true
       → is_unsigned_shape c.type_names shape ≡ is_unsigned_shape d.type_names shape
   shape_unsigned c d g (trees.constant n u) h = refl
   shape_unsigned c d g (trees.text bytes) h = refl
@@ -107,10 +115,10 @@ combined_kept : (operator : BinaryOperator) (p q r s : Bool) (x y : ℕ) → p �
 combined_kept operator p q r s x y e f = equal_kept (combined operator p q x y) (combined operator r s x y) (λ i. combined operator (sym e i) (sym f i) x y)
 
 mutual
-  pub value_kept : (c d : Context) → GoesTo c d → (e : ExprTree) → IsTyped c e → Keeps (value_of c e) (value_of d e)
+  pub value_kept : (c d : Context) → TypesStay c d → (e : ExprTree) → IsTyped c e → Keeps (value_of c e) (value_of d e)
   value_kept c d g (expr node shape) h = shape_kept c d g shape h
 
-  shape_kept : (c d : Context) → GoesTo c d → (shape : ShapeTree) → is_some (judged_type (shape_judged c shape)) ≡ true → Keeps (shape_value c shape) (shape_value d shape)
+  shape_kept : (c d : Context) → TypesStay c d → (shape : ShapeTree) → is_some (judged_type (shape_judged c shape)) ≡ true → Keeps (shape_value c shape) (shape_value d shape)
   shape_kept c d g (trees.constant n u) h = λ x e. e
   shape_kept c d g (trees.text bytes) h = λ x e. e
   shape_kept c d g (trees.name x) h = λ x e. e
@@ -121,7 +129,7 @@ mutual
       then_kept (named_type c n) (named_type d n) (λ t. and_then (value_of c a) (λ x. Some (converted t x))) (λ t. and_then (value_of d a) (λ x. Some (converted t x))) (named_kept c d g n)
       (λ t. then_kept (value_of c a) (value_of d a) (λ x. Some (converted t x)) (λ x. Some (converted t x)) (value_kept c d g a (one_typed (type_of c a) _ h)) (λ x. is_kept (Some (converted t x))))
   shape_kept c d g (trees.sizeof_type n) h =
-      then_kept (named_type c n) (named_type d n) (size_within c.structs) (size_within d.structs) (named_kept c d g n) (size_within_kept c.structs d.structs g.structs)
+      then_kept (named_type c n) (named_type d n) (size_within c.structs) (size_within d.structs) (named_kept c d g n) (size_within_kept c.structs d.structs g.layouts)
   shape_kept c d g (trees.sizeof_expr a) h = λ x e. e
   shape_kept c d g (trees.binary operator a b) h =
       let p = two_typed (type_of c a) (type_of c b) _ h in
@@ -139,7 +147,7 @@ mutual
   shape_kept c d g (trees.member access a x) h = λ y e. e
   shape_kept c d g (trees.call f es) h = λ x e. e
 
-pub constant_kept : (c d : Context) → GoesTo c d → (e : ExprTree) → Keeps (constant_of c e) (value_of d e)
+pub constant_kept : (c d : Context) → TypesStay c d → (e : ExprTree) → Keeps (constant_of c e) (value_of d e)
 constant_kept c d g e = go (type_of c e) (λ h. value_kept c d g e h)
   where
     by : (b : Bool) → Keeps (value_of c e) (value_of d e) → Keeps (if b then value_of c e else None) (value_of d e)

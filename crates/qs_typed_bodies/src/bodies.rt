@@ -1,22 +1,30 @@
 // The typed tree of statements (C11 6.8).
+ghost use Rattle.std.specs.Prelude.{◌≡◌};
+ghost use Rattle.qs_meaning.specs.Conversions.{scalar_of};
+ghost use Rattle.qs_types.specs.Conversions.{decayed, promoted};
+ghost use Rattle.qs_types.specs.TypeOf.{type_tree};
 ghost use Rattle.qs_syntax.specs.TreeOf.{else_tree, expr_tree, option_tree, start_tree, stmt_tree};
 ghost use Rattle.qs_syntax.specs.TreeOf.{stmts_tree};
 ghost use Rattle.qs_typed_nodes.specs.KnownOf.{Knows};
-ghost use Rattle.qs_typed_nodes.specs.KnownStatements.{condition_known, effect_known, else_known};
+ghost use Rattle.qs_typed_nodes.specs.KnownStatements.{case_known, condition_known, effect_known};
+ghost use Rattle.qs_typed_nodes.specs.KnownStatements.{else_known, promotion};
 ghost use Rattle.qs_typed_nodes.specs.KnownStatements.{option_condition_known, option_effect_known};
 ghost use Rattle.qs_typed_nodes.specs.KnownStatements.{return_known, start_known, statement_known};
 ghost use Rattle.qs_typed_nodes.specs.KnownStatements.{statements_known};
 ghost use Rattle.qs_typed_forms.specs.Results.{listed};
-ghost use Rattle.qs_typed_trees.specs.TreeOf.{effect_tree, expression_tree, option_expression};
+ghost use Rattle.qs_typed_trees.specs.TreeOf.{conversion_tree, effect_tree, expression_tree};
+ghost use Rattle.qs_typed_trees.specs.TreeOf.{option_expression};
 ghost use Rattle.qs_typed_trees.specs.TreeOf.{statement_tree, statements_tree};
 
 use crate::initialisers::variables;
 use crate::typed::typed;
 use qs_base::NoMemory;
+use qs_memory::Scalar;
 use qs_syntax::{Expr, Start, Stmt};
 use qs_typed_forms::{between, effect_in_use, value_in_use};
 use qs_typed_nodes::Known;
-use qs_typed_trees::{Effect, Expression, Statement, scalar_of};
+use qs_typed_trees::{Conversion, Effect, Expression, Statement, scalar_of};
+use qs_types::CType;
 use std::alloc::Global;
 
 // ---- expressions in statements
@@ -89,6 +97,41 @@ fn returned(alloc: Global, k: &Known<'_>, e: &Option<Expr>) -> Result<Statement,
     }
 }
 
+// ---- switches
+
+/// The scalar type of an operand that is promoted (C11 6.3.1.1p2).
+fn promoted_scalar(t: &CType) -> Scalar
+    ensures { result ≡ scalar_of (promoted (decayed (type_tree t.now))) }
+{
+    match t {
+        CType::Int => Scalar::Int,
+        CType::Unsigned => Scalar::Unsigned,
+        CType::Char => Scalar::Int,
+        CType::Void => Scalar::Int,
+        CType::Pointer(_) => Scalar::Int,
+        CType::Array(_, _) => Scalar::Int,
+        CType::Struct(_) => Scalar::Int,
+    }
+}
+
+/// The operand of a switch is promoted (C11 6.8.4.2p5).
+#[tactic(auto, using(qs_typed_operators::proofs::OperationTypes::scalar_in_use))]
+fn promotion(t: &CType) -> Conversion
+    ensures { conversion_tree result ≡ promotion (decayed (type_tree t.now)) }
+{
+    between(scalar_of(t), promoted_scalar(t))
+}
+
+/// The value of a label, converted to the promoted type of the operand (C11 6.8.4.2p5).
+fn case(k: &Known<'_>, e: &Expr) -> Result<Statement, NoMemory>
+    ensures { Knows statement_tree case_known k.now (expr_tree e.now) result }
+{
+    match qs_types::value(k.env, k.type_names, e) {
+        None => Err(NoMemory),
+        Some(n) => Ok(Statement::Case(n)),
+    }
+}
+
 // ---- statements
 
 /// A statement.
@@ -125,6 +168,19 @@ fn statement(alloc: Global, k: &Known<'_>, s: &Stmt) -> Result<Statement, NoMemo
                 otherwise: Box::new(alloc, b)?,
             })
         }
+        Stmt::Switch { operand, items, .. } => {
+            let a = typed(alloc, k, operand)?;
+            let promotion = promotion(a.of);
+            let operand = value_in_use(alloc, a)?;
+            let items = statements(alloc, k, items)?;
+            Ok(Statement::Switch {
+                promotion,
+                operand,
+                items,
+            })
+        }
+        Stmt::Case(_, e) => case(k, e),
+        Stmt::Default(_) => Ok(Statement::Default),
         Stmt::While {
             condition: c,
             body,

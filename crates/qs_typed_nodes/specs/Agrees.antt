@@ -15,7 +15,7 @@ use Rattle.qs_types.specs.Referents.{referent_of}
 use Rattle.qs_meaning.specs.Conversions.{scalar_of}
 use Rattle.qs_meaning.specs.Names.{Scope, within}
 use Rattle.qs_meaning.specs.Blanks.{blank_of}
-use Rattle.qs_meaning.specs.Statements.{behind_variable, inner, loop_body, in_for}
+use Rattle.qs_meaning.specs.Statements.{behind_variable, inner, in_switch, loop_body, in_for}
 use Rattle.qs_typed_nodes.specs.Known.{Known, at_number, parameters_of}
 
 -- what has this value has it still
@@ -118,6 +118,9 @@ abbrev mutual
   StatementAt k s (trees.declaration d) = VariablesAt k s d.base d.variables
   StatementAt k s (trees.block ss) = StatementsAt k (inner s) ss
   StatementAt k s (trees.branch node e t r) = ExpressionAt k s e × (StatementAt k (inner s) t × ElseAt k s r)
+  StatementAt k s (trees.switch node e ts) = ExpressionAt k s e × StatementsAt k (in_switch s e) ts
+  StatementAt k s (trees.case_label node e) = Agrees k s
+  StatementAt k s (trees.default_label node) = Unit {0}
   StatementAt k s (trees.while_loop node e t) = ExpressionAt k s e × StatementAt k (loop_body s) t
   StatementAt k s (trees.do_loop node t e) = StatementAt k (loop_body s) t × ExpressionAt k s e
   StatementAt k s (trees.for_loop node start e u t) =

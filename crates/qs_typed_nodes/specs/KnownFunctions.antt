@@ -37,6 +37,9 @@ abbrev mutual
   statement_nodes (trees.declaration d) = variables_nodes d.variables
   statement_nodes (trees.block ss) = statements_nodes ss
   statement_nodes (trees.branch node e s r) = statement_nodes s ++ else_nodes r
+  statement_nodes (trees.switch node e ss) = statements_nodes ss
+  statement_nodes (trees.case_label node e) = []
+  statement_nodes (trees.default_label node) = []
   statement_nodes (trees.while_loop node e s) = statement_nodes s
   statement_nodes (trees.do_loop node s e) = statement_nodes s
   statement_nodes (trees.for_loop node start e u s) = start_nodes start ++ statement_nodes s

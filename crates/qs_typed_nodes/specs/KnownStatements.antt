@@ -3,9 +3,12 @@ use Rattle.std.specs.Prelude.{ℕ, List, [], ◌∷◌, Option, Some, None, if�
 use Rattle.qs_syntax.specs.Trees.{ExprTree, InitialiserTree, VariableTree, StartTree, no_start, start_expression, start_declaration, StmtTree, Else, no_else, else_by}
 use Rattle.qs_syntax.specs.Trees as trees
 use Rattle.qs_types.specs.Types.{TypeTree, is_array}
+use Rattle.qs_types.specs.Conversions.{promoted}
+use Rattle.qs_types.specs.Contexts.{context_with}
+use Rattle.qs_types.specs.Constants.{value_of}
 use Rattle.qs_types.specs.Declarations.{text_of}
 use Rattle.qs_memory.specs.Partial.{◌>>=◌}
-use Rattle.qs_meaning.specs.Typed.{Expr, member, object, Effect, nothing, copy, fill, in_order, Stmt, evaluate, block, branch, while_loop, do_loop, for_loop, break, continue, return, return_nothing, Stmts, no_stmts, stmt_and}
+use Rattle.qs_meaning.specs.Typed.{Conversion, Expr, member, object, Effect, nothing, copy, fill, in_order, Stmt, evaluate, block, branch, switch, case_label, default_label, while_loop, do_loop, for_loop, break, continue, return, return_nothing, Stmts, no_stmts, stmt_and}
 use Rattle.qs_meaning.specs.Conversions.{scalar_of}
 use Rattle.qs_meaning.specs.Names.{local_lvalue}
 use Rattle.qs_meaning.specs.Forms.{lvalue, TypedExpr, address_of, effect_of, effect_in_use, type_in_use, value_in_use}
@@ -85,6 +88,16 @@ abbrev pub return_known : Known → Option ExprTree → Option Stmt
 return_known k None = Some return_nothing
 return_known k (Some e) = known k e >>= λ a. Some (return (between (scalar_of (type_in_use a)) k.result) (value_in_use a))
 
+-- ---- switches (6.8.4.2)
+
+-- 6.8.4.2p5: the operand is promoted
+abbrev pub promotion : TypeTree → Conversion
+promotion t = between (scalar_of t) (scalar_of (promoted t))
+
+-- 6.8.4.2p5: the value of a constant expression, which may speak of all structs and names of types of the unit
+abbrev pub case_known : Known → ExprTree → Option Stmt
+case_known k e = value_of (context_with k.structs k.type_names) e >>= λ n. Some (case_label n)
+
 -- ---- statements
 
 abbrev mutual
@@ -95,6 +108,10 @@ abbrev mutual
   statement_known k (trees.empty node) = Some (evaluate nothing)
   statement_known k (trees.branch node e t r) =
       condition_known k e >>= λ c. statement_known k t >>= λ a. else_known k r >>= λ b. Some (branch c a b)
+  statement_known k (trees.switch node e ts) =
+      known k e >>= λ a. statements_known k ts >>= λ b. Some (switch (promotion (type_in_use a)) (value_in_use a) b)
+  statement_known k (trees.case_label node e) = case_known k e
+  statement_known k (trees.default_label node) = Some default_label
   statement_known k (trees.while_loop node e t) = condition_known k e >>= λ c. statement_known k t >>= λ b. Some (while_loop c b)
   statement_known k (trees.do_loop node t e) = statement_known k t >>= λ b. condition_known k e >>= λ c. Some (do_loop b c)
   statement_known k (trees.for_loop node start e u t) =

@@ -122,6 +122,9 @@ abbrev pub statement_step : Statement-F trees.Stmt → trees.Stmt
 statement_step (Statement-F.Evaluate a) = trees.evaluate (effect_tree a)
 statement_step (Statement-F.Block ss) = trees.block (statements_of ss.items)
 statement_step (Statement-F.Branch e a b) = trees.branch (expression_tree e) a.value b.value
+statement_step (Statement-F.Switch promotion operand ss) = trees.switch (conversion_tree promotion) (expression_tree operand) (statements_of ss.items)
+statement_step (Statement-F.Case n) = trees.case_label n
+statement_step Statement-F.Default = trees.default_label
 statement_step (Statement-F.WhileLoop e a) = trees.while_loop (expression_tree e) a.value
 statement_step (Statement-F.DoLoop a e) = trees.do_loop a.value (expression_tree e)
 statement_step (Statement-F.ForLoop start condition step body) = trees.for_loop (effect_tree start) (option_expression condition) (effect_tree step) body.value

@@ -18,6 +18,19 @@ pub enum Statement {
         /// what is done where it is not met; without `else` it evaluates nothing
         otherwise: Box<Statement>,
     },
+    /// `switch`; its labels stand among its items (C11 6.8.4.2)
+    Switch {
+        /// what happens to the operand's value: it is promoted
+        promotion: Conversion,
+        /// the operand
+        operand: Expression,
+        /// what stands between the braces
+        items: Vec<Statement>,
+    },
+    /// `case`, with its value converted to the promoted type of the operand (C11 6.8.4.2p5)
+    Case(u32),
+    /// `default`
+    Default,
     /// `while` (C11 6.8.5.1)
     WhileLoop(Expression, Box<Statement>),
     /// `do` (C11 6.8.5.2)
@@ -55,6 +68,13 @@ impl Drop for Statement {
                 then: _,
                 otherwise: _,
             } => {}
+            Statement::Switch {
+                promotion: _,
+                operand: _,
+                items: _,
+            } => {}
+            Statement::Case(_) => {}
+            Statement::Default => {}
             Statement::WhileLoop(_, _) => {}
             Statement::DoLoop(_, _) => {}
             Statement::ForLoop {

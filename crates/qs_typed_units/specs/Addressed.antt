@@ -95,6 +95,9 @@ abbrev mutual
   statement_addressed names (trees.declaration d) = variables_addressed names d.variables
   statement_addressed names (trees.block ss) = statements_addressed names ss
   statement_addressed names (trees.branch node e s r) = addressed_known names e ++ (statement_addressed names s ++ else_addressed names r)
+  statement_addressed names (trees.switch node e ss) = addressed_known names e ++ statements_addressed names ss
+  statement_addressed names (trees.case_label node e) = addressed_known names e
+  statement_addressed names (trees.default_label node) = []
   statement_addressed names (trees.while_loop node e s) = addressed_known names e ++ statement_addressed names s
   statement_addressed names (trees.do_loop node s e) = statement_addressed names s ++ addressed_known names e
   statement_addressed names (trees.for_loop node start e u s) =

@@ -284,6 +284,16 @@ fn statement_addressed(
             statement_addressed(names, then, nodes)?;
             else_addressed(names, otherwise, nodes)
         }
+        Stmt::Switch {
+            node: _,
+            operand,
+            items,
+        } => {
+            addressed_known(names, operand, nodes)?;
+            statements_addressed(names, items, nodes)
+        }
+        Stmt::Case(_, e) => addressed_known(names, e, nodes),
+        Stmt::Default(_) => Ok(()),
         Stmt::While {
             node: _,
             condition,

@@ -67,6 +67,9 @@ fn statement_nodes(s: &Stmt, nodes: &mut Vec<u32>) -> Result<(), NoMemory>
             statement_nodes(then, nodes)?;
             else_nodes(otherwise, nodes)
         }
+        Stmt::Switch { items, .. } => statements_nodes(items, nodes),
+        Stmt::Case(_, _) => Ok(()),
+        Stmt::Default(_) => Ok(()),
         Stmt::While { body, .. } => statement_nodes(body, nodes),
         Stmt::Do { body, .. } => statement_nodes(body, nodes),
         Stmt::For { start, body, .. } => {

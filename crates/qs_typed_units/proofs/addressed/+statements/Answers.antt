@@ -1,5 +1,5 @@
 use Rattle.std.proofs.Common.{◌≡◌, ℕ, List, ◌++◌, Result, Ok, Err, OnOk, ap, ◌∙◌, append_assoc}
-use Rattle.qs_typed_units.proofs.Variants.{branch_tree, do_loop_tree, for_loop_tree, while_loop_tree}
+use Rattle.qs_typed_units.proofs.Variants.{branch_tree, do_loop_tree, for_loop_tree, switch_tree, while_loop_tree}
 use Rattle.qs_typed_units.proofs.addressed.+statements.Goals as goal
 
 -- what is added first and what is added then, which may fail, are added together
@@ -19,6 +19,12 @@ statement_addressed-returns-in_ok-addressed_known-in-While t c =
     rw (c.in-While.is, while_loop_tree, ← c.deref-in-While.ensures)
     (then_added c.args.nodes.now.items c.addressed_known-in-While.new.nodes.items c.statement_addressed-in-While.new.nodes.items _ _ c.statement_addressed-in-While.result
     c.in_ok-addressed_known-in-While.ensures c.statement_addressed-in-While.ensures)
+
+pub statement_addressed-returns-in_ok-addressed_known-in-Switch : goal.statement_addressed-returns-in_ok-addressed_known-in-Switch
+statement_addressed-returns-in_ok-addressed_known-in-Switch t c =
+    rw (c.in-Switch.is, switch_tree, ← c.deref-in-Switch.ensures.value)
+    (then_added c.args.nodes.now.items c.addressed_known-in-Switch.new.nodes.items c.statements_addressed-in-Switch.new.nodes.items _ _ c.statements_addressed-in-Switch.result
+    c.in_ok-addressed_known-in-Switch.ensures c.statements_addressed-in-Switch.ensures)
 
 pub statement_addressed-returns-in_ok-statement_addressed-in-Do : goal.statement_addressed-returns-in_ok-statement_addressed-in-Do
 statement_addressed-returns-in_ok-statement_addressed-in-Do t c =

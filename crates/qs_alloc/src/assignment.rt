@@ -2,7 +2,7 @@
 ghost use Rattle.std.specs.Prelude.{◌≡◌, ◌<◌, ◌^◌, length, IfOk};
 ghost use Rattle.qs_tac.specs.Laws.{AreAccepted, ArePacked};
 ghost use Rattle.qs_tac.specs.TreeOf.{function_tree, function_trees};
-ghost use Rattle.qs_tac.specs.Places.{slots_from, all_slots, Accepted, HaveOwnSlots, Packed};
+ghost use Rattle.qs_tac.specs.Places.{slots_from, all_slots, Accepted, Packed};
 ghost use Rattle.qs_tac.specs.Places.{places_tree, places_trees};
 ghost use Rattle.qs_tac.specs.UnitTrees.{unit_tree};
 ghost use Rattle.qs_alloc.specs.LiveRanges.{NeededRows};
@@ -36,26 +36,6 @@ pub fn all_slots(alloc: Global, f: &TacFunction) -> Result<Places, NoMemory>
         at: own_slots(alloc, f.temporaries)?,
         needed: Vec::new(alloc),
     })
-}
-
-fn each_in_slots(alloc: Global, functions: &[TacFunction]) -> Result<Vec<Places>, NoMemory>
-    ensures { IfOk result (λ all. HaveOwnSlots functions.now all.items) }
-{
-    let mut all = Vec::new(alloc);
-    for f in functions {
-        all.push(all_slots(alloc, f)?)?;
-    }
-    Ok(all)
-}
-
-/// The places that `all_slots` answers for each function of the unit, by the functions' numbers.
-/// `verify_unit` accepts them.
-pub fn all_slots_unit(alloc: Global, unit: &TacUnit) -> Result<Vec<Places>, NoMemory>
-    ensures slots { IfOk result (λ all. HaveOwnSlots unit.now.functions.items all.items) }
-    ensures accepted { IfOk result (λ all. AreAccepted (unit_tree unit.now) (places_trees all.items)) }
-{
-    let places = each_in_slots(alloc, &unit.functions)?;
-    Ok(places)
 }
 
 // registers as far as registers are free, and else the slots of `all_slots`

@@ -12,5 +12,5 @@ mod rows;
 mod sharing;
 mod verification;
 
-pub use assignment::{all_slots, all_slots_unit, assign, assign_unit};
+pub use assignment::{all_slots, assign, assign_unit};
 pub use verification::{verify, verify_unit};

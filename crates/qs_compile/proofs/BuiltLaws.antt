@@ -26,7 +26,7 @@ use Rattle.qs_emit.specs.Relation.{data_end, function_at}
 use Rattle.qs_emit.specs.Images.{IsWithinLimits}
 use Rattle.qs_emit.proofs.DataBytes.{data_length}
 use Rattle.qs_emit.proofs.EmissionLaws.{data_fits, data_few}
-use Rattle.qs_tac.specs.Laws.{AreAccepted, ArePacked}
+use Rattle.qs_tac.specs.Laws.{ArePacked}
 use Rattle.qs_compile.specs.Units.{linear, set_of, IsWithinSizes, MainReturns}
 use Rattle.qs_compile.specs.Built.{IsBuiltFrom}
 use Rattle.qs_compile.specs.AgreesWithCore.{DoesAsCore}
@@ -105,6 +105,7 @@ module _ (u : CoreUnitTree) (image : Image) (m : IsMade u image) where
   built = record {
     places = m.parts.places;
     packed = m.parts.packed;
+    fits = m.parts.parts.free;
     names = m.parts.parts.records.names;
     parameters = m.parameters;
     unsigned = λ i. ap (λ (n : ℕ). n / 2 ^ i % 2 == 1) m.unsigned ∙ set_holds (main_types u) i;
@@ -153,37 +154,37 @@ module _ (u : CoreUnitTree) (image : Image) (m : IsMade u image) where
 
 -- code that is too long is the unit's
 pub code_passes :
-    (u : CoreUnitTree) (t : TacUnitTree) (ps : List PlacesTree) (items : List Item) (fault : BuildFault) → t ≡ linear u → AreAccepted t ps
+    (u : CoreUnitTree) (t : TacUnitTree) (ps : List PlacesTree) (items : List Item) (fault : BuildFault) → t ≡ linear u → ArePacked t ps
     → items ≡ selected t ps → IsCodeFault items fault → Passes u fault
-code_passes u t ps items NoMemory same accepted is h = tt
-code_passes u t ps items CodeTooLong same accepted is h = record {
+code_passes u t ps items NoMemory same packed is h = tt
+code_passes u t ps items CodeTooLong same packed is h = record {
   places = ps;
-  accepted = subst (λ (q : TacUnitTree). AreAccepted q ps) same accepted;
+  packed = subst (λ (q : TacUnitTree). ArePacked q ps) same packed;
   long = subst (λ (l : List Item). reached_words ≤ sum_by item_words l) (is ∙ ap (λ (q : TacUnitTree). selected q ps) same) h;
 }
-code_passes u t ps items TooManyFunctions same accepted is h = absurd h
-code_passes u t ps items NamesTooLong same accepted is h = absurd h
-code_passes u t ps items TooManyParameters same accepted is h = absurd h
-code_passes u t ps items FrameTooLarge same accepted is h = absurd h
-code_passes u t ps items DataTooLarge same accepted is h = absurd h
+code_passes u t ps items TooManyFunctions same packed is h = absurd h
+code_passes u t ps items NamesTooLong same packed is h = absurd h
+code_passes u t ps items TooManyParameters same packed is h = absurd h
+code_passes u t ps items FrameTooLarge same packed is h = absurd h
+code_passes u t ps items DataTooLarge same packed is h = absurd h
 
 -- no code is selected with the unit's values in these places
 refused :
-    (u : CoreUnitTree) (t : TacUnitTree) (ps : List PlacesTree) (fault : SelectionFault) → t ≡ linear u → AreAccepted t ps
+    (u : CoreUnitTree) (t : TacUnitTree) (ps : List PlacesTree) (fault : SelectionFault) → t ≡ linear u → ArePacked t ps
     → IsFault t ps fault → (fault ≡ selection.NoMemory → ⊥) → IsRefused u fault
-refused u t ps fault same accepted (inl none) other = absurd (other none)
-refused u t ps fault same accepted (inr is) other = record {
+refused u t ps fault same packed (inl none) other = absurd (other none)
+refused u t ps fault same packed (inr is) other = record {
   places = ps;
-  accepted = subst (λ (q : TacUnitTree). AreAccepted q ps) same accepted;
+  packed = subst (λ (q : TacUnitTree). ArePacked q ps) same packed;
   is = ap (λ (q : TacUnitTree). first_fault q ps) (sym same) ∙ is;
 }
 
 -- and so is the reason why no code is selected
 pub selection_passes :
-    (u : CoreUnitTree) (t : TacUnitTree) (ps : List PlacesTree) (fault : SelectionFault) → t ≡ linear u → AreAccepted t ps
+    (u : CoreUnitTree) (t : TacUnitTree) (ps : List PlacesTree) (fault : SelectionFault) → t ≡ linear u → ArePacked t ps
     → IsFault t ps fault → Passes u (fault_of fault)
-selection_passes u t ps selection.NoMemory same accepted h = tt
-selection_passes u t ps selection.NoRegister same accepted h = tt
-selection_passes u t ps selection.TooManyArguments same accepted h = refused u t ps selection.TooManyArguments same accepted h (λ e. cc)
-selection_passes u t ps selection.FrameTooLarge same accepted h = refused u t ps selection.FrameTooLarge same accepted h (λ e. cc)
-selection_passes u t ps selection.DataTooLarge same accepted h = refused u t ps selection.DataTooLarge same accepted h (λ e. cc)
+selection_passes u t ps selection.NoMemory same packed h = tt
+selection_passes u t ps selection.NoRegister same packed h = tt
+selection_passes u t ps selection.TooManyArguments same packed h = refused u t ps selection.TooManyArguments same packed h (λ e. cc)
+selection_passes u t ps selection.FrameTooLarge same packed h = refused u t ps selection.FrameTooLarge same packed h (λ e. cc)
+selection_passes u t ps selection.DataTooLarge same packed h = refused u t ps selection.DataTooLarge same packed h (λ e. cc)

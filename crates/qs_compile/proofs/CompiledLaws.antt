@@ -30,7 +30,7 @@ use Rattle.qs_tac.specs.Trees.{TacFunctionTree, TacUnitTree}
 use Rattle.qs_tac.specs.Places.{PlacesTree, no_places}
 use Rattle.qs_lower.specs.WordLaws.{lowered_function}
 use Rattle.qs_lower.proofs.UnitWords.{lowered_sizes_are_kept}
-use Rattle.qs_frames.specs.Layout.{total, kept, frame_cost, layout}
+use Rattle.qs_frames.specs.Layout.{total, kept, layout}
 use Rattle.qs_frames.proofs.FrameLaws.{frames_are_laid_out, no_more_is_kept}
 use Rattle.std.proofs.lemmas.Option.{slice_get_within}
 use Rattle.qs_emit.specs.Relation.{function_at}
@@ -118,8 +118,7 @@ needed_in (g ∷ fs) (suc i) f is = needed_in fs i f is
 
 frame_below : (g : TacFunctionTree) (p : PlacesTree) (bytes values : ℕ) → total g.blocks ≡ bytes → kept p ≤ values
     → (layout g p).cost ≤ frame_size bytes values
-unfolding frame_cost
-frame_below g p bytes values e le = omega (arith, e, le)
+frame_below g p bytes values e le = let bound = (frames_are_laid_out g p).bound in omega (arith, bound, e, le)
 
 module _ (unit : UnitTree) (u : CoreUnitTree) (image : Image) (read : IsRead unit) (well : WellTyped unit) (limits : IsWithinLimits unit) (is : core_of unit ≡ Some u) (built : IsBuiltFrom u image) where
   abbrev t : TacUnitTree

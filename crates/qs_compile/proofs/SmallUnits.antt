@@ -33,7 +33,7 @@ use Rattle.qs_compile.specs.Limits.{IsRefused, Passes}
 use Rattle.qs_compile.specs.Small.{most_block_bytes, most_values, IsSmall, SmallUnitsPassNoSize}
 use Rattle.qs_compile.specs.declared.fault.BuildFault.{BuildFault}
 use Rattle.qs_compile.specs.declared.fault.BuildFault.TheVariants.{NoMemory, TooManyFunctions, NamesTooLong, TooManyParameters, FrameTooLarge, DataTooLarge, CodeTooLong}
-use Rattle.qs_compile.proofs.FitLaws.{function_found, emittable}
+use Rattle.qs_compile.proofs.FitLaws.{function_found, accepted_of, emittable}
 
 -- ---- lists
 
@@ -113,7 +113,7 @@ module _ (u : CoreUnitTree) (fits : unit_fits u ≡ true) where
 
   module _ (small : IsSmall u) where
     none_refused : (fault : SelectionFault) → IsRefused u fault → ⊥
-    none_refused fault h = let both : None ≡ Some fault = sym (no_selection_fault small h.places h.accepted) ∙ h.is in cc
+    none_refused fault h = let both : None ≡ Some fault = sym (no_selection_fault small h.places (accepted_of t h.places h.packed)) ∙ h.is in cc
 
     pub passes_no_size : (fault : BuildFault) → Passes u fault → fault ≡ NoMemory
     passes_no_size NoMemory h = refl
@@ -122,7 +122,7 @@ module _ (u : CoreUnitTree) (fits : unit_fits u ≡ true) where
     passes_no_size TooManyParameters h = absurd (none_refused selection.TooManyArguments h)
     passes_no_size FrameTooLarge h = absurd (none_refused selection.FrameTooLarge h)
     passes_no_size DataTooLarge h = absurd (none_refused selection.DataTooLarge h)
-    passes_no_size CodeTooLong h = let short = code_is_short small h.places h.accepted in let long = h.long in absurd (omega (arith, long, short))
+    passes_no_size CodeTooLong h = let short = code_is_short small h.places (accepted_of t h.places h.packed) in let long = h.long in absurd (omega (arith, long, short))
 
 pub small_units_pass_no_size : SmallUnitsPassNoSize
 small_units_pass_no_size u fault fits small h = passes_no_size u fits small fault h

@@ -1,5 +1,5 @@
 -- An image that is built from a unit keeps to its form.
-use Rattle.std.proofs.Common.{◌≡◌, ◌≢◌, ℕ, zero, suc, ◌/◌, ◌^◌, ◌<◌, ◌≤◌, true, false, List, [], ◌∷◌, ◌++◌, length, map, Option, Some, None, refl, sym, ap, ◌∙◌, subst, arith, length-append}
+use Rattle.std.proofs.Common.{◌≡◌, ◌≢◌, ℕ, zero, suc, ◌/◌, ◌^◌, ◌-◌, ◌<◌, ◌≤◌, true, false, List, [], ◌∷◌, ◌++◌, length, map, Option, Some, None, refl, sym, ap, ◌∙◌, subst, arith, length-append}
 use Rattle.std.specs.Prelude.{◌&&◌, not, bytes_eq, codes, slice_index, slice_index_or, unwrap_or, All}
 use Rattle.std.specs.List.{slice_get, list_all}
 use Rattle.std.specs.Option.{option_map}
@@ -19,13 +19,16 @@ use Rattle.qs_asm.specs.Assembly.{label_offset}
 use Rattle.qs_image.specs.Image.{Image, FunctionRecord, joined_names, IsAddress, IsCost, IsWellFormed}
 use Rattle.qs_tac.specs.Trees.{TacUnitTree}
 use Rattle.qs_tac.specs.Places.{PlacesTree}
-use Rattle.qs_frames.specs.Layout.{total, kept}
-use Rattle.qs_frames.proofs.FrameLaws.{is_cost}
-use Rattle.qs_emit_selection.specs.Emission.{first_label, enter}
+use Rattle.qs_frames.proofs.FrameLaws.{frames_are_laid_out}
+use Rattle.qs_emit_selection.specs.Emission.{first_label, enter, save, take_parameters}
+use Rattle.qs_emit_selection.specs.Pieces.{move_stack}
+use Rattle.qs_emit_selection.specs.Operands.{frame_of, stored}
+use Rattle.qs_isa.specs.Registers.{a0}
 use Rattle.qs_emit_selection.specs.Data.{data_address}
 use Rattle.qs_emit_selection.specs.Units.{selected}
 use Rattle.qs_emit.specs.Machine.{instruction_at}
 use Rattle.qs_emit.specs.Surroundings.{Surroundings}
+use Rattle.qs_emit.proofs.Moves.{moved_by_some}
 use Rattle.qs_emit.specs.Relation.{Setup, IsEmittable, context, entry, place, cost_at, context_at}
 use Rattle.qs_emit.specs.Images.{record_at, no_record, IsWithinLimits}
 use Rattle.qs_emit.specs.Emitted.{AreSurroundings}
@@ -94,9 +97,6 @@ main_named u fits = by (slice_get u.functions u.main) refl (unit_parts u fits).m
         let front = (both (bytes_eq g.name main_name && is_type g.result_type _) _ h).0 in
         record { function = g; is = is; named = (bytes_eq-Decides g.name main_name).0 (both (bytes_eq g.name main_name) _ front).0 }
 
-some_behind : {A : Type 0} → (front : List A) (x : A) (back : List A) → 1 ≤ length (front ++ x ∷ back)
-some_behind front x back = let all = length-append front (x ∷ back) in omega (arith, all)
-
 -- ---- the image
 
 module _ (u : CoreUnitTree) (image : Image) (fits : unit_fits u ≡ true) (sizes : IsWithinSizes u image) (built : IsBuiltFrom u image) (limits : IsWithinLimits image) where
@@ -145,7 +145,11 @@ module _ (u : CoreUnitTree) (image : Image) (fits : unit_fits u ≡ true) (sizes
   -- ---- addresses
 
   enters_by_some : (f : ℕ) → 1 ≤ length (enter (context s f))
-  enters_by_some f = some_behind _ _ _
+  enters_by_some f =
+      let c = context s f in
+      let moved = moved_by_some (2 ^ 32 - (frame_of c).cost) in
+      let all = length-append (move_stack (2 ^ 32 - (frame_of c).cost)) (save (stored c) 0 ++ take_parameters c a0 c.function.parameters) in
+      omega (arith, moved, all)
 
   address_is : (f : ℕ) → f < length t.functions → IsAddress (length image.code) (record_at image f).address
   address_is f lt =
@@ -194,7 +198,7 @@ module _ (u : CoreUnitTree) (image : Image) (fits : unit_fits u ≡ true) (sizes
   cost_is : (f : ℕ) → f < length t.functions → IsCost (record_at image f).cost
   cost_is f lt =
       let c = context_at t ps f in
-      let cost = is_cost (kept c.places) (total c.function.blocks) in
+      let cost = frames_are_laid_out c.function c.places in
       let positive = cost.positive in
       let multiple = cost.multiple in
       let is = built.code.costs f lt in

@@ -10,6 +10,7 @@ use Rattle.qs_image.specs.Image.{Image}
 use Rattle.qs_tac.specs.Laws.{ArePacked}
 use Rattle.qs_tac.specs.Places.{PlacesTree}
 use Rattle.qs_machine.specs.Arguments.{is_unsigned}
+use Rattle.qs_emit_selection.specs.Limits.{UnitFits}
 use Rattle.qs_emit.specs.Images.{IsImageOf}
 use Rattle.qs_compile.specs.Units.{linear}
 
@@ -19,6 +20,8 @@ use Rattle.qs_compile.specs.Units.{linear}
 pub record IsBuiltFrom (u : CoreUnitTree) (image : Image) : Type 0 where
   pub places : List PlacesTree
   pub packed : ArePacked (linear u) places
+  -- with these places each frame, each list of arguments and the data are within their limits
+  pub fits : UnitFits (linear u) places
   pub names : map (λ f. f.name) image.functions ≡ map (λ f. f.name) u.functions
   pub parameters : image.parameters ≡ length (main_types u)
   pub unsigned : (i : ℕ) → is_unsigned image i ≡ is_type (slice_get (main_types u) i) scalars.Unsigned

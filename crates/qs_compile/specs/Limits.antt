@@ -8,7 +8,7 @@ use Rattle.qs_emit_selection.specs.Limits.{first_fault}
 use Rattle.qs_emit_selection.specs.Units.{selected}
 use Rattle.qs_emit_selection.specs.declared.fault.SelectionFault.{SelectionFault}
 use Rattle.qs_emit_selection.specs.declared.fault.SelectionFault.TheVariants as selection
-use Rattle.qs_tac.specs.Laws.{AreAccepted}
+use Rattle.qs_tac.specs.Laws.{ArePacked}
 use Rattle.qs_tac.specs.Places.{PlacesTree}
 use Rattle.qs_compile.specs.Units.{linear}
 use Rattle.qs_compile.specs.declared.fault.BuildFault.{BuildFault}
@@ -28,16 +28,16 @@ HasFewFunctions u = length u.functions ≤ most_functions
 abbrev pub HasShortNames : CoreUnitTree → Type 0
 HasShortNames u = name_bytes u ≤ most_name_bytes
 
--- with its values in some places that keep what it does, no code is selected for it, for this reason
+-- with its values in some places that are packed, no code is selected for it, for this reason
 pub record IsRefused (u : CoreUnitTree) (fault : SelectionFault) : Type 0 where
   pub places : List PlacesTree
-  pub accepted : AreAccepted (linear u) places
+  pub packed : ArePacked (linear u) places
   pub is : first_fault (linear u) places ≡ Some fault
 
 -- its code for some such places has too many words
 pub record IsTooLong (u : CoreUnitTree) : Type 0 where
   pub places : List PlacesTree
-  pub accepted : AreAccepted (linear u) places
+  pub packed : ArePacked (linear u) places
   pub long : reached_words ≤ sum_by item_words (selected (linear u) places)
 
 -- the unit passes the size that the fault names; memory may be wanting for any

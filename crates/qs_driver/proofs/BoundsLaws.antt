@@ -91,7 +91,7 @@ pub bytes_are : (s : CertifiedSource) (image : Image) (args : List ℤ) (bytes :
 bytes_are s image args bytes is = ap if_finite (bounds_are_needs s.core.main s.proofs (costs_in image.functions) args bytes is)
 
 -- the image of a source's core is built from it
-built_from : (unit : UnitTree) (u : CoreUnitTree) (image : Image) → core_of unit ≡ Some u → IsCompiled unit image → IsBuiltFrom u image
+pub built_from : (unit : UnitTree) (u : CoreUnitTree) (image : Image) → core_of unit ≡ Some u → IsCompiled unit image → IsBuiltFrom u image
 built_from unit u image is c = subst (λ (x : CoreUnitTree). IsBuiltFrom x image) (same_Some c.core u (sym c.core_is ∙ is)) c.built
 
 -- the core of a certified source fits, and main runs in it as in the source's typed tree

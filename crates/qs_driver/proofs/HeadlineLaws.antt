@@ -37,7 +37,8 @@ use Rattle.qs_driver.specs.commands.Build as meant
 use Rattle.qs_driver.specs.commands.Bound.{bound_words, bound, to_make, HasBound, IsDueToBound}
 use Rattle.qs_driver.specs.commands.Bound as bound_meant
 use Rattle.qs_driver.specs.Headline.{PrintsBound, BoundPrintsIt, IsDefined, EndsSo, ExitsSo, RunsAsSource, FromItsBound, HoldsItsImage, IsPlain, IsAccepted, BuildsAndAccepts, Headline}
-use Rattle.qs_driver.proofs.BoundsLaws.{image_takes}
+use Rattle.qs_driver.proofs.BoundsLaws.{image_takes, core_is, built_from}
+use Rattle.qs_driver.proofs.CostLines.{AreSmall, lines_tell_costs, costs_are_small}
 use Rattle.qs_driver.proofs.OneSource.{HoldsSource, source_held, one_held, held_before, names_of_one}
 
 -- ---- a refusal is not done
@@ -104,6 +105,9 @@ was_put t before after result done (inr l) = elim l.written [
 -- ---- the bound that is printed
 
 module _ (c : CertifyWords) (f : Files) (s : CertifiedSource) (image : Image) (held : HoldsSource c f s) (is : IsImageOf s image) where
+  small : (made : Image) → IsImageOf s made → AreSmall made.functions
+  small made of = costs_are_small s.core made (built_from s.unit s.core made (core_is held.text held.file s held.is) of.compiled)
+
   -- what `bound` has found is the image's
   same_bound : (args : List ℤ) (v w : DevicesView) (due : Due) → IsTrue v.store.told → AreAsBefore c f v.store.files → (h : HasBound (bound_words c.source c.proof args) v.store w.store due) → ArePut due.steps (streams_of v) (streams_of w) → PrintsBound s image args v w
   same_bound args v w due told same h put =
@@ -119,9 +123,12 @@ module _ (c : CertifyWords) (f : Files) (s : CertifiedSource) (image : Image) (h
       record {
         arguments = subst (λ (x : CertifiedSource). AreArguments x.core args) one made.arguments;
         other = h.image;
-        names = names_of_one c f made.source s h.image image there held made.makes.image_of is;
+        image_of = subst (λ (x : CertifiedSource). IsImageOf x h.image) one made.makes.image_of;
         printed = λ told_out. put_on_out text (streams_of v) (streams_of w) was told_out ∙ ap (λ (x : List ℕ). v.out.written ++ x) text_is;
-        same = λ costs. ap (λ (cs : List ℕ). bound_by s cs args) costs;
+        same = λ lines.
+            ap (λ (cs : List ℕ). bound_by s cs args)
+            (lines_tell_costs h.image.functions image.functions (small h.image (subst (λ (x : CertifiedSource). IsImageOf x h.image) one made.makes.image_of)) (small image is)
+            (names_of_one c f made.source s h.image image there held made.makes.image_of is) lines);
       }
 
   due_bound : (args : List ℤ) (v w : DevicesView) (due : Due) → IsTrue v.store.told → AreAsBefore c f v.store.files → IsDueToBound (bound_words c.source c.proof args) v.store w.store due → due.status ≡ Done → ArePut due.steps (streams_of v) (streams_of w) → PrintsBound s image args v w

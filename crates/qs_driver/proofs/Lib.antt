@@ -9,6 +9,7 @@ pub mod CertifiedLaws
 pub mod CertifiedFollows
 pub mod CertifiedRefusals
 pub mod OneSource
+pub mod CostLines
 pub mod MadeLaws
 pub mod MadeFollows
 pub mod HeadlineLaws

@@ -1,5 +1,5 @@
 -- What is promised of `build`, said of a call alone: the words, and the devices before it and after it.
-use Rattle.std.specs.Prelude.{◌≡◌, ◌≢◌, ◌⊎◌, ◌↔◌, ℕ, ◌≤◌, ℤ, List, ◌++◌, map, IsTrue, Option, Some, None}
+use Rattle.std.specs.Prelude.{◌≡◌, ◌≢◌, ◌⊎◌, ◌↔◌, ℕ, ◌≤◌, ℤ, List, ◌++◌, IsTrue, Option, Some, None}
 use Rattle.qs_cli.specs.Commands.{meaning, Build, Bound}
 use Rattle.qs_core.specs.CallGraph.{IsWithoutRecursion}
 use Rattle.qs_meaning.specs.Typed.{TypedProgram}
@@ -25,7 +25,7 @@ use Rattle.qs_driver_session.specs.Devices.{DevicesView}
 use Rattle.qs_driver_session.specs.Promises.{Promises, NoneFailed}
 use Rattle.qs_driver_session.specs.declared.status.Status.{Status}
 use Rattle.qs_driver_session.specs.declared.status.Status.TheVariants.{Done, NoMemory}
-use Rattle.qs_driver.specs.Bounds.{bound_by, bytes_by, costs_in, seen_runs}
+use Rattle.qs_driver.specs.Bounds.{IsImageOf, bound_by, bytes_by, costs_in, seen_runs}
 use Rattle.qs_driver.specs.Certified.{CertifyWords, CertifiedSource, AreAsBefore, ReadsCertified, OfCore}
 use Rattle.qs_driver.specs.Tool.{task}
 use Rattle.qs_driver.specs.commands.Build.{build_words, inputs, IsGood}
@@ -37,19 +37,19 @@ pub record PrintsBound (s : CertifiedSource) (image : Image) (args : List ℤ)
     (before after : DevicesView) : Type 0 where
   -- the arguments are main's
   pub arguments : AreArguments s.core args
-  -- the image that it made for this, which has the functions of the one that `build` wrote
+  -- the image that it made for this, of the same source
   pub other : Image
-  pub names : map (λ f. f.name) other.functions ≡ map (λ f. f.name) image.functions
-  -- the cost lines of that image, and then the bound by these costs
+  pub image_of : IsImageOf s other
+  -- the cost lines of that image, and then the bound by its costs
   pub printed :
       IsTrue after.out.told
       → after.out.written
       ≡ before.out.written
       ++ (cost_lines other.functions
       ++ bound_line (shown_of (bound_by s (costs_in other.functions) args)))
-  -- where these are the costs that `build` printed, it is the bound of the image that `build` wrote
+  -- where these are the lines that `build` printed, it is the bound of the image that `build` wrote
   pub same :
-      costs_in other.functions ≡ costs_in image.functions
+      cost_lines other.functions ≡ cost_lines image.functions
       → bound_by s (costs_in other.functions) args ≡ bound_by s (costs_in image.functions) args
 
 -- each such call does so

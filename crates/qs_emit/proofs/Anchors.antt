@@ -23,7 +23,6 @@ use Rattle.qs_tac.specs.declared.operands.Operand.TheVariants.{Temporary, Intege
 use Rattle.qs_tac.specs.declared.operands.Index.{Index}
 use Rattle.qs_tac.specs.declared.operands.Address.{Address}
 use Rattle.qs_tac.specs.Holders.{File}
-use Rattle.qs_tac.specs.Places.{is_for_values}
 use Rattle.qs_tac.specs.Fits.{operand_fits, offset_fits, index_fits, address_fits}
 use Rattle.qs_tac.specs.Values.{Activation, operand, member_at, indexed, pointer}
 use Rattle.qs_tac.specs.Steps.{Waiting}
@@ -36,7 +35,7 @@ use Rattle.qs_emit.specs.Surroundings.{Lay, ground}
 use Rattle.qs_emit.specs.Relation.{Setup, context, function_at, IsAmong}
 use Rattle.qs_emit.proofs.Steps.{Does, Gets, IsFree, does_then, does_is, does_none, op_does, op_imm_does, lui_does, same_on, gets_on}
 use Rattle.qs_emit.proofs.Slots.{parts_sum, parts_behind, reads_free, gets_is, does_get, high_does}
-use Rattle.qs_emit.proofs.FrameLaws.{values_none}
+use Rattle.qs_emit.proofs.FrameLaws.{is_steady, values_none}
 use Rattle.qs_emit.proofs.Values.{member_word, moved_up, low_word}
 use Rattle.qs_emit.proofs.Operands.{holder, IsScratch, argument_scratch, IsThere, there_apart, reads_same, local_stands, data_stands, IsAmid, amid_on, operand_does}
 use Rattle.qs_emit.proofs.OperationLaws.{product_does, Leaves, leaves_on, leaves_operand, leaves_gets}
@@ -517,7 +516,7 @@ module _ (s : Setup) (a : Activation File) (w : Memory) (stack : List (Waiting F
     pub stands : StandsAt q word
     pub small : word < 2 ^ 32
     pub others : (z : ℕ) → 14 ≤ z → (z ≡ rd → ⊥) → m1.now.registers z ≡ m.now.registers z
-    pub saved : (z : ℕ) → is_for_values z ≡ true → (z ≡ rd → ⊥) → m1.now.registers z ≡ m.now.registers z
+    pub saved : (z : ℕ) → is_steady z ≡ true → (z ≡ rd → ⊥) → m1.now.registers z ≡ m.now.registers z
     pub bytes : SameOwn s.room (m.now.registers 2) m.now.memory m1.now.memory
 
   pub address_into_does : (m : Watched) (rd : ℕ) (p : Address) (q : Pointer) → IsFree rd → IsAmid s a w stack l sp m → address_fits s.unit (function_at s.unit a.function) p ≡ true → pointer (holder s) p a w ≡ Some q → Does s m (address_into c rd p) (HasAddress m rd q)

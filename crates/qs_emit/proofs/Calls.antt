@@ -21,6 +21,7 @@ use Rattle.qs_tac.specs.Places.{place_of}
 use Rattle.qs_tac.specs.Fits.{operand_fits}
 use Rattle.qs_tac.specs.Values.{Activation, operands}
 use Rattle.qs_tac.specs.Steps.{Waiting, waits}
+use Rattle.qs_frames.specs.Layout.{keeps_return_address}
 use Rattle.qs_emit_selection.specs.Pieces.{addi}
 use Rattle.qs_emit_selection.specs.Operands.{Context}
 use Rattle.qs_emit_selection.specs.Emission as emission
@@ -31,7 +32,7 @@ use Rattle.qs_emit.specs.Surroundings.{HasBlocks, Lay, ground}
 use Rattle.qs_emit.specs.Relation.{Setup, context, cost, entry, place, function_at, HasPlace, IsWaiting, HasStack, IsRelated, StandsAt, around}
 use Rattle.qs_emit.proofs.Injection.{value_here, value_there}
 use Rattle.qs_emit.proofs.Steps.{Takes, takes_on, takes_less, HasAt, straight, IsSteady, steady_on, Does, does_is, does_then, does_none, op_imm_does, stepped, takes_step, stirred_bytes, same_stirred}
-use Rattle.qs_emit.proofs.FrameLaws.{related_own, related_to, related_fewer}
+use Rattle.qs_emit.proofs.FrameLaws.{value_link, related_own, related_holding, related_to, related_fewer}
 use Rattle.qs_emit.proofs.Operands.{holder, argument_scratch, value_apart, IsAmid, amid_gets, put_does}
 use Rattle.qs_emit.proofs.LoopSteps.{link_acts}
 use Rattle.qs_emit.proofs.CodePlaces.{IsCode, plain_laid, HasFunction, has_function, fits_between}
@@ -89,8 +90,8 @@ module _ (s : Setup) (a : Activation File) (w : World) (stack : List (Waiting Fi
       low : m2.low ≡ m.low
       entered : IsEntered s f vs w (waiting ∷ stack) l m2
 
-    jumped : (m1 : Watched) (n p : ℕ) → IsBehind n m1 → InRegisters s a w.memory stack l sp m 10 vs m1 → m1.now.pc ≡ p → f < length s.unit.functions → length vs ≡ length (function_at s.unit f).parameters → instruction_at s.image p ≡ Some (instructions.Jal 1 (words.sub (entry s f) p)) → Lays (instruction_at s.image) s.label_at (p + 4) (plain (take_result c x)) (place s a.function (a.at + 1)) → p % 4 ≡ 0 → p + 4 ≤ s.code_end → IsCalled (called m1 (entry s f)) (n + 1)
-    jumped m1 n p b args pc known count has tail al low =
+    jumped : (m1 : Watched) (n p : ℕ) → IsBehind n m1 → InRegisters s a w.memory stack l sp m 10 vs m1 → m1.now.pc ≡ p → f < length s.unit.functions → length vs ≡ length (function_at s.unit f).parameters → instruction_at s.image p ≡ Some (instructions.Jal 1 (words.sub (entry s f) p)) → keeps_return_address c.function c.places ≡ true → Lays (instruction_at s.image) s.label_at (p + 4) (plain (take_result c x)) (place s a.function (a.at + 1)) → p % 4 ≡ 0 → p + 4 ≤ s.code_end → IsCalled (called m1 (entry s f)) (n + 1)
+    jumped m1 n p b args pc known count has keeps tail al low =
         let g = has_function s f known in
         let limit = s.short in
         let entry_low = g.entry_low in
@@ -103,10 +104,10 @@ module _ (s : Setup) (a : Activation File) (w : World) (stack : List (Waiting Fi
         let bytes = stirred_bytes s m1.time (m1.now.registers 2) m1.now.memory b.steady.bytes in
         let own : SameOwn s.room sp m1.now.memory m2.now.memory = subst (λ (q : ℕ). SameOwn s.room q m1.now.memory m2.now.memory) b.x2 (same_stirred s.room m1.time (m1.now.registers 2) m1.now.memory) in
         let other : (q : ℕ) → (q ≡ 1 → ⊥) → m2.now.registers q ≡ m1.now.registers q = λ q n. value_there m1.now.registers 1 (m1.now.pc + 4) q n in
-        let r = related_own s a w.memory stack l m1.now.registers sp m1.now.memory args.amid.related m2.now.registers m2.now.memory (record { same = λ q e. other q (value_apart q 1 e refl) }) own in
+        let r = related_holding s a w.memory stack l m1.now.registers sp m1.now.memory args.amid.related m2.now.registers m2.now.memory (record { values = λ q e. other q (value_link q e); link = λ e. let no_way : true ≡ false = sym keeps ∙ e in cc }) own in
         let x2 : m2.now.registers 2 ≡ sp = b.x2 in
         let ra : m2.now.registers 1 ≡ p + 4 = value_here m1.now.registers 1 (m1.now.pc + 4) 1 refl ∙ ap (λ (q : ℕ). q + 4) pc in
-        let wait = is_waiting m2 p r tail al (omega (arith, low, limit)) in
+        let wait = is_waiting m2 p r ra tail al (omega (arith, low, limit)) in
         let room_al = r.in_room.aligned in
         let room_below = r.in_room.below in
         record {
@@ -118,8 +119,7 @@ module _ (s : Setup) (a : Activation File) (w : World) (stack : List (Waiting Fi
             known = known;
             pc = refl;
             blocks = subst (λ (q : ℕ). HasBlocks (around s) (ground w.memory l m2.now.memory) q) (sym x2) r.blocks;
-            above = subst (λ (q : ℕ). HasStack s (ground w.memory l m2.now.memory) (waiting ∷ stack) m2.now.registers q (m2.now.registers 1)) (sym x2)
-                (subst (λ (q : ℕ). HasStack s (ground w.memory l m2.now.memory) (waiting ∷ stack) m2.now.registers sp q) (sym ra) (wait, r.above));
+            above = subst (λ (q : ℕ). HasStack s (ground w.memory l m2.now.memory) (waiting ∷ stack) m2.now.registers q) (sym x2) (wait, r.above);
             count = count;
             arguments = λ i v e. subst (λ (q : ℕ). StandsFor w.memory l.address_of v q) (sym (other (10 + i) (λ z. absurd (omega (arith, z))))) (args.values i v e);
             words = r.frame.words;
@@ -133,19 +133,19 @@ module _ (s : Setup) (a : Activation File) (w : World) (stack : List (Waiting Fi
           };
         }
       where
-        is_waiting : (m2 : Watched) (p : ℕ) → IsRelated s a w.memory stack l m2.now.registers sp m2.now.memory → Lays (instruction_at s.image) s.label_at (p + 4) (plain (take_result c x)) (place s a.function (a.at + 1)) → p % 4 ≡ 0 → p + 4 < 2 ^ 32 → IsWaiting s (ground w.memory l m2.now.memory) waiting m2.now.registers sp (p + 4)
-        is_waiting m2 p r tail al low =
+        is_waiting : (m2 : Watched) (p : ℕ) → IsRelated s a w.memory stack l m2.now.registers sp m2.now.memory → m2.now.registers 1 ≡ p + 4 → Lays (instruction_at s.image) s.label_at (p + 4) (plain (take_result c x)) (place s a.function (a.at + 1)) → p % 4 ≡ 0 → p + 4 < 2 ^ 32 → IsWaiting s (ground w.memory l m2.now.memory) waiting m2.now.registers sp
+        is_waiting m2 p r link tail al low =
             let fewer = related_fewer s a w.memory stack l m2.now.registers sp m2.now.memory r (kept a.held) (kept_fewer a.held) in
             record {
-              takes = tail;
+              takes = subst (λ (q : ℕ). Lays (instruction_at s.image) s.label_at q (plain (take_result c x)) (place s a.function (a.at + 1))) (sym link) tail;
               known = r.known;
               inside = inside;
               taken = has_x;
               frame = fewer.frame;
               stays = λ q v e. kept_stays a.held q v e;
               in_room = r.in_room;
-              aligned = omega (arith, al);
-              low = low;
+              aligned = omega (arith, link, al);
+              low = omega (arith, link, low);
             }
 
     -- the callee begins
@@ -171,8 +171,8 @@ module _ (s : Setup) (a : Activation File) (w : World) (stack : List (Waiting Fi
           stands = e.stands;
         }
 
-    pub function_called : (os : List Operand) (result : Passed) → HasFunction s a.function → f < length s.unit.functions → length os ≡ length (function_at s.unit f).parameters → length os ≤ 8 → list_all (operand_fits s.unit (function_at s.unit a.function)) os ≡ true → operands (holder s) os a ≡ Some vs → Lays (instruction_at s.image) s.label_at (place s a.function a.at) (plain (emission.pass c 10 os) ++ (items.Jump 1 (first_label s.unit.functions f) ∷ plain (take_result c x))) (place s a.function (a.at + 1)) → place s a.function (a.at + 1) ≤ s.code_end → place s a.function a.at % 4 ≡ 0 → base s.room + cost s f ≤ m.now.registers 2 → passes (function_at s.unit f).parameters vs (length w.memory) no_values (make (function_at s.unit f).blocks w.memory) ≡ Some result → HasBegun result
-    function_called os result has known count few fits e lays low al room passed =
+    pub function_called : (os : List Operand) (result : Passed) → HasFunction s a.function → keeps_return_address c.function c.places ≡ true → f < length s.unit.functions → length os ≡ length (function_at s.unit f).parameters → length os ≤ 8 → list_all (operand_fits s.unit (function_at s.unit a.function)) os ≡ true → operands (holder s) os a ≡ Some vs → Lays (instruction_at s.image) s.label_at (place s a.function a.at) (plain (emission.pass c 10 os) ++ (items.Jump 1 (first_label s.unit.functions f) ∷ plain (take_result c x))) (place s a.function (a.at + 1)) → place s a.function (a.at + 1) ≤ s.code_end → place s a.function a.at % 4 ≡ 0 → base s.room + cost s f ≤ m.now.registers 2 → passes (function_at s.unit f).parameters vs (length w.memory) no_values (make (function_at s.unit f).blocks w.memory) ≡ Some result → HasBegun result
+    function_called os result has keeps known count few fits e lays low al room passed =
         let code = emission.pass c 10 os in
         let st = straight (instruction_at s.image) s.label_at (place s a.function a.at) code (items.Jump 1 (first_label s.unit.functions f) ∷ plain (take_result c x)) (place s a.function (a.at + 1)) lays in
         let tail = plain_laid (instruction_at s.image) s.label_at (place s a.function a.at + 4 * length code + 4) (take_result c x) (place s a.function (a.at + 1)) st.rest_at.1 in
@@ -183,7 +183,7 @@ module _ (s : Setup) (a : Activation File) (w : World) (stack : List (Waiting Fi
         let d = (pass_does s a w.memory stack l sp os vs m 10 (amid_at s a w stack l m h) fits e (omega arith) (omega (arith, few))).by (subst (λ (p : ℕ). HasAt (instruction_at s.image) p code) (sym h.pc) st.code_at) fits_code steady in
         let counted : length vs ≡ length (function_at s.unit f).parameters = operands_count s a w.memory stack l sp os vs e ∙ count in
         begins _ (length code + 1) result
-        (jumped d.to (length code) (place s a.function a.at + 4 * length code) (record { takes = d.takes; x2 = d.x2; input = d.input; output = d.output; low = d.low; steady = steady_on s m d.to d.x2 d.low d.bytes steady }) d.is (d.pc ∙ ap (λ (p : ℕ). p + 4 * length code) h.pc) known counted st.rest_at.0 st.rest_at.1 (omega (arith, al)) (omega (arith, end, low)))
+        (jumped d.to (length code) (place s a.function a.at + 4 * length code) (record { takes = d.takes; x2 = d.x2; input = d.input; output = d.output; low = d.low; steady = steady_on s m d.to d.x2 d.low d.bytes steady }) d.is (d.pc ∙ ap (λ (p : ℕ). p + 4 * length code) h.pc) known counted st.rest_at.0 keeps st.rest_at.1 (omega (arith, al)) (omega (arith, end, low)))
         room passed
 
   -- ---- calls of the environment

@@ -27,7 +27,7 @@ use Rattle.qs_emit_selection.specs.Data.{data_address}
 use Rattle.qs_emit_selection.proofs.Sizes.{words_are_kept}
 use Rattle.qs_emit.specs.Machine.{instruction_at}
 use Rattle.qs_emit.specs.Relation.{no_function, function_at, context, Setup, entry, place, IsAmong, HasPlace}
-use Rattle.qs_emit.proofs.FrameLaws.{saved_cases}
+use Rattle.qs_emit.proofs.FrameLaws.{saved_cases, used_stored}
 use Rattle.qs_emit.proofs.Steps.{HasAt, Fits}
 
 -- ---- items
@@ -308,7 +308,7 @@ module _ (s : Setup) where
       by (Register r) is =
           let count = one_place_each (function_at s.unit f) p (accepted_there f lt) in (
             for_values r is (accepted_there f lt),
-            λ saved. used_here p.at saved_registers r (is_used p.at t r (place_got p t (omega (arith, count, h)) ∙ ap Some is)) (all_saved r saved),
+            λ saved. used_stored (context s f) r (used_here p.at saved_registers r (is_used p.at t r (place_got p t (omega (arith, count, h)) ∙ ap Some is)) (all_saved r saved)),
           )
 
   -- parameters stand apart

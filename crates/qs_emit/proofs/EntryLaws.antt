@@ -1,6 +1,7 @@
 -- A function is entered, with its blocks and its parameters.
-use Rattle.std.proofs.Common.{◌≡◌, ◌⊎◌, inl, inr, ℕ, ◌+◌, ◌-◌, ◌*◌, ◌%◌, ◌^◌, ◌<◌, ◌≤◌, List, [], ◌∷◌, ◌++◌, length, All, Some, None, refl, sym, ap, ◌∙◌, subst, arith, min, append-nil, length-append}
-use Rattle.std.specs.Prelude.{slice_get, true}
+use Rattle.std.proofs.Common.{◌≡◌, ◌⊎◌, inl, inr, ℕ, ◌+◌, ◌-◌, ◌*◌, ◌%◌, ◌^◌, ◌<◌, ◌≤◌, List, ◌++◌, length, All, Some, None, refl, sym, ap, ◌∙◌, subst, arith, min, append-nil, length-append}
+use Rattle.std.specs.Prelude.{slice_get, true, ◌||◌, ◌==◌, Bool, false}
+use Rattle.std.proofs.lemmas.Bool.Decides.{nat_tests}
 use Rattle.std.specs.List.{slice_get as slice_got}
 use Rattle.qs_base.specs.Words as words
 use Rattle.qs_memory.specs.Values.{Value}
@@ -9,32 +10,28 @@ use Rattle.qs_memory.specs.Soundness.{IsLive}
 use Rattle.qs_events.specs.Events.{Calls}
 use Rattle.qs_calls.specs.World.{World, with_memory, no_values}
 use Rattle.qs_isa.specs.declared.instruction.Instr.{Instr}
-use Rattle.qs_isa.specs.declared.instruction.StoreKind.TheVariants.{Sw}
-use Rattle.qs_machine.specs.State.{store_4}
 use Rattle.qs_tac.specs.Holders.{File, is_saved_register}
 use Rattle.qs_tac.specs.Places.{place_of}
 use Rattle.qs_tac.specs.Units.{plain_of}
 use Rattle.qs_tac.specs.Values.{Activation}
 use Rattle.qs_tac.specs.Steps.{Waiting}
-use Rattle.qs_frames.specs.Layout.{total, used_registers, register_at, kept}
+use Rattle.qs_frames.specs.Layout.{total, frame_words, register_at}
 use Rattle.qs_frames.proofs.FrameLaws.{is_cost}
-use Rattle.qs_emit_selection.specs.Pieces as pieces
 use Rattle.qs_emit_selection.specs.Pieces.{move_stack}
-use Rattle.qs_emit_selection.specs.Operands.{Context}
+use Rattle.qs_emit_selection.specs.Operands.{Context, stored}
 use Rattle.qs_emit_selection.specs.Emission.{enter, save, take_parameters}
 use Rattle.qs_emit.specs.Machine.{Watched, base, instruction_at}
-use Rattle.qs_emit.specs.Lies.{AreBytes, number_at, StandsFor, IsInReach, IsOwn, SameOwn}
+use Rattle.qs_emit.specs.Lies.{AreBytes, StandsFor, IsInReach, IsOwn}
 use Rattle.qs_emit.specs.Surroundings.{HasBlocks, Lay, ground}
 use Rattle.qs_emit.specs.Relation.{Setup, context, cost, entry, place, function_at, caller_registers, HasStack, root_block, IsRelated, StandsAt, around}
-use Rattle.qs_emit.proofs.Injection.{value_kept, stored_other}
-use Rattle.qs_emit.proofs.Bytes.{number_same, number_stored}
-use Rattle.qs_emit.proofs.Steps.{Takes, takes_on, takes_less, HasAt, has_front, has_back, Fits, IsSteady, Does, does_is, does_then, store_does, data_below}
-use Rattle.qs_emit.proofs.FrameLaws.{SameSaved, used_saved, saved_in_same, SameCells, related_fewer}
-use Rattle.qs_emit.proofs.Operands.{holder, saved_apart, IsAmid}
+use Rattle.qs_emit.proofs.Injection.{value_kept}
+use Rattle.qs_emit.proofs.Steps.{Takes, takes_on, takes_less, HasAt, has_front, has_back, Fits, IsSteady, Does, does_is, does_then, data_below}
+use Rattle.qs_emit.proofs.FrameLaws.{is_given, saved_is_given, SameGiven, stored_given, stored_inside, saved_in_kept, SameCells, related_fewer}
+use Rattle.qs_emit.proofs.Operands.{holder, given_apart, IsAmid}
 use Rattle.qs_emit.proofs.CodePlaces.{plain_laid, has_function, fits_between, parameters_fit_there}
 use Rattle.qs_emit.proofs.FollowedSteps.{Reaches}
 use Rattle.qs_emit.proofs.NewFrame.{new_lay, later_new, blocks_new, frame_new, stack_new}
-use Rattle.qs_emit.proofs.Moves.{StackMoved, stack_moves, AreSaved, saves_do}
+use Rattle.qs_emit.proofs.Moves.{moved_by_some, StackMoved, stack_moves, AreSaved, saves_do}
 use Rattle.qs_emit.proofs.Parameters.{Passed, passes, begun, TakesAll, parameters_do, placed_is}
 
 -- what lies outside a new frame: from x2 on, or data that are kept
@@ -43,48 +40,31 @@ IsOuter s sp at = (sp ≤ at) ⊎ ((at < base s.room) × (s.room.is_kept at ≡ 
 
 -- the machine has come into the frame
 record IsFramed (s : Setup) (f low : ℕ) (m to : Watched) : Type 0 where
-  others : (q : ℕ) → (q ≡ 1 → ⊥) → (q ≡ 2 → ⊥) → (q ≡ 5 → ⊥) → to.now.registers q ≡ m.now.registers q
+  others : (q : ℕ) → (q ≡ 2 → ⊥) → (q ≡ 5 → ⊥) → to.now.registers q ≡ m.now.registers q
   outer : (at : ℕ) → IsOuter s (m.now.registers 2) at → to.now.memory at ≡ m.now.memory at
-  return_to : number_at 4 to.now.memory low ≡ m.now.registers 1 % 2 ^ 32
-  given : (q : ℕ) → is_saved_register q ≡ true → m.now.registers q < 2 ^ 32 → caller_registers (context s f) to.now.registers to.now.memory low q ≡ m.now.registers q
+  given : (q : ℕ) → is_given q ≡ true → m.now.registers q < 2 ^ 32 → caller_registers (context s f) to.now.registers to.now.memory low q ≡ m.now.registers q
   x2 : to.now.registers 2 ≡ low
 
--- the return address and the registers are stored
+-- registers are stored
 abbrev saving : Context → List Instr
-saving c = pieces.store Sw 1 2 0 ∷ save (used_registers c.places) 0
+saving c = save (stored c) 0
 
 module _ (s : Setup) (f : ℕ) (m m1 : Watched) (low : ℕ) (len : ℕ) (k : StackMoved s m low len m1) (sum : low + cost s f ≡ m.now.registers 2) (above : base s.room ≤ low) (aligned : low % 16 ≡ 0) (ceiling : m.now.registers 2 ≤ s.room.ceiling) where
   abbrev c : Context
   c = context s f
 
-  used_inside : 4 + 4 * length (used_registers c.places) ≤ cost s f
-  used_inside = let e = (is_cost (kept c.places) (total c.function.blocks)).enough in omega (arith, e)
-
-  -- the return address and the registers are saved
   frames : Does s m1 (saving c) (IsFramed s f low m)
   frames =
       let x2 = k.x2 in
-      let inside = used_inside in
-      let top = s.ceiling in
-      let address : words.add (m1.now.registers 2) 0 ≡ low = omega (arith, x2, sum, ceiling, top) in
-      let new = store_4 m1.now.memory low (m1.now.registers 1) in
-      does_then s m1 (pieces.store Sw 1 2 0 ∷ []) (save (used_registers c.places) 0) _ _ (store_does s m1 Sw 1 2 0 low address (omega (arith, aligned)) (inl (omega (arith, x2), (above, omega (arith, sum, ceiling, inside))))) (λ m2 y2 g.
-      let x : m2.now.registers 2 ≡ low = y2 ∙ x2 in
-      let own : SameOwn s.room low new m2.now.memory = subst (λ (p : ℕ). SameOwn s.room p new m2.now.memory) x2 g.bytes_are in
-      does_is s m2 _ _ _ (saves_do s m2 (used_registers c.places) 0 low x (omega (arith, aligned)) above (omega (arith, sum, ceiling, inside)) (used_saved c.places)) (λ m3 z2 j. record {
-        others = λ q n1 n2 n5. j.others q n1 ∙ g.others q n1 ∙ k.others q n2 n5;
-        outer = λ at o. outer_bytes m2 m3 at o own j;
-        return_to =
-            number_same 4 m2.now.memory m3.now.memory low (λ y lo hi. j.outside y (inl lo) (inl (omega (arith, hi))))
-            ∙ number_same 4 new m2.now.memory low (λ y lo hi. own.same y (inl lo))
-            ∙ number_stored m1.now.memory low (m1.now.registers 1)
-            ∙ ap (λ (n : ℕ). n % 2 ^ 32) (k.others 1 (λ e. absurd (omega (arith, e))) (λ e. absurd (omega (arith, e))));
+      let inside = stored_inside c in
+      does_is s m1 _ _ _ (saves_do s m1 (stored c) 0 low x2 (omega (arith, aligned)) above (omega (arith, sum, ceiling, inside)) (stored_given c)) (λ m2 z2 j. record {
+        others = λ q n2 n5. j.registers q ∙ k.others q n2 n5;
+        outer = λ at o. outer_bytes m2 at o j;
         given = λ q h lt.
-            let first : m2.now.registers q ≡ m.now.registers q = g.others q (saved_apart q 1 h refl) ∙ k.others q (saved_apart q 2 h refl) (saved_apart q 5 h refl) in
-            let later : m3.now.registers q ≡ m2.now.registers q = j.others q (saved_apart q 1 h refl) in
-            saved_in_same (used_registers c.places) m2.now.registers m3.now.registers m3.now.memory m3.now.memory low 0 q later (λ i lo hi. refl) ∙ j.given q h (omega (arith, first, lt)) ∙ first;
-        x2 = z2 ∙ x;
-      }))
+            let first : m1.now.registers q ≡ m.now.registers q = k.others q (given_apart q 2 h refl) (given_apart q 5 h refl) in
+            saved_in_kept (stored c) m1.now.registers m2.now.registers m2.now.memory m2.now.memory low 0 q (inr (j.registers q)) (λ i lo hi. refl) ∙ j.given q h (omega (arith, first, lt)) ∙ first;
+        x2 = z2 ∙ x2;
+      })
     where
       held : (at : ℕ) → IsOuter s (m.now.registers 2) at → IsOwn s.room (m.now.registers 2) at
       held at (inl h) = inl h
@@ -94,21 +74,12 @@ module _ (s : Setup) (f : ℕ) (m m1 : Watched) (low : ℕ) (len : ℕ) (k : Sta
       held_low at (inl h) = inl (omega (arith, h, sum))
       held_low at (inr h) = inr h.1
 
-      beside : (at n : ℕ) → low + n ≤ m.now.registers 2 → IsOuter s (m.now.registers 2) at → (at < low) ⊎ (low + n ≤ at)
-      beside at n le (inl h) = inr (omega (arith, h, le))
-      beside at n le (inr h) = let b = h.0 in inl (omega (arith, b, above))
+      beside : (at : ℕ) → IsOuter s (m.now.registers 2) at → (at < low + register_at 0) ⊎ (low + register_at (0 + length (stored c)) ≤ at)
+      beside at (inl h) = let inside = stored_inside c in inr (omega (arith, h, inside, sum))
+      beside at (inr h) = let b = h.0 in inl (omega (arith, b, above))
 
-      behind : (at : ℕ) → (at < low) ⊎ (low + (4 + 4 * length (used_registers c.places)) ≤ at) → (at < low + register_at 0) ⊎ (low + register_at (0 + length (used_registers c.places)) ≤ at)
-      behind at (inl h) = inl (omega (arith, h))
-      behind at (inr h) = inr (omega (arith, h))
-
-      outer_bytes : (m2 m3 : Watched) (at : ℕ) → IsOuter s (m.now.registers 2) at → SameOwn s.room low (store_4 m1.now.memory low (m1.now.registers 1)) m2.now.memory → AreSaved s m2 low (used_registers c.places) 0 m3 → m3.now.memory at ≡ m.now.memory at
-      outer_bytes m2 m3 at o own j =
-          let inside = used_inside in
-          j.outside at (held_low at o) (behind at (beside at (4 + 4 * length (used_registers c.places)) (omega (arith, inside, sum)) o))
-          ∙ own.same at (held_low at o)
-          ∙ stored_other Sw m1.now.memory low (m1.now.registers 1) at (beside at 4 (omega (arith, inside, sum)) o)
-          ∙ k.own at (held at o) (held_low at o)
+      outer_bytes : (m2 : Watched) (at : ℕ) → IsOuter s (m.now.registers 2) at → AreSaved s m1 low (stored c) 0 m2 → m2.now.memory at ≡ m.now.memory at
+      outer_bytes m2 at o j = j.outside at (held_low at o) (beside at o) ∙ k.own at (held at o) (held_low at o)
 
 -- bytes of blocks are outside a new frame
 block_outer : (s : Setup) (m : Memory) (l : Lay) (flat : ℕ → ℕ) (sp b o : ℕ) → HasBlocks (around s) (ground m l flat) sp → IsLive m b → o < (block_at m b).size → IsOuter s sp (l.address_of b + o)
@@ -123,7 +94,7 @@ pub record IsEntered (s : Setup) (f : ℕ) (vs : List Value) (w : World) (stack 
   pub known : f < length s.unit.functions
   pub pc : m.now.pc ≡ entry s f
   pub blocks : HasBlocks (around s) (ground w.memory l m.now.memory) (m.now.registers 2)
-  pub above : HasStack s (ground w.memory l m.now.memory) stack m.now.registers (m.now.registers 2) (m.now.registers 1)
+  pub above : HasStack s (ground w.memory l m.now.memory) stack m.now.registers (m.now.registers 2)
   pub count : length vs ≡ length (function_at s.unit f).parameters
   pub arguments : (i : ℕ) (v : Value) → slice_get vs i ≡ Some v → StandsFor w.memory l.address_of v (m.now.registers (10 + i))
   pub words : (q : ℕ) → is_saved_register q ≡ true → m.now.registers q < 2 ^ 32
@@ -158,7 +129,7 @@ module _ (s : Setup) (f : ℕ) (vs : List Value) (w : World) (stack : List (Wait
   low_above = omega (arith, room)
 
   cost_aligned : cost s f % 16 ≡ 0
-  cost_aligned = (is_cost (kept (context s f).places) (total (context s f).function.blocks)).multiple
+  cost_aligned = (is_cost (frame_words (context s f).function (context s f).places) (total (context s f).function.blocks)).multiple
 
   low_aligned : low % 16 ≡ 0
   low_aligned = let a = h.aligned in let b = cost_aligned in let e = sum in omega (arith, a, b, e)
@@ -166,22 +137,25 @@ module _ (s : Setup) (f : ℕ) (vs : List Value) (w : World) (stack : List (Wait
   same_cells : (to : Watched) → IsFramed s f low m to → SameCells s w.memory l.address_of m.now.memory to.now.memory
   same_cells to k b o live lt = k.outer (l.address_of b + o) (block_outer s w.memory l m.now.memory (m.now.registers 2) b o h.blocks live lt)
 
+  given_word : (q : ℕ) → is_given q ≡ true → m.now.registers q < 2 ^ 32
+  given_word q e = by (q == 1) refl e
+    where
+      by : (b : Bool) → (q == 1) ≡ b → b || is_saved_register q ≡ true → m.now.registers q < 2 ^ 32
+      by true t e = let is : 1 ≡ q = grind (arith, nat_tests, t) in subst (λ (x : ℕ). m.now.registers x < 2 ^ 32) is h.return_low
+      by false t e = h.words q e
+
   opened : (to : Watched) → IsFramed s f low m to → IsAmid s bare made stack lay low to
   opened to k =
       let same = same_cells to k in
-      let ra_low = h.return_low in
-      let word = k.return_to in
-      let return_is : number_at 4 to.now.memory low ≡ m.now.registers 1 = omega (arith, word, ra_low) in
-      let registers : SameSaved m.now.registers (caller_registers (context s f) to.now.registers to.now.memory low) = record { same = λ q e. k.given q e (h.words q e) } in
-      let stack_is = stack_new s w.memory l m.now.memory to.now.memory f (m.now.registers 2) low sum low_above low_aligned h.ceiling h.blocks same stack m.now.registers (caller_registers (context s f) to.now.registers to.now.memory low) (m.now.registers 1) registers (λ at le. k.outer at (inl le)) h.above in
+      let registers : SameGiven m.now.registers (caller_registers (context s f) to.now.registers to.now.memory low) = record { same = λ q e. k.given q e (given_word q e) } in
+      let stack_is = stack_new s w.memory l m.now.memory to.now.memory f (m.now.registers 2) low sum low_above low_aligned h.ceiling h.blocks same stack m.now.registers (caller_registers (context s f) to.now.registers to.now.memory low) registers (λ at le. k.outer at (inl le)) h.above in
       record {
         x2 = k.x2;
         related = record {
           known = h.known;
-          frame = frame_new s w.memory l m.now.memory to.now.memory f (m.now.registers 2) low sum low_above low_aligned h.ceiling h.blocks same to.now.registers (λ q e. let i = k.others q (saved_apart q 1 e refl) (saved_apart q 2 e refl) (saved_apart q 5 e refl) in let lt = h.words q e in omega (arith, i, lt));
+          frame = frame_new s w.memory l m.now.memory to.now.memory f (m.now.registers 2) low sum low_above low_aligned h.ceiling h.blocks same to.now.registers (λ q e. let g = saved_is_given q e in let i = k.others q (given_apart q 2 g refl) (given_apart q 5 g refl) in let lt = h.words q e in omega (arith, i, lt));
           in_room = record { aligned = low_aligned; above = low_above; below = let e = sum in let t = h.ceiling in omega (arith, e, t) };
-          above = subst (λ (x : ℕ). HasStack s (ground made lay to.now.memory) stack (caller_registers (context s f) to.now.registers to.now.memory low) x (number_at 4 to.now.memory low)) (sym sum)
-              (subst (λ (x : ℕ). HasStack s (ground made lay to.now.memory) stack (caller_registers (context s f) to.now.registers to.now.memory low) (m.now.registers 2) x) (sym return_is) stack_is);
+          above = subst (λ (x : ℕ). HasStack s (ground made lay to.now.memory) stack (caller_registers (context s f) to.now.registers to.now.memory low) x) (sym sum) stack_is;
           blocks = blocks_new s w.memory l m.now.memory to.now.memory f (m.now.registers 2) low sum low_above low_aligned h.ceiling h.blocks same;
           root = h.bottom;
         };
@@ -194,7 +168,7 @@ module _ (s : Setup) (f : ℕ) (vs : List Value) (w : World) (stack : List (Wait
       let later = later_new s w.memory l m.now.memory to.now.memory f (m.now.registers 2) low sum low_above low_aligned h.ceiling h.blocks same in
       let few = s.emittable.parameters f in
       parameters_do s f h.known number stack lay low (function_at s.unit f).parameters vs to 10 no_values made (λ p. None) result (opened to k) (parameters_fit_there s f h.known) passed h.count (omega arith) (omega (arith, few))
-      (λ i v e. subst (λ (x : ℕ). StandsFor made lay.address_of v x) (sym (k.others (10 + i) (λ z. absurd (omega (arith, z))) (λ z. absurd (omega (arith, z))) (λ z. absurd (omega (arith, z)))))
+      (λ i v e. subst (λ (x : ℕ). StandsFor made lay.address_of v x) (sym (k.others (10 + i) (λ z. absurd (omega (arith, z))) (λ z. absurd (omega (arith, z)))))
       (value_kept w.memory made l.address_of lay.address_of v (m.now.registers (10 + i)) later (h.arguments i v e)))
       (λ q c. c) (λ t v e. cc) (λ t v e. cc)
 
@@ -220,7 +194,7 @@ module _ (s : Setup) (f : ℕ) (vs : List Value) (w : World) (stack : List (Wait
   rest = saving (context s f) ++ take_parameters (context s f) 10 (function_at s.unit f).parameters
 
   cost_small : (0 < cost s f) × (cost s f ≤ 2 ^ 28)
-  cost_small = ((is_cost (kept (context s f).places) (total (context s f).function.blocks)).positive, s.emittable.cost f h.known)
+  cost_small = ((is_cost (frame_words (context s f).function (context s f).places) (total (context s f).function.blocks)).positive, s.emittable.cost f h.known)
 
   x2_low : m.now.registers 2 < 2 ^ 32
   x2_low = let a = h.ceiling in let b = s.ceiling in omega (arith, a, b)
@@ -245,7 +219,7 @@ module _ (s : Setup) (f : ℕ) (vs : List Value) (w : World) (stack : List (Wait
         to = to;
         lay_there = lay;
         reaches = record {
-          takes = takes_less s.image s.room (length (move_stack word) + length rest) 1 m to (let n = length-append (saving (context s f)) (take_parameters (context s f) 10 (function_at s.unit f).parameters) in omega (arith, n)) (takes_on s.image s.room (length (move_stack word)) (length rest) m m1 to k.takes takes);
+          takes = takes_less s.image s.room (length (move_stack word) + length rest) 1 m to (let some = moved_by_some word in omega (arith, some)) (takes_on s.image s.room (length (move_stack word)) (length rest) m m1 to k.takes takes);
           output = ◌∙◌ {a = to.now.output} output k.output ∙ sym (append-nil m.now.output);
           moved = (ap (λ (n : ℕ). n + cost s f) x ∙ sum, low_is ∙ ap (λ (n : ℕ). min m.low n) (sym x));
         };

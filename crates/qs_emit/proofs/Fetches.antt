@@ -30,10 +30,10 @@ use Rattle.qs_emit.proofs.Bytes.{number_small}
 use Rattle.qs_emit.proofs.Injection.{load_held, store_holds, stored_other}
 use Rattle.qs_emit.proofs.Steps.{Does, does_with, does_then, does_is, load_does, store_does}
 use Rattle.qs_emit.proofs.Slots.{word_at, byte_at, gets_is}
-use Rattle.qs_emit.proofs.FrameLaws.{SameValues, related_own}
+use Rattle.qs_emit.proofs.FrameLaws.{SameHolding, related_holding}
 use Rattle.qs_emit.proofs.Access.{have_words, may_read_block, may_write_block}
 use Rattle.qs_emit.proofs.WriteLaws.{related_written}
-use Rattle.qs_emit.proofs.Operands.{holder, argument_scratch, value_apart, reads_same, IsAmid, operand_does, holding, gives_does}
+use Rattle.qs_emit.proofs.Operands.{holder, argument_scratch, reads_same, IsAmid, operand_does, holding, gives_does}
 use Rattle.qs_emit.proofs.OperationLaws.{IsOperand, makes_last}
 use Rattle.qs_emit.proofs.Anchors.{anchor_does}
 
@@ -104,7 +104,7 @@ module _ (s : Setup) (a : Activation File) (w : Memory) (stack : List (Waiting F
       }))))
 
   -- cells are written where a pointer points, and own bytes elsewhere are the same
-  pub written_amid : (m m1 : Watched) (p : Pointer) (size alignment : ℕ) (new : List Cell) (later : Memory) (flat : ℕ → ℕ) → IsAmid s a w stack l sp m → (k : Wrote w p size alignment new later) → length new ≡ size → m1.now.registers 2 ≡ m.now.registers 2 → SameValues m.now.registers m1.now.registers
+  pub written_amid : (m m1 : Watched) (p : Pointer) (size alignment : ℕ) (new : List Cell) (later : Memory) (flat : ℕ → ℕ) → IsAmid s a w stack l sp m → (k : Wrote w p size alignment new later) → length new ≡ size → m1.now.registers 2 ≡ m.now.registers 2 → SameHolding (context s a.function) m.now.registers m1.now.registers
       → SameOwn s.room sp flat m1.now.memory → ((at : ℕ) → IsOwn s.room sp at → (at < l.address_of k.at.block + k.at.offset) ⊎ (l.address_of k.at.block + k.at.offset + size ≤ at) → flat at ≡ m.now.memory at) → HoldAll w l.address_of new flat (l.address_of k.at.block + k.at.offset)
       → IsAmid s a later stack l sp m1
   written_amid m m1 p size alignment new later flat h k long x2 saved own same held =
@@ -113,7 +113,7 @@ module _ (s : Setup) (a : Activation File) (w : Memory) (stack : List (Waiting F
       let from = l.address_of k.at.block + k.at.offset in
       let related = related_written w l m.now.memory flat k.at new k.is.live inside s a stack m.now.registers sp h.related
       (λ at o out. same at o (outside from size at (λ r. let lo = r.0 in let hi = r.1 in out (lo, omega (arith, hi, long))))) held in
-      subst (λ (z : Memory). IsAmid s a z stack l sp m1) k.gives (record { x2 = x2 ∙ h.x2; related = related_own s a (with_cells w k.at new) stack l m.now.registers sp flat related m1.now.registers m1.now.memory saved own })
+      subst (λ (z : Memory). IsAmid s a z stack l sp m1) k.gives (record { x2 = x2 ∙ h.x2; related = related_holding s a (with_cells w k.at new) stack l m.now.registers sp flat related m1.now.registers m1.now.memory saved own })
 
   pub store_place_does : (m : Watched) (t : Scalar) (p : Address) (o : Operand) (q : Pointer) (v : Value) (later : Memory) → IsAmid s a w stack l sp m → address_fits s.unit (function_at s.unit a.function) p ≡ true → pointer (holder s) p a w ≡ Some q → IsOperand s a w stack l sp o v → memory.store t w q v ≡ Some later
       → Does s m ((anchor_of c p).code ++ (operand_code c 14 o ++ pieces.store (store_kind t) (operand_register c 14 o) (anchor_of c p).register (anchor_of c p).immediate ∷ [])) (IsAmid s a later stack l sp)
@@ -137,6 +137,6 @@ module _ (s : Setup) (a : Activation File) (w : Memory) (stack : List (Waiting F
       does_is s m2 _ _ _ (store_does s m2 (store_kind t) (operand_register c 14 o) (anchor_of c p).register (anchor_of c p).immediate at word aligned may) (λ m3 z2 i.
       let as_word : machine.stored (store_kind t) m2.now.memory at (register m2.now (operand_register c 14 o)) ≡ flat = ap (λ (x : ℕ). machine.stored (store_kind t) m2.now.memory at x) j.got in
       let own : SameOwn s.room sp flat m3.now.memory = subst (λ (n : ℕ). SameOwn s.room n flat m3.now.memory) j.amid.x2 (subst (λ (f : ℕ → ℕ). SameOwn s.room (m2.now.registers 2) f m3.now.memory) as_word i.bytes_are) in
-      written_amid m2 m3 q (width t) (width t) st.new later flat j.amid wrote st.are.long z2 (record { same = λ r b. i.others r (value_apart r 1 b refl) }) own
+      written_amid m2 m3 q (width t) (width t) st.new later flat j.amid wrote st.are.long z2 (record { values = λ r e. i.registers r; link = λ e. i.registers 1 }) own
       (λ x o out. stored_other (store_kind t) m2.now.memory at j.word x (subst (λ (n : ℕ). (x < at) ⊎ (at + n ≤ x)) (sym wide) out))
       (store_holds t w l.address_of v st.new m2.now.memory at j.word st.cells j.stands))))

@@ -1,6 +1,6 @@
 -- What frames and blocks keep while registers and bytes around them change.
 use Rattle.std.proofs.Common.{◌≡◌, ◌⊎◌, inl, inr, ⊎_elim, ℕ, ◌+◌, ◌*◌, ◌%◌, ◌^◌, ◌==◌, ◌<◌, ◌≤◌, Bool, true, false, List, [], ◌∷◌, length, Some, refl, sym, ap, ◌∙◌, subst, arith}
-use Rattle.std.specs.Prelude.{◌&&◌, ◌||◌, nat_le, if◌then◌else◌}
+use Rattle.std.specs.Prelude.{◌&&◌, ◌||◌, ◌++◌, nat_le, if◌then◌else◌}
 use Rattle.std.specs.List.{list_all}
 use Rattle.std.proofs.lemmas.Bool.{cases_eq, cases_lt, and_parts}
 use Rattle.std.proofs.lemmas.Bool.Decides.{nat_tests}
@@ -17,30 +17,65 @@ use Rattle.qs_tac.specs.Holders.{File, same_place, with_place, is_saved_register
 use Rattle.qs_tac.specs.Values.{Activation}
 use Rattle.qs_tac.specs.Steps.{Waiting}
 use Rattle.qs_isa.specs.declared.instruction.StoreKind.TheVariants.{Sw}
-use Rattle.qs_frames.specs.Layout.{total, is_among, used_among, saved_registers, used_registers, kept, HasSlot, register_at}
+use Rattle.qs_frames.specs.Layout.{total, is_among, used_among, saved_registers, used_registers, keeps_return_address, return_register, frame_words, HasSlot, register_at}
 use Rattle.qs_frames.proofs.FrameLaws as frame_laws
-use Rattle.qs_frames.proofs.FrameLaws.{is_cost}
-use Rattle.qs_emit_selection.specs.Operands.{Context, frame_of, slot_offset}
-use Rattle.qs_emit.specs.Machine.{Room}
+use Rattle.qs_frames.proofs.FrameLaws.{is_cost, stored_words}
+use Rattle.qs_emit_selection.specs.Operands.{Context, frame_of, stored, slot_offset}
+use Rattle.qs_asm.specs.Items.{Lays, plain}
+use Rattle.qs_emit_selection.specs.Emission.{take_result}
+use Rattle.qs_emit.specs.Machine.{Room, instruction_at}
 use Rattle.qs_emit.specs.Lies.{number_at, StandsFor, Owner, cell_of, Lies, IsInReach, IsOwn, SameOwn}
 use Rattle.qs_emit.specs.Lies.{frame as of_frame}
 use Rattle.qs_emit.specs.Surroundings.{Ground, HasBlocks, Lay, ground}
-use Rattle.qs_emit.specs.Relation.{Setup, context, cost, word_in, IsAmong, HasPlace, IsHeld, saved_in, caller_registers, private_end, HasFrame, HasStack, IsRelated, around}
+use Rattle.qs_emit.specs.Relation.{Setup, context, cost, place, word_in, IsAmong, HasPlace, IsHeld, saved_in, caller_registers, private_end, HasFrame, HasStack, IsRelated, around}
 use Rattle.qs_emit.proofs.Injection.{Later, value_kept, value_here, value_there, stored_other}
 use Rattle.qs_emit.proofs.Bytes.{number_same, number_stored, number_beside}
 
 -- ---- registers
 
--- the registers that a call gives back are as they were
-pub record SameSaved (registers later : ℕ → ℕ) : Type 0 where
-  pub same : (r : ℕ) → is_saved_register r ≡ true → later r ≡ registers r
+-- what a function gives back to its caller: x1, by which it returns, and the saved registers
+abbrev pub is_given : ℕ → Bool
+is_given r = r == 1 || is_saved_register r
 
-pub saved_none : (registers : ℕ → ℕ) → SameSaved registers registers
-saved_none registers = record { same = λ r h. refl }
+-- they are as they were
+pub record SameGiven (registers later : ℕ → ℕ) : Type 0 where
+  pub same : (r : ℕ) → is_given r ≡ true → later r ≡ registers r
 
--- the registers that hold values are as they were
+pub given_none : (registers : ℕ → ℕ) → SameGiven registers registers
+given_none registers = record { same = λ r h. refl }
+
+-- within a function x1 is as it was where its frame doesn't keep the return address
+pub record SameKept (c : Context) (registers later : ℕ → ℕ) : Type 0 where
+  pub saved : (r : ℕ) → is_saved_register r ≡ true → later r ≡ registers r
+  pub link : keeps_return_address c.function c.places ≡ false → later 1 ≡ registers 1
+
+pub kept_none : (c : Context) (registers : ℕ → ℕ) → SameKept c registers registers
+kept_none c registers = record { saved = λ r h. refl; link = λ e. refl }
+
+pub saved_is_given : (r : ℕ) → is_saved_register r ≡ true → is_given r ≡ true
+saved_is_given r h = by (r == 1)
+  where
+    by : (b : Bool) → b || is_saved_register r ≡ true
+    by true = refl
+    by false = h
+
+pub kept_of_given : (c : Context) (registers later : ℕ → ℕ) → SameGiven registers later → SameKept c registers later
+kept_of_given c registers later h = record { saved = λ r e. h.same r (saved_is_given r e); link = λ e. h.same 1 refl }
+
+-- steps leave alone the registers that hold values, and x1
+abbrev pub is_steady : ℕ → Bool
+is_steady r = r == 1 || is_for_values r
+
+pub value_is_steady : (r : ℕ) → is_for_values r ≡ true → is_steady r ≡ true
+value_is_steady r h = by (r == 1)
+  where
+    by : (b : Bool) → b || is_for_values r ≡ true
+    by true = refl
+    by false = h
+
+-- they are as they were
 pub record SameValues (registers later : ℕ → ℕ) : Type 0 where
-  pub same : (r : ℕ) → is_for_values r ≡ true → later r ≡ registers r
+  pub same : (r : ℕ) → is_steady r ≡ true → later r ≡ registers r
 
 pub values_none : (registers : ℕ → ℕ) → SameValues registers registers
 values_none registers = record { same = λ r h. refl }
@@ -67,8 +102,28 @@ saved_is_for_values r h = by (saved_cases r h)
     by (inr (inl e)) = ap is_for_values e
     by (inr (inr k)) = let lo = k.0 in let hi = k.1 in grind (arith, nat_tests, lo, hi)
 
-pub saved_of_values : (registers later : ℕ → ℕ) → SameValues registers later → SameSaved registers later
-saved_of_values registers later h = record { same = λ r e. h.same r (saved_is_for_values r e) }
+-- within a function: the registers that hold values, and x1 where its frame doesn't keep the return address
+pub record SameHolding (c : Context) (registers later : ℕ → ℕ) : Type 0 where
+  pub values : (r : ℕ) → is_for_values r ≡ true → later r ≡ registers r
+  pub link : keeps_return_address c.function c.places ≡ false → later 1 ≡ registers 1
+
+kept_of_holding : (c : Context) (registers later : ℕ → ℕ) → SameHolding c registers later → SameKept c registers later
+kept_of_holding c registers later h = record { saved = λ r e. h.values r (saved_is_for_values r e); link = h.link }
+
+pub holding_of_values : (c : Context) (registers later : ℕ → ℕ) → SameValues registers later → SameHolding c registers later
+holding_of_values c registers later h = record { values = λ r e. h.same r (value_is_steady r e); link = λ e. h.same 1 refl }
+
+-- no value stands in x1
+pub value_link : (r : ℕ) → is_for_values r ≡ true → r ≡ 1 → ⊥
+value_link r h e = let no_way : true ≡ false = sym h ∙ ap is_for_values e in cc
+
+-- a register that holds values and is given back is saved
+pub given_value : (r : ℕ) → is_for_values r ≡ true → is_given r ≡ true → is_saved_register r ≡ true
+given_value r h k = by (r == 1) refl k
+  where
+    by : (b : Bool) → (r == 1) ≡ b → b || is_saved_register r ≡ true → is_saved_register r ≡ true
+    by true t e = let is : r ≡ 1 = grind (arith, nat_tests, t) in let no_way : true ≡ false = sym h ∙ ap is_for_values is in cc
+    by false t e = e
 
 -- the registers in which these values stand are as they were
 abbrev pub SameHeld : File → (registers later : ℕ → ℕ) → Type 0
@@ -96,8 +151,32 @@ used_among_all places (q ∷ registers) r h = by (is_among places q) (used_among
     by true more (inr k) = inr (more k)
     by false more k = inr (more k)
 
-pub used_saved : (p : PlacesTree) (r : ℕ) → IsAmong (used_registers p) r → is_saved_register r ≡ true
+used_saved : (p : PlacesTree) (r : ℕ) → IsAmong (used_registers p) r → is_saved_register r ≡ true
 used_saved p r h = among_test is_saved_register saved_registers r refl (used_among_all p.at saved_registers r h)
+
+-- what an entry stores is given back
+pub stored_given : (c : Context) (r : ℕ) → IsAmong (stored c) r → is_given r ≡ true
+stored_given c r h = by (keeps_return_address c.function c.places) h
+  where
+    by : (b : Bool) → IsAmong (return_register b ++ used_registers c.places) r → is_given r ≡ true
+    by true (inl e) = ap is_given e
+    by true (inr k) = saved_is_given r (used_saved c.places r k)
+    by false k = saved_is_given r (used_saved c.places r k)
+
+-- x1 where it is kept, and the saved registers that are used
+pub link_stored : (c : Context) → keeps_return_address c.function c.places ≡ true → IsAmong (stored c) 1
+link_stored c h = by (keeps_return_address c.function c.places) h
+  where
+    by : (b : Bool) → b ≡ true → IsAmong (return_register b ++ used_registers c.places) 1
+    by true e = inl refl
+    by false e = cc
+
+pub used_stored : (c : Context) (r : ℕ) → IsAmong (used_registers c.places) r → IsAmong (stored c) r
+used_stored c r h = by (keeps_return_address c.function c.places)
+  where
+    by : (b : Bool) → IsAmong (return_register b ++ used_registers c.places) r
+    by true = inr h
+    by false = h
 
 -- ---- later grounds
 
@@ -124,40 +203,58 @@ reach_onward image r g later sp from block o h reach = reach_like image r sp (bl
 
 -- ---- frames
 
-pub saved_in_same : (used : List ℕ) (registers other flat later : ℕ → ℕ) (sp i r : ℕ) → other r ≡ registers r → ((k : ℕ) → i ≤ k → k < i + length used → number_at 4 later (sp + register_at k) ≡ number_at 4 flat (sp + register_at k)) → saved_in used other later sp i r ≡ saved_in used registers flat sp i r
-saved_in_same [] registers other flat later sp i r e h = e
-saved_in_same (q ∷ used) registers other flat later sp i r e h = both (r == q) _ _ _ _ (h i (omega arith) (omega arith)) (saved_in_same used registers other flat later sp (i + 1) r e (λ k l u. h k (omega (arith, l)) (omega (arith, u))))
+-- a register that is stored is given back whatever it has become, and another one as it is
+pub saved_in_kept : (used : List ℕ) (registers other flat later : ℕ → ℕ) (sp i r : ℕ) → IsAmong used r ⊎ (other r ≡ registers r) → ((k : ℕ) → i ≤ k → k < i + length used → number_at 4 later (sp + register_at k) ≡ number_at 4 flat (sp + register_at k)) → saved_in used other later sp i r ≡ saved_in used registers flat sp i r
+saved_in_kept [] registers other flat later sp i r (inl e) h = absurd e
+saved_in_kept [] registers other flat later sp i r (inr e) h = e
+saved_in_kept (q ∷ used) registers other flat later sp i r e h = by (λ f. saved_in_kept used registers other flat later sp (i + 1) r f (λ k l u. h k (omega (arith, l)) (omega (arith, u)))) (r == q) refl e
   where
-    both : (b : Bool) (x y v w : ℕ) → v ≡ x → w ≡ y → (if b then v else w) ≡ (if b then x else y)
-    both true x y v w e f = e
-    both false x y v w e f = f
+    by : (IsAmong used r ⊎ (other r ≡ registers r) → saved_in used other later sp (i + 1) r ≡ saved_in used registers flat sp (i + 1) r) → (b : Bool) → (r == q) ≡ b → IsAmong (q ∷ used) r ⊎ (other r ≡ registers r) → (if b then number_at 4 later (sp + register_at i) else saved_in used other later sp (i + 1) r) ≡ (if b then number_at 4 flat (sp + register_at i) else saved_in used registers flat sp (i + 1) r)
+    by more true t e = h i (omega arith) (omega arith)
+    by more false t (inl (inl e)) = absurd (grind (arith, nat_tests, t, e))
+    by more false t (inl (inr e)) = more (inl e)
+    by more false t (inr e) = more (inr e)
+
+pub given_kept : (c : Context) (registers other : ℕ → ℕ) → SameKept c registers other → (r : ℕ) → is_given r ≡ true → IsAmong (stored c) r ⊎ (other r ≡ registers r)
+given_kept c registers other same r h = by (r == 1) refl h
+  where
+    linked : (b : Bool) → keeps_return_address c.function c.places ≡ b → IsAmong (stored c) 1 ⊎ (other 1 ≡ registers 1)
+    linked true e = inl (link_stored c e)
+    linked false e = inr (same.link e)
+
+    by : (b : Bool) → (r == 1) ≡ b → b || is_saved_register r ≡ true → IsAmong (stored c) r ⊎ (other r ≡ registers r)
+    by true t e = let is : 1 ≡ r = grind (arith, nat_tests, t) in subst (λ (x : ℕ). IsAmong (stored c) x ⊎ (other x ≡ registers x)) is (linked (keeps_return_address c.function c.places) refl)
+    by false t e = inr (same.saved r e)
 
 -- a word of a frame's own part
 frame_word : (c : Context) (g later : Ground) (from sp at : ℕ) → Onward g later from → from ≤ sp → at + 4 ≤ (frame_of c).placed → ((x : ℕ) → sp ≤ x → x < private_end c sp → g.owner x ≡ of_frame) → number_at 4 later.flat (sp + at) ≡ number_at 4 g.flat (sp + at)
 frame_word c g later from sp at o le inside own = number_same 4 g.flat later.flat (sp + at) (λ x l u. o.same x (omega (arith, le, l)) (own x (omega (arith, l)) (omega (arith, u, inside))))
 
--- where slots and saved registers end
+-- where slots and stored registers end
 pub slot_inside : (c : Context) (k : ℕ) → HasSlot c.places k → slot_offset c k + 4 ≤ (frame_of c).placed
-slot_inside c k h = let inside = frame_laws.slot_inside c.places k h in omega (arith, inside)
+slot_inside c k h = frame_laws.slot_inside c.function c.places k h
 
-pub register_inside : (c : Context) (i : ℕ) → i < length (used_registers c.places) → register_at i + 4 ≤ (frame_of c).placed
-register_inside c i h = omega (arith, h)
+pub register_inside : (c : Context) (i : ℕ) → i < length (stored c) → register_at i + 4 ≤ (frame_of c).placed
+register_inside c i h = let words = stored_words c.function c.places in omega (arith, h, words)
 
--- slots lie behind the saved registers
-pub slot_behind : (c : Context) (k : ℕ) → 4 + 4 * length (used_registers c.places) ≤ slot_offset c k
-slot_behind c k = let behind = frame_laws.slot_behind c.places k in omega (arith, behind)
+-- slots lie behind the stored registers
+pub slot_behind : (c : Context) (k : ℕ) → 4 * length (stored c) ≤ slot_offset c k
+slot_behind c k = let behind = frame_laws.slot_behind c.function c.places k in let words = stored_words c.function c.places in omega (arith, behind, words)
 
 pub placed_inside : (c : Context) → (frame_of c).placed + total c.function.blocks ≤ (frame_of c).cost
-placed_inside c = let e = (is_cost (kept c.places) (total c.function.blocks)).enough in omega (arith, e)
+placed_inside c = (is_cost (frame_words c.function c.places) (total c.function.blocks)).enough
+
+pub stored_inside : (c : Context) → 4 * length (stored c) ≤ (frame_of c).cost
+stored_inside c = let e = placed_inside c in let words = stored_words c.function c.places in omega (arith, e, words)
 
 module _ (s : Setup) where
-  pub frame_onward : (g later : Ground) (f : ℕ) (registers other : ℕ → ℕ) (from sp number : ℕ) (values : File) → Onward g later from → from ≤ sp → SameSaved registers other → SameHeld values registers other → HasFrame s g f registers sp number values → HasFrame s later f other sp number values
+  pub frame_onward : (g later : Ground) (f : ℕ) (registers other : ℕ → ℕ) (from sp number : ℕ) (values : File) → Onward g later from → from ≤ sp → ((r : ℕ) → is_saved_register r ≡ true → other r ≡ registers r) → SameHeld values registers other → HasFrame s g f registers sp number values → HasFrame s later f other sp number values
   frame_onward g later f registers other from sp number values o le same standing h =
       let made = h.made in
       let longer = o.after.after.longer in
       record {
         holds = λ p v e. let a = h.holds p v e in record { has = a.has; stands = held p v e a.has a.stands };
-        words = λ r k. let e = same.same r k in let w = h.words r k in omega (arith, e, w);
+        words = λ r k. let e = same r k in let w = h.words r k in omega (arith, e, w);
         private = λ at l u. o.frames at (omega (arith, le, l)) (h.private at l u);
         placed = λ i k. o.after.same (number + i) (omega (arith, made, k)) ∙ h.placed i k;
         made = omega (arith, made, longer);
@@ -172,36 +269,32 @@ module _ (s : Setup) where
       held p v e has x = subst (λ (y : ℕ). StandsFor later.memory later.address_of v y) (sym (word p v e has)) (value_kept g.memory later.memory g.address_of later.address_of v (word_in (context s f) registers g.flat sp p) o.after x)
 
   -- what a frame gives back
-  pub caller_same : (g later : Ground) (f : ℕ) (registers other : ℕ → ℕ) (from sp : ℕ) → Onward g later from → from ≤ sp → SameSaved registers other → ((at : ℕ) → sp ≤ at → at < private_end (context s f) sp → g.owner at ≡ of_frame) → SameSaved (caller_registers (context s f) registers g.flat sp) (caller_registers (context s f) other later.flat sp)
+  pub caller_same : (g later : Ground) (f : ℕ) (registers other : ℕ → ℕ) (from sp : ℕ) → Onward g later from → from ≤ sp → SameKept (context s f) registers other → ((at : ℕ) → sp ≤ at → at < private_end (context s f) sp → g.owner at ≡ of_frame) → SameGiven (caller_registers (context s f) registers g.flat sp) (caller_registers (context s f) other later.flat sp)
   caller_same g later f registers other from sp o le same private = record {
-    same = λ r h. saved_in_same (used_registers (context s f).places) registers other g.flat later.flat sp 0 r (same.same r h) (λ k l u. frame_word (context s f) g later from sp (register_at k) o le (register_inside (context s f) k (omega (arith, u))) private);
+    same = λ r h. saved_in_kept (stored (context s f)) registers other g.flat later.flat sp 0 r (given_kept (context s f) registers other same r h) (λ k l u. frame_word (context s f) g later from sp (register_at k) o le (register_inside (context s f) k (omega (arith, u))) private);
   }
 
-  -- the return address
-  return_same : (g later : Ground) (f : ℕ) (from sp : ℕ) → Onward g later from → from ≤ sp → ((at : ℕ) → sp ≤ at → at < private_end (context s f) sp → g.owner at ≡ of_frame) → number_at 4 later.flat sp ≡ number_at 4 g.flat sp
-  return_same g later f from sp o le private =
-      let z : sp + 0 ≡ sp = omega arith in
-      subst (λ (x : ℕ). number_at 4 later.flat x ≡ number_at 4 g.flat x) z (frame_word (context s f) g later from sp 0 o le (omega arith) private)
-
-  pub stack_onward : (g later : Ground) (stack : List (Waiting File)) (registers other : ℕ → ℕ) (from sp return_to : ℕ) → Onward g later from → from ≤ sp → SameSaved registers other → HasStack s g stack registers sp return_to → HasStack s later stack other sp return_to
-  stack_onward g later [] registers other from sp return_to o le same h = (h.0, (h.1.0, λ r k. same.same r k ∙ h.1.1 r k))
-  stack_onward g later (w ∷ stack) registers other from sp return_to o le same h =
+  pub stack_onward : (g later : Ground) (stack : List (Waiting File)) (registers other : ℕ → ℕ) (from sp : ℕ) → Onward g later from → from ≤ sp → SameGiven registers other → HasStack s g stack registers sp → HasStack s later stack other sp
+  stack_onward g later [] registers other from sp o le same h = (h.0, (same.same 1 refl ∙ h.1.0, λ r k. same.same r (saved_is_given r k) ∙ h.1.1 r k))
+  stack_onward g later (w ∷ stack) registers other from sp o le same h =
       let f = w.activation.function in
       let waits = h.0 in
-      let word = return_same g later f from sp o le waits.frame.private in (
+      let link : other 1 ≡ registers 1 = same.same 1 refl in
+      let kept = kept_of_given (context s f) registers other same in
+      let aligned = waits.aligned in
+      let low = waits.low in (
         record {
-          takes = waits.takes;
+          takes = subst (λ (x : ℕ). Lays (instruction_at s.image) s.label_at x (plain (take_result (context s f) w.taken_by)) (place s f w.activation.at)) (sym link) waits.takes;
           known = waits.known;
           inside = waits.inside;
           taken = waits.taken;
-          frame = frame_onward g later f registers other from sp w.activation.first_block w.activation.held o le same (λ r v e. same.same r (waits.stays (Register r) v e)) waits.frame;
+          frame = frame_onward g later f registers other from sp w.activation.first_block w.activation.held o le kept.saved (λ r v e. kept.saved r (waits.stays (Register r) v e)) waits.frame;
           stays = waits.stays;
           in_room = waits.in_room;
-          aligned = waits.aligned;
-          low = waits.low;
+          aligned = omega (arith, link, aligned);
+          low = omega (arith, link, low);
         },
-        subst (λ (x : ℕ). HasStack s later stack (caller_registers (context s f) other later.flat sp) (sp + cost s f) x) (sym word)
-            (stack_onward g later stack (caller_registers (context s f) registers g.flat sp) (caller_registers (context s f) other later.flat sp) from (sp + cost s f) (number_at 4 g.flat sp) o (omega (arith, le)) (caller_same g later f registers other from sp o le same waits.frame.private) h.1),
+        stack_onward g later stack (caller_registers (context s f) registers g.flat sp) (caller_registers (context s f) other later.flat sp) from (sp + cost s f) o (omega (arith, le)) (caller_same g later f registers other from sp o le kept waits.frame.private) h.1,
       )
 
   -- ---- blocks
@@ -231,29 +324,30 @@ module _ (s : Setup) where
 
   module _ (a : Activation File) (m : Memory) (stack : List (Waiting File)) (l : Lay) (registers : ℕ → ℕ) (sp : ℕ) (flat : ℕ → ℕ) (r : IsRelated s a m stack l registers sp flat) where
     -- nothing of frames and blocks is changed
-    related_onward : (other later : ℕ → ℕ) → SameSaved registers other → SameHeld a.held registers other → ((at : ℕ) → sp ≤ at → l.owner at ≡ of_frame → later at ≡ flat at) → SameCells m l.address_of flat later → IsRelated s a m stack l other sp later
+    related_onward : (other later : ℕ → ℕ) → SameKept (context s a.function) registers other → SameHeld a.held registers other → ((at : ℕ) → sp ≤ at → l.owner at ≡ of_frame → later at ≡ flat at) → SameCells m l.address_of flat later → IsRelated s a m stack l other sp later
     related_onward other later same standing frames cells =
         let g = ground m l flat in
         let h = ground m l later in
         let f = a.function in
         let o : Onward g h sp = record { after = later_none m l.address_of; frames = λ at le e. e; same = frames } in
-        let word = return_same g h f sp sp o (omega arith) r.frame.private in
         record {
           known = r.known;
-          frame = frame_onward g h f registers other sp sp a.first_block a.held o (omega arith) same standing r.frame;
+          frame = frame_onward g h f registers other sp sp a.first_block a.held o (omega arith) same.saved standing r.frame;
           in_room = r.in_room;
-          above = subst (λ (x : ℕ). HasStack s h stack (caller_registers (context s f) other later sp) (sp + cost s f) x) (sym word)
-              (stack_onward g h stack (caller_registers (context s f) registers flat sp) (caller_registers (context s f) other later sp) sp (sp + cost s f) (number_at 4 flat sp) o (omega arith) (caller_same g h f registers other sp sp o (omega arith) same r.frame.private) r.above);
+          above = stack_onward g h stack (caller_registers (context s f) registers flat sp) (caller_registers (context s f) other later sp) sp (sp + cost s f) o (omega arith) (caller_same g h f registers other sp sp o (omega arith) same r.frame.private) r.above;
           blocks = blocks_same m l sp flat later cells r.blocks;
           root = r.root;
         }
 
     -- others change what isn't the code's own
-    pub related_held : (other later : ℕ → ℕ) → SameSaved registers other → SameHeld a.held registers other → SameOwn s.room sp flat later → IsRelated s a m stack l other sp later
+    pub related_held : (other later : ℕ → ℕ) → SameKept (context s a.function) registers other → SameHeld a.held registers other → SameOwn s.room sp flat later → IsRelated s a m stack l other sp later
     related_held other later same standing h = related_onward other later same standing (λ at le e. h.same at (inl le)) (λ b o live lt. h.same (l.address_of b + o) (cell_own (ground m l flat) sp b o r.blocks live lt))
 
+    pub related_holding : (other later : ℕ → ℕ) → SameHolding (context s a.function) registers other → SameOwn s.room sp flat later → IsRelated s a m stack l other sp later
+    related_holding other later same h = related_held other later (kept_of_holding (context s a.function) registers other same) (λ q v e. same.values q (r.frame.holds (Register q) v e).has.0) h
+
     pub related_own : (other later : ℕ → ℕ) → SameValues registers other → SameOwn s.room sp flat later → IsRelated s a m stack l other sp later
-    related_own other later same h = related_held other later (saved_of_values registers other same) (λ q v e. same.same q (r.frame.holds (Register q) v e).has.0) h
+    related_own other later same h = related_holding other later (holding_of_values (context s a.function) registers other same) h
 
     -- the activation goes on elsewhere
     pub related_to : (at : ℕ) → IsRelated s (record a { at = at }) m stack l registers sp flat
@@ -312,14 +406,6 @@ hold_with c m address_of registers other flat later sp values d v here others ol
     elsewhere : same_place p d ≡ false → IsHeld c m address_of other later sp p u
     elsewhere q = others p u q (old p u (ap (λ b. if b then Some v else values p) (sym q) ∙ e))
 
--- a register that is saved is given back whatever it has become
-saved_in_among : (used : List ℕ) (registers other flat : ℕ → ℕ) (sp i r : ℕ) → IsAmong used r → saved_in used other flat sp i r ≡ saved_in used registers flat sp i r
-saved_in_among [] registers other flat sp i r h = absurd h
-saved_in_among (q ∷ used) registers other flat sp i r (inl e) =
-    let t : (r == q) ≡ true = grind (arith, nat_tests, e) in
-    ap (λ b. if b then number_at 4 flat (sp + register_at i) else saved_in used other flat sp (i + 1) r) t ∙ ap (λ b. if b then number_at 4 flat (sp + register_at i) else saved_in used registers flat sp (i + 1) r) (sym t)
-saved_in_among (q ∷ used) registers other flat sp i r (inr h) = ap (λ z. if r == q then number_at 4 flat (sp + register_at i) else z) (saved_in_among used registers other flat sp (i + 1) r h)
-
 module _ (s : Setup) (a : Activation File) (m : Memory) (stack : List (Waiting File)) (l : Lay) (registers : ℕ → ℕ) (sp : ℕ) (flat : ℕ → ℕ) (r : IsRelated s a m stack l registers sp flat) where
   abbrev c : Context
   c = context s a.function
@@ -335,10 +421,9 @@ module _ (s : Setup) (a : Activation File) (m : Memory) (stack : List (Waiting F
       let inside = slot_inside c k has in
       let whole = placed_inside c in
       let far : (y : ℕ) → sp + (frame_of c).cost ≤ y → later y ≡ flat y = λ y le. stored_other Sw flat (sp + at) x y (inr (omega (arith, le, inside, whole))) in
-      let word : number_at 4 later sp ≡ number_at 4 flat sp = number_beside flat (sp + at) x 4 sp (inl (omega (arith, behind))) in
       let o : Onward g h (sp + (frame_of c).cost) = record { after = later_none m l.address_of; frames = λ y le e. e; same = λ y le e. far y le } in
-      let given : SameSaved (caller_registers c registers flat sp) (caller_registers c registers later sp) = record {
-        same = λ q e. saved_in_same (used_registers c.places) registers registers flat later sp 0 q refl (λ i lo hi. number_beside flat (sp + at) x 4 (sp + register_at i) (inl (omega (arith, hi, behind))));
+      let given : SameGiven (caller_registers c registers flat sp) (caller_registers c registers later sp) = record {
+        same = λ q e. saved_in_kept (stored c) registers registers flat later sp 0 q (inr refl) (λ i lo hi. number_beside flat (sp + at) x 4 (sp + register_at i) (inl (omega (arith, hi, behind))));
       } in
       let here : StandsFor m l.address_of v (number_at 4 later (sp + at)) = subst (λ (y : ℕ). StandsFor m l.address_of v y) (sym (number_stored flat (sp + at) x)) stands in
       record {
@@ -352,8 +437,7 @@ module _ (s : Setup) (a : Activation File) (m : Memory) (stack : List (Waiting F
           apart = r.frame.apart;
         };
         in_room = r.in_room;
-        above = subst (λ (y : ℕ). HasStack s h stack (caller_registers c registers later sp) (sp + (frame_of c).cost) y) (sym word)
-            (stack_onward s g h stack (caller_registers c registers flat sp) (caller_registers c registers later sp) (sp + (frame_of c).cost) (sp + (frame_of c).cost) (number_at 4 flat sp) o (omega arith) given r.above);
+        above = stack_onward s g h stack (caller_registers c registers flat sp) (caller_registers c registers later sp) (sp + (frame_of c).cost) (sp + (frame_of c).cost) o (omega arith) given r.above;
         blocks = blocks_same s m l sp flat later (λ b i live lt. stored_other Sw flat (sp + at) x (l.address_of b + i) (outside (l.address_of b + i) b i (r.blocks.lies.owned b i live lt))) r.blocks;
         root = r.root;
       }
@@ -364,7 +448,7 @@ module _ (s : Setup) (a : Activation File) (m : Memory) (stack : List (Waiting F
       others : (k : ℕ) → HasPlace c (Slot k) → (p : Place) (u : Value) → same_place p (Slot k) ≡ false → IsHeld c m l.address_of registers flat sp p u → IsHeld c m l.address_of registers (store_4 flat (sp + slot_offset c k) x) sp p u
       others k has (Slot i) u n held =
           let ne : i ≡ k → ⊥ = λ e. let t : true ≡ false = sym (ap (λ j. same_place (Slot j) (Slot k)) e ∙ place_same (Slot k)) ∙ n in cc in
-          let apart = frame_laws.slots_apart c.places i k held.has has ne in
+          let apart = frame_laws.slots_apart c.function c.places i k held.has has ne in
           let word = number_beside flat (sp + slot_offset c k) x 4 (sp + slot_offset c i) (shift i k apart) in
           record {
             has = held.has;
@@ -382,11 +466,11 @@ module _ (s : Setup) (a : Activation File) (m : Memory) (stack : List (Waiting F
       let g = ground m l flat in
       let o : Onward g g sp = record { after = later_none m l.address_of; frames = λ y le e. e; same = λ y le e. refl } in
       let here : StandsFor m l.address_of v (with_value registers q x q) = subst (λ (y : ℕ). StandsFor m l.address_of v y) (sym (value_here registers q x q refl)) stands in
-      let given : SameSaved (caller_registers c registers flat sp) (caller_registers c (with_value registers q x) flat sp) = record {
-        same = λ z e. ⊎_elim
-            (λ i. saved_in_among (used_registers c.places) registers (with_value registers q x) flat sp 0 z (subst (λ (y : ℕ). IsAmong (used_registers c.places) y) (sym i) (has.1 (subst (λ (y : ℕ). is_saved_register y ≡ true) i e))))
-            (λ n. saved_in_same (used_registers c.places) registers (with_value registers q x) flat flat sp 0 z (value_there registers q x z n) (λ i lo hi. refl))
-            (cases_eq z q);
+      let given : SameGiven (caller_registers c registers flat sp) (caller_registers c (with_value registers q x) flat sp) = record {
+        same = λ z e. saved_in_kept (stored c) registers (with_value registers q x) flat flat sp 0 z (⊎_elim
+            (λ i. inl (subst (λ (y : ℕ). IsAmong (stored c) y) (sym i) (has.1 (given_value q has.0 (subst (λ (y : ℕ). is_given y ≡ true) i e)))))
+            (λ n. inr (value_there registers q x z n))
+            (cases_eq z q)) (λ i lo hi. refl);
       } in
       record {
         known = r.known;
@@ -399,7 +483,7 @@ module _ (s : Setup) (a : Activation File) (m : Memory) (stack : List (Waiting F
           apart = r.frame.apart;
         };
         in_room = r.in_room;
-        above = stack_onward s g g stack (caller_registers c registers flat sp) (caller_registers c (with_value registers q x) flat sp) sp (sp + (frame_of c).cost) (number_at 4 flat sp) o (omega arith) given r.above;
+        above = stack_onward s g g stack (caller_registers c registers flat sp) (caller_registers c (with_value registers q x) flat sp) sp (sp + (frame_of c).cost) o (omega arith) given r.above;
         blocks = r.blocks;
         root = r.root;
       }

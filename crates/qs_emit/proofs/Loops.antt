@@ -165,15 +165,15 @@ module _ (s : Setup) (sp to size width : ℕ) (start registers : ℕ → ℕ) wh
         let b1 : SameOwn s.room sp new m1.now.memory = subst (λ (p : ℕ). SameOwn s.room p new m1.now.memory) h.at.x2 g.bytes_are in
         let b2 : SameOwn s.room sp m1.now.memory m2.now.memory = subst (λ (p : ℕ). SameOwn s.room p m1.now.memory m2.now.memory) (x2 ∙ h.at.x2) k.bytes_same in
         let all = same_on s.room sp new m1.now.memory m2.now.memory b1 b2 in
-        let a5_is : m1.now.registers 15 ≡ to + done = g.others 15 (λ e. absurd (omega (arith, e))) ∙ h.at.a5 in
+        let a5_is : m1.now.registers 15 ≡ to + done = g.registers 15 ∙ h.at.a5 in
         record {
           done = done + width;
           at = record {
             x2 = y2 ∙ x2 ∙ h.at.x2;
             sum = omega (arith, sum);
             a5 = k.got ∙ goes_on (m1.now.registers 15) (to + done) width a5_is (omega (arith, low, sum)) ∙ omega arith;
-            a7 = k.others 17 (λ e. absurd (omega (arith, e))) ∙ g.others 17 (λ e. absurd (omega (arith, e))) ∙ h.at.a7;
-            saved = record { same = λ q b. k.others q (value_apart q 15 b refl) ∙ g.others q (value_apart q 1 b refl) ∙ h.at.saved.same q b };
+            a7 = k.others 17 (λ e. absurd (omega (arith, e))) ∙ g.registers 17 ∙ h.at.a7;
+            saved = record { same = λ q b. k.others q (value_apart q 15 b refl) ∙ g.registers q ∙ h.at.saved.same q b };
             aligned = let f = aligned_on width (to + done) is.small h.at.aligned in let e : to + (done + width) ≡ to + done + width = omega arith in subst (λ (x : ℕ). x % width ≡ 0) (sym e) f;
           };
           inside = λ j lt. all.same (to + j) (own j (omega (arith, lt, sum))) ∙ filled m h j lt;
@@ -271,7 +271,7 @@ module _ (s : Setup) (sp to size width : ℕ) (start registers : ℕ → ℕ) wh
           let b3 : SameOwn s.room sp new m3.now.memory = subst (λ (f : ℕ → ℕ). SameOwn s.room sp f m3.now.memory) as_new (subst (λ (p : ℕ). SameOwn s.room p (stored kind m2.now.memory (to + done) (m2.now.registers 14)) m3.now.memory) x_two g3.bytes_are) in
           let b4 : SameOwn s.room sp m3.now.memory m4.now.memory = subst (λ (p : ℕ). SameOwn s.room p m3.now.memory m4.now.memory) (x3 ∙ x_two) g4.bytes_same in
           let all = same_on s.room sp new m3.now.memory m4.now.memory b3 b4 in
-          let a5_three : m3.now.registers 15 ≡ to + done = g3.others 15 (λ e. absurd (omega (arith, e))) ∙ a5_two in
+          let a5_three : m3.now.registers 15 ≡ to + done = g3.registers 15 ∙ a5_two in
           let a6_one : m1.now.registers 16 ≡ from + done = g1.others 16 (λ e. absurd (omega (arith, e))) ∙ h.a6 in
           record {
             done = done + width;
@@ -279,11 +279,11 @@ module _ (s : Setup) (sp to size width : ℕ) (start registers : ℕ → ℕ) wh
               x2 = x4 ∙ x3 ∙ x_two;
               sum = omega (arith, sum);
               a5 = g4.got ∙ goes_on (m3.now.registers 15) (to + done) width a5_three (omega (arith, low, sum)) ∙ omega arith;
-              a7 = g4.others 17 (λ e. absurd (omega (arith, e))) ∙ g3.others 17 (λ e. absurd (omega (arith, e))) ∙ g2.others 17 (λ e. absurd (omega (arith, e))) ∙ g1.others 17 (λ e. absurd (omega (arith, e))) ∙ h.at.a7;
-              saved = record { same = λ q b. g4.others q (value_apart q 15 b refl) ∙ g3.others q (value_apart q 1 b refl) ∙ g2.others q (value_apart q 16 b refl) ∙ g1.others q (value_apart q 14 b refl) ∙ h.at.saved.same q b };
+              a7 = g4.others 17 (λ e. absurd (omega (arith, e))) ∙ g3.registers 17 ∙ g2.others 17 (λ e. absurd (omega (arith, e))) ∙ g1.others 17 (λ e. absurd (omega (arith, e))) ∙ h.at.a7;
+              saved = record { same = λ q b. g4.others q (value_apart q 15 b refl) ∙ g3.registers q ∙ g2.others q (value_apart q 16 b refl) ∙ g1.others q (value_apart q 14 b refl) ∙ h.at.saved.same q b };
               aligned = let f = aligned_on width (to + done) is.small h.at.aligned in let e : to + (done + width) ≡ to + done + width = omega arith in subst (λ (y : ℕ). y % width ≡ 0) (sym e) f;
             };
-            a6 = g4.others 16 (λ e. absurd (omega (arith, e))) ∙ g3.others 16 (λ e. absurd (omega (arith, e))) ∙ g2.got ∙ goes_on (m1.now.registers 16) (from + done) width a6_one (omega (arith, source_low, sum)) ∙ omega arith;
+            a6 = g4.others 16 (λ e. absurd (omega (arith, e))) ∙ g3.registers 16 ∙ g2.got ∙ goes_on (m1.now.registers 16) (from + done) width a6_one (omega (arith, source_low, sum)) ∙ omega arith;
             inside = λ j lt. all.same (to + j) (own j (omega (arith, lt, sum))) ∙ moved m m2 h bytes before j lt;
             outside = λ z o out. all.same z o ∙ stored_other kind m2.now.memory (to + done) v z (beside z done out) ∙ before.same z o ∙ h.outside z o (less z done out);
           })))))

@@ -20,7 +20,7 @@ use Rattle.qs_emit.specs.Surroundings.{HasBlocks, Lay, ground}
 use Rattle.qs_emit.specs.Relation.{Setup, context, cost, HasFrame, HasStack, around}
 use Rattle.qs_emit.proofs.Injection.{Later, cell_kept}
 use Rattle.qs_emit.proofs.Steps.{data_below}
-use Rattle.qs_emit.proofs.FrameLaws.{SameSaved, reach_like, stack_onward, placed_inside, SameCells}
+use Rattle.qs_emit.proofs.FrameLaws.{SameGiven, reach_like, stack_onward, placed_inside, SameCells}
 
 -- blocks lie one after the other from an address on; what is between them is the frame's
 abbrev pub owner_in : List ℕ → (number from at : ℕ) → Owner
@@ -187,6 +187,6 @@ module _ (s : Setup) (m : Memory) (l : Lay) (flat later : ℕ → ℕ) (f : ℕ)
   }
 
   -- the frames above
-  pub stack_new : (stack : List (Waiting File)) (registers other : ℕ → ℕ) (return_to : ℕ) → SameSaved registers other → ((at : ℕ) → sp ≤ at → later at ≡ flat at) → HasStack s (ground m l flat) stack registers sp return_to → HasStack s (ground made new later) stack other sp return_to
-  stack_new stack registers other return_to saved outer h =
-      stack_onward s (ground m l flat) (ground made new later) stack registers other sp sp return_to (record { after = later_new; frames = λ at le p. owner_above at le ∙ p; same = λ at le p. outer at le }) (omega arith) saved h
+  pub stack_new : (stack : List (Waiting File)) (registers other : ℕ → ℕ) → SameGiven registers other → ((at : ℕ) → sp ≤ at → later at ≡ flat at) → HasStack s (ground m l flat) stack registers sp → HasStack s (ground made new later) stack other sp
+  stack_new stack registers other given outer h =
+      stack_onward s (ground m l flat) (ground made new later) stack registers other sp sp (record { after = later_new; frames = λ at le p. owner_above at le ∙ p; same = λ at le p. outer at le }) (omega arith) given h

@@ -184,12 +184,12 @@ module _ (s : Setup) (sp : ℕ) where
       let new = stored Sb m.now.memory (to + offset) 0 in
       does_then s m (pieces.store Sb 0 15 offset ∷ []) (zero_bytes count (offset + 1)) _ _ (store_does s m Sb 0 15 offset (to + offset) address (omega arith) (may m x2 offset (omega (arith, fits)))) (λ m1 y2 g.
       let x : m1.now.registers 2 ≡ sp = y2 ∙ x2 in
-      let a5_one : m1.now.registers 15 ≡ to = g.others 15 (λ e. absurd (omega (arith, e))) ∙ a5 in
+      let a5_one : m1.now.registers 15 ≡ to = g.registers 15 ∙ a5 in
       let bytes : SameOwn s.room sp new m1.now.memory = subst (λ (p : ℕ). SameOwn s.room p new m1.now.memory) x2 g.bytes_are in
       does_is s m1 _ _ _ (bytes_do m1 to size (offset + 1) count x a5_one (omega (arith, fits)) low own may) (λ m2 z2 k. record {
         x2 = k.x2;
         a5 = k.a5;
-        saved = record { same = λ q b. k.saved.same q b ∙ g.others q (value_apart q 1 b refl) };
+        saved = record { same = λ q b. k.saved.same q b ∙ g.registers q };
         inside = λ j lo hi. ⊎_elim
             (λ e. k.outside (to + j) (own j (omega (arith, hi, fits))) (inl (omega (arith, e))) ∙ bytes.same (to + j) (own j (omega (arith, hi, fits))) ∙ value_here m.now.memory (to + offset) (0 % 2 ^ 8) (to + j) (omega (arith, e)))
             (λ n. k.inside j (after j lo n) (omega (arith, hi)))

@@ -20,17 +20,17 @@ use Rattle.qs_tac.specs.declared.places.Place.TheVariants.{Slot, Register}
 use Rattle.qs_tac.specs.declared.operands.Operand.{Operand}
 use Rattle.qs_tac.specs.declared.operands.Operand.TheVariants.{Temporary, Integer, Byte, Constant, Null, Local, Data}
 use Rattle.qs_tac.specs.declared.units.TacData.{TacData}
-use Rattle.qs_tac.specs.Holders.{Holder, File, places, with_place, is_saved_register}
+use Rattle.qs_tac.specs.Holders.{Holder, File, places, with_place}
 use Rattle.qs_tac.specs.Places.{place_of, place_in, is_for_values}
 use Rattle.qs_tac.specs.Fits.{operand_fits}
 use Rattle.qs_tac.specs.Units.{plain_of}
 use Rattle.qs_tac.specs.Values.{Activation, operand}
 use Rattle.qs_tac.specs.Steps.{Waiting}
 use Rattle.std.specs.List.{slice_get}
-use Rattle.qs_frames.specs.Layout.{offset}
+use Rattle.qs_frames.specs.Layout.{offset, keeps_return_address}
 use Rattle.qs_frames.proofs.FrameLaws as frame_laws
-use Rattle.qs_frames.proofs.FrameLaws.{offset_inside}
-use Rattle.qs_emit_selection.specs.Pieces.{constant}
+use Rattle.qs_frames.proofs.FrameLaws.{offset_inside, in_reach}
+use Rattle.qs_emit_selection.specs.Pieces.{constant, is_near}
 use Rattle.qs_emit_selection.specs.Operands.{Context, frame_of, slot_offset, local_offset, place_into, byte_into, into as operand_into, register_of, unless_there, operand_code, operand_register, result_register, put_place, result_code}
 use Rattle.qs_emit_selection.specs.Data.{data_address}
 use Rattle.qs_emit.specs.Machine.{Watched}
@@ -39,9 +39,9 @@ use Rattle.qs_emit.specs.Surroundings.{Lay, ground}
 use Rattle.qs_emit.specs.Relation.{Setup, data_end, context, function_at, HasPlace, IsRelated}
 use Rattle.qs_emit.proofs.Bytes.{number_small}
 use Rattle.qs_emit.proofs.Injection.{HaveWords, value_here, value_there}
-use Rattle.qs_emit.proofs.Steps.{Does, Gets, Writes, IsFree, does_with, does_then, does_is, does_none, op_imm_does}
-use Rattle.qs_emit.proofs.Slots.{IsInFrame, word_at, reads_free, constant_does, load_from_does, store_to_does, address_does, gets_is}
-use Rattle.qs_emit.proofs.FrameLaws.{SameValues, slot_inside, placed_inside, related_own, related_slot, related_register}
+use Rattle.qs_emit.proofs.Steps.{Does, Gets, IsFree, does_with, does_then, does_is, does_none, op_imm_does}
+use Rattle.qs_emit.proofs.Slots.{IsInFrame, Stores, word_at, reads_free, constant_does, load_from_does, store_to_does, address_does, gets_is}
+use Rattle.qs_emit.proofs.FrameLaws.{is_given, is_steady, value_is_steady, value_link, SameValues, SameHolding, slot_inside, placed_inside, related_own, related_holding, related_slot, related_register}
 use Rattle.qs_emit.proofs.Access.{have_words, stands_word}
 use Rattle.qs_emit.proofs.Words.{low_byte}
 
@@ -49,29 +49,29 @@ use Rattle.qs_emit.proofs.Words.{low_byte}
 abbrev pub holder : Setup → Holder File
 holder s = places (λ f. plain_of (slice_get s.unit.functions f)) (place_in s.places)
 
--- a register that holds no value of linear code and isn't x2: code may use it for its steps
+-- a register that holds no value of linear code, and is neither x1 nor x2: code may use it for its steps
 pub record IsScratch (r : ℕ) : Type 0 where
   pub free : IsFree r
-  pub valueless : is_for_values r ≡ false
+  pub steadyless : is_steady r ≡ false
 
 -- a0 to a7
 pub argument_scratch : (r : ℕ) → 10 ≤ r → r < 18 → IsScratch r
 argument_scratch r lo hi = record {
   free = (λ e. absurd (omega (arith, e, lo)), λ e. absurd (omega (arith, e, lo)));
-  valueless = grind (arith, nat_tests, lo, hi);
+  steadyless = grind (arith, nat_tests, lo, hi);
 }
 
-pub saved_apart : (q r : ℕ) → is_saved_register q ≡ true → is_saved_register r ≡ false → q ≡ r → ⊥
-saved_apart q r h k e = let no_way : true ≡ false = sym h ∙ ap is_saved_register e ∙ k in cc
+pub given_apart : (q r : ℕ) → is_given q ≡ true → is_given r ≡ false → q ≡ r → ⊥
+given_apart q r h k e = let no_way : true ≡ false = sym h ∙ ap is_given e ∙ k in cc
 
-pub saved_free : (q : ℕ) → is_saved_register q ≡ true → IsFree q
-saved_free q h = (saved_apart q 0 h refl, saved_apart q 2 h refl)
+pub given_free : (q : ℕ) → is_given q ≡ true → IsFree q
+given_free q h = (given_apart q 0 h refl, given_apart q 2 h refl)
 
-pub value_apart : (q r : ℕ) → is_for_values q ≡ true → is_for_values r ≡ false → q ≡ r → ⊥
-value_apart q r h k e = let no_way : true ≡ false = sym h ∙ ap is_for_values e ∙ k in cc
+pub value_apart : (q r : ℕ) → is_steady q ≡ true → is_steady r ≡ false → q ≡ r → ⊥
+value_apart q r h k e = let no_way : true ≡ false = sym h ∙ ap is_steady e ∙ k in cc
 
 pub value_free : (q : ℕ) → is_for_values q ≡ true → IsFree q
-value_free q h = (value_apart q 0 h refl, value_apart q 2 h refl)
+value_free q h = (value_apart q 0 (value_is_steady q h) refl, value_apart q 2 (value_is_steady q h) refl)
 
 -- where an operand stands: in the register that was free for it, in x0, or in a register that holds a value
 pub record IsThere (free r : ℕ) : Type 0 where
@@ -84,7 +84,16 @@ there_apart free r q there scratch n e = by there.is
     by : (r ≡ free) ⊎ ((r ≡ 0) ⊎ (is_for_values r ≡ true)) → ⊥
     by (inl k) = n (sym k ∙ e)
     by (inr (inl k)) = scratch.free.0 (sym e ∙ k)
-    by (inr (inr k)) = value_apart r q k scratch.valueless e
+    by (inr (inr k)) = value_apart r q (value_is_steady r k) scratch.steadyless e
+
+-- and none stands in x1
+pub there_beside : (free r : ℕ) → IsThere free r → (free ≡ 1 → ⊥) → r ≡ 1 → ⊥
+there_beside free r there n e = by there.is
+  where
+    by : (r ≡ free) ⊎ ((r ≡ 0) ⊎ (is_for_values r ≡ true)) → ⊥
+    by (inl k) = n (sym k ∙ e)
+    by (inr (inl k)) = absurd (omega (arith, k, e))
+    by (inr (inr k)) = value_link r k e
 
 -- a register reads the same
 pub reads_same : (m m1 : State) (r : ℕ) → m1.registers r ≡ m.registers r → register m1 r ≡ register m r
@@ -93,6 +102,10 @@ reads_same m m1 r e = by (r == 0) e
     by : (b : Bool) → m1.registers r ≡ m.registers r → (if b then 0 else m1.registers r) ≡ (if b then 0 else m.registers r)
     by true e = refl
     by false e = e
+
+near_below : (offset : ℕ) → offset < 2048 → is_near offset ≡ true
+unfolding is_near
+near_below offset h = grind (arith, nat_tests, h)
 
 -- the data have addresses that are words
 block_below : (data_blocks : List TacData) (i : ℕ) → i < length data_blocks → offset (map (λ (d : TacData). d.size) data_blocks) i ≤ data_end data_blocks
@@ -125,7 +138,7 @@ module _ (s : Setup) (a : Activation File) (w : Memory) (stack : List (Waiting F
   }
 
   pub gets_values : (m m1 : Watched) (r x : ℕ) → IsScratch r → Gets s m r x m1 → SameValues m.now.registers m1.now.registers
-  gets_values m m1 r x scratch g = record { same = λ q h. g.others q (value_apart q r h scratch.valueless) }
+  gets_values m m1 r x scratch g = record { same = λ q h. g.others q (value_apart q r h scratch.steadyless) }
 
   pub amid_gets : (m m1 : Watched) (r x : ℕ) → IsScratch r → IsAmid m → m1.now.registers 2 ≡ m.now.registers 2 → Gets s m r x m1 → IsAmid m1
   amid_gets m m1 r x scratch h x2 g = amid_on m m1 h x2 (gets_values m m1 r x scratch g) g.bytes_same
@@ -156,7 +169,7 @@ module _ (s : Setup) (a : Activation File) (w : Memory) (stack : List (Waiting F
       record { above = omega (arith, lo, e); below = omega (arith, hi, e, fits) }
 
   pub slot_aligned : (m : Watched) (k : ℕ) → IsAmid m → (m.now.registers 2 + slot_offset c k) % 4 ≡ 0
-  slot_aligned m k h = let al = h.related.in_room.aligned in let e = h.x2 in let slot = frame_laws.slot_aligned c.places k in omega (arith, al, e, slot)
+  slot_aligned m k h = let al = h.related.in_room.aligned in let e = h.x2 in let slot = frame_laws.slot_aligned c.function c.places k in omega (arith, al, e, slot)
 
   pub slot_fits : (k : ℕ) → HasPlace c (Slot k) → slot_offset c k + 4 ≤ (frame_of c).cost
   slot_fits k has = let x = slot_inside c k has in let y = placed_inside c in omega (arith, x, y)
@@ -315,20 +328,40 @@ module _ (s : Setup) (a : Activation File) (w : Memory) (stack : List (Waiting F
   -- a register has a word, and the other registers that hold values are the same
   pub record Makes (m : Watched) (rd x : ℕ) (m1 : Watched) : Type 0 where
     pub got : m1.now.registers rd ≡ x
-    pub others : (q : ℕ) → is_for_values q ≡ true → (q ≡ rd → ⊥) → m1.now.registers q ≡ m.now.registers q
+    pub others : (q : ℕ) → is_steady q ≡ true → (q ≡ rd → ⊥) → m1.now.registers q ≡ m.now.registers q
     pub bytes : SameOwn s.room (m.now.registers 2) m.now.memory m1.now.memory
 
   -- the activation with a value in a place, before its next instruction
   abbrev pub holding : Place → Value → Activation File
   holding p v = record a { held = with_place a.held p (Some v) }
 
-  pub related_stored : (m m1 : Watched) (r k x : ℕ) (v : Value) → IsAmid m → HasPlace c (Slot k) → register m.now r ≡ x → StandsFor w l.address_of v x → m1.now.registers 2 ≡ m.now.registers 2 → Writes s m (store_4 m.now.memory (m.now.registers 2 + slot_offset c k) (register m.now r)) 1 m1 → IsRelated s (holding (Slot k) v) w stack l m1.now.registers sp m1.now.memory
+  -- where the return address stays in x1, the frame is in reach
+  slot_near : (k : ℕ) → HasPlace c (Slot k) → keeps_return_address c.function c.places ≡ false → is_near (slot_offset c k) ≡ true
+  slot_near k has e =
+      let inside = slot_inside c k has in
+      let reach = in_reach c.function c.places e in
+      let none = reach.0 in
+      let below = reach.1 in
+      near_below (slot_offset c k) (omega (arith, inside, none, below))
+
+  pub local_near : (i : ℕ) → i < length c.function.blocks → keeps_return_address c.function c.places ≡ false → is_near (local_offset c i) ≡ true
+  local_near i h e =
+      let inside = offset_inside c.function.blocks i h in
+      let reach = in_reach c.function c.places e in
+      let none = reach.0 in
+      let below = reach.1 in
+      near_below (local_offset c i) (omega (arith, inside, none, below))
+
+  pub stores_hold : (m m1 : Watched) (offset : ℕ) (new : ℕ → ℕ) → (keeps_return_address c.function c.places ≡ false → is_near offset ≡ true) → Stores s m offset new m1 → SameHolding c m.now.registers m1.now.registers
+  stores_hold m m1 offset new near g = record { values = λ q e. g.others q (value_link q e); link = λ e. g.near (near e) }
+
+  pub related_stored : (m m1 : Watched) (r k x : ℕ) (v : Value) → IsAmid m → HasPlace c (Slot k) → register m.now r ≡ x → StandsFor w l.address_of v x → m1.now.registers 2 ≡ m.now.registers 2 → Stores s m (slot_offset c k) (store_4 m.now.memory (m.now.registers 2 + slot_offset c k) (register m.now r)) m1 → IsRelated s (holding (Slot k) v) w stack l m1.now.registers sp m1.now.memory
   related_stored m m1 r k x v h has got stands x2 g =
       let new = store_4 m.now.memory (sp + slot_offset c k) x in
       let related = related_slot s a w stack l m.now.registers sp m.now.memory h.related k x v has (stands_word w l.address_of v x (are_words m h) stands) in
       let as_new : store_4 m.now.memory (m.now.registers 2 + slot_offset c k) (register m.now r) ≡ new = ap (λ (p : ℕ). store_4 m.now.memory (p + slot_offset c k) (register m.now r)) h.x2 ∙ ap (λ (y : ℕ). store_4 m.now.memory (sp + slot_offset c k) y) got in
       let own : SameOwn s.room sp new m1.now.memory = subst (λ (p : ℕ). SameOwn s.room p new m1.now.memory) h.x2 (subst (λ (f : ℕ → ℕ). SameOwn s.room (m.now.registers 2) f m1.now.memory) as_new g.bytes_are) in
-      related_own s (holding (Slot k) v) w stack l m.now.registers sp new related m1.now.registers m1.now.memory (record { same = λ q e. g.others q (value_apart q 1 e refl) }) own
+      related_holding s (holding (Slot k) v) w stack l m.now.registers sp new related m1.now.registers m1.now.memory (stores_hold m m1 (slot_offset c k) _ (slot_near k has) g) own
 
   -- a result that was made in a register that holds values is in its place
   pub related_made : (m m1 : Watched) (q x : ℕ) (v : Value) → IsAmid m → HasPlace c (Register q) → StandsFor w l.address_of v x → x < 2 ^ 32 → Makes m q x m1 → IsRelated s (holding (Register q) v) w stack l m1.now.registers sp m1.now.memory
@@ -345,7 +378,7 @@ module _ (s : Setup) (a : Activation File) (w : Memory) (stack : List (Waiting F
   -- the place and the other registers, behind a result
   pub record IsPut (m : Watched) (p : Place) (v : Value) (m1 : Watched) : Type 0 where
     pub amid : IsAmid s (holding s a w stack l sp p v) w stack l sp m1
-    pub others : (q : ℕ) → (q ≡ 1 → ⊥) → is_for_values q ≡ false → m1.now.registers q ≡ m.now.registers q
+    pub others : (q : ℕ) → is_steady q ≡ false → m1.now.registers q ≡ m.now.registers q
 
   -- a register's word into a place
   pub put_does : (m : Watched) (r x : ℕ) (p : Place) (v : Value) → IsAmid s a w stack l sp m → HasPlace d p → (r ≡ 1 → ⊥) → register m.now r ≡ x → StandsFor w l.address_of v x → Does s m (put_place d r p) (IsPut m p v)
@@ -353,7 +386,7 @@ module _ (s : Setup) (a : Activation File) (w : Memory) (stack : List (Waiting F
       does_is s m _ _ _ (store_to_does s m Sw r (slot_offset d k) not_ra (slot_aligned s a w stack l sp m k h) (in_frame s a w stack l sp m (slot_offset d k) 4 h (slot_fits s a w stack l sp k has)))
       (λ m1 x2 g. record {
         amid = record { x2 = x2 ∙ h.x2; related = related_stored s a w stack l sp m m1 r k x v h has got stands x2 g };
-        others = λ q n e. g.others q n;
+        others = λ q e. g.others q (λ i. value_apart 1 q refl e (sym i));
       })
   put_does m r x (Register q) v h has not_ra got stands =
       let small = are_words s a w stack l sp m h in
@@ -363,7 +396,7 @@ module _ (s : Setup) (a : Activation File) (w : Memory) (stack : List (Waiting F
           x2 = x2 ∙ h.x2;
           related = related_made s a w stack l sp m m1 q (x % 2 ^ 32) v h has (stands_word w l.address_of v x small stands) (omega arith) (record { got = g.got ∙ at; others = λ z e n. g.others z n; bytes = g.bytes_same });
         };
-        others = λ z n e. g.others z (λ i. value_apart q z has.0 e (sym i));
+        others = λ z e. g.others z (λ i. value_apart q z (value_is_steady q has.0) e (sym i));
       })
 
   -- where a result is made: in a0, or in the register that is its place

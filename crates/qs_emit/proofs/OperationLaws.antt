@@ -167,7 +167,7 @@ module _ (s : Setup) (a : Activation File) (w : Memory) (stack : List (Waiting F
   }
 
   pub leaves_operand : (m m1 : Watched) (free r : ℕ) (v : Value) → IsScratch free → m1.now.registers 2 ≡ m.now.registers 2 → HasOperand s a w stack l sp m free r v m1 → Leaves m m1
-  leaves_operand m m1 free r v scratch x2 o = record { x2 = x2; saved = record { same = λ q e. o.others q (value_apart q free e scratch.valueless) }; bytes = o.bytes }
+  leaves_operand m m1 free r v scratch x2 o = record { x2 = x2; saved = record { same = λ q e. o.others q (value_apart q free e scratch.steadyless) }; bytes = o.bytes }
 
   pub leaves_gets : (m m1 : Watched) (r x : ℕ) → IsScratch r → m1.now.registers 2 ≡ m.now.registers 2 → Gets s m r x m1 → Leaves m m1
   leaves_gets m m1 r x scratch x2 g = record { x2 = x2; saved = gets_values s a w stack l sp m m1 r x scratch g; bytes = g.bytes_same }

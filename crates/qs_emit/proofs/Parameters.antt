@@ -43,7 +43,7 @@ use Rattle.qs_emit.proofs.Injection.{value_kept, store_holds, stored_other}
 use Rattle.qs_emit.proofs.Steps.{Does, does_is, does_then, does_none, data_below}
 use Rattle.qs_emit.proofs.Slots.{IsInFrame, reads_free, store_to_does}
 use Rattle.qs_emit.proofs.FrameLaws.{place_cases, place_same}
-use Rattle.qs_emit.proofs.Operands.{holder, argument_scratch, value_apart, IsAmid, into_does, put_does}
+use Rattle.qs_emit.proofs.Operands.{holder, argument_scratch, local_near, stores_hold, IsAmid, into_does, put_does}
 use Rattle.qs_emit.proofs.Fetches.{store_wide, access_aligned, written_amid}
 use Rattle.qs_emit.proofs.CodePlaces.{has_place, parameters_apart}
 
@@ -238,7 +238,7 @@ module _ (s : Setup) (f : ℕ) (known : f < length s.unit.functions) (number : �
       does_is s m _ _ _ (store_to_does s m (store_kind t) r (local_offset d i) (λ e. absurd (omega (arith, e, lo))) aligned inside_wide) (λ m1 x2 g.
       let as_word : machine.stored (store_kind t) m.now.memory (m.now.registers 2 + local_offset d i) (register m.now r) ≡ flat = ap (λ (n : ℕ). machine.stored (store_kind t) m.now.memory n (register m.now r)) address_now ∙ ap (λ (n : ℕ). machine.stored (store_kind t) m.now.memory at n) reads in
       let own : SameOwn s.room sp flat m1.now.memory = subst (λ (n : ℕ). SameOwn s.room n flat m1.now.memory) x (subst (λ (k : ℕ → ℕ). SameOwn s.room (m.now.registers 2) k m1.now.memory) as_word g.bytes_are) in (
-        written_amid s (begun f number file) w stack l sp m m1 (into (number + i) 0) (width t) (width t) st.new later flat h wrote st.are.long x2 (record { same = λ q b. g.others q (value_apart q 1 b refl) }) own
+        written_amid s (begun f number file) w stack l sp m m1 (into (number + i) 0) (width t) (width t) st.new later flat h wrote st.are.long x2 (stores_hold s (begun f number file) w stack l sp m m1 (local_offset d i) _ (local_near s (begun f number file) w stack l sp i within) g) own
             (λ y o out. stored_other (store_kind t) m.now.memory at word y (subst (λ (n : ℕ). (y < at) ⊎ (at + n ≤ y)) (sym wide) out))
             (store_holds t w l.address_of v st.new m.now.memory at word st.cells stands),
         g.others,
@@ -263,7 +263,7 @@ module _ (s : Setup) (f : ℕ) (known : f < length s.unit.functions) (number : �
       let small : x < (function_at s.unit f).temporaries = grind (arith, nat_tests, fits_x) in
       does_then s m _ (take_parameters d (r + 1) ps) _ _ (put_does s (begun f number file) w stack l sp m r (m.now.registers r) (place_of d.places x) v h (has_place s f known x small) (λ i. absurd (omega (arith, i, lo))) (reads_free s m.now r scratch.free.0) (first_argument v vs w m.now.registers r arguments)) (λ m1 x2 k.
       parameters_do ps vs m1 (r + 1) (with_value e x v) w (with_place file (place_of d.places x) (Some v)) result k.amid (all_right _ _ fits) p (omega (arith, len)) (omega (arith, lo)) (omega (arith, hi))
-      (shifted v vs w w m.now.registers m1.now.registers r (length ps) (omega (arith, len)) lo (omega (arith, hi)) (λ q lo_q hi_q. k.others q (λ i. absurd (omega (arith, i, lo_q))) (argument_scratch q lo_q hi_q).valueless) (λ u y z. z) arguments)
+      (shifted v vs w w m.now.registers m1.now.registers r (length ps) (omega (arith, len)) lo (omega (arith, hi)) (λ q lo_q hi_q. k.others q (argument_scratch q lo_q hi_q).steadyless) (λ u y z. z) arguments)
       (λ q c. among q (contains_later (Plain x) q ps c)) (of_parameters_with e x v (among (Plain x) (contains_first (Plain x) ps)) of_parameters)
       (holds_with e file x v (among (Plain x) (contains_first (Plain x) ps)) of_parameters holds))
     where

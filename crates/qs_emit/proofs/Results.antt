@@ -54,7 +54,7 @@ use Rattle.qs_emit.proofs.Steps.{Does, Gets, IsFree, does_then, does_is, does_ei
 use Rattle.qs_emit.proofs.Slots.{constant_does, store_to_does, gets_is}
 use Rattle.qs_emit.proofs.Words.{of_test, calculated, compared, compared_is, zero_is, not_zero_is, wrap_signed, over_one, divided, low_byte}
 use Rattle.qs_emit.proofs.Values.{stands_test, stands_is, moved_up, moved_down, difference_word, pointers_compared, truth_word, low_word}
-use Rattle.qs_emit.proofs.Operands.{holder, IsScratch, argument_scratch, value_free, IsThere, there_apart, reads_same, IsAmid, into_gets, operand_does, Makes, holding, related_stored, related_made, MakesValue, gives_does, in_frame, slot_aligned, slot_fits}
+use Rattle.qs_emit.proofs.Operands.{holder, IsScratch, argument_scratch, value_free, IsThere, there_apart, there_beside, reads_same, IsAmid, into_gets, operand_does, Makes, holding, related_stored, related_made, MakesValue, gives_does, in_frame, slot_aligned, slot_fits}
 use Rattle.qs_emit.proofs.OperationLaws.{unary_word, unary_gets, product_does, constant_is, IsOperand, Leaves, leaves_on, leaves_operand, leaves_gets, makes_last, Combines, HasBoth, both_does, arithmetic_does, compare_does}
 
 module _ (s : Setup) (a : Activation File) (w : Memory) (stack : List (Waiting File)) (l : Lay) (sp : ℕ) where
@@ -72,12 +72,9 @@ module _ (s : Setup) (a : Activation File) (w : Memory) (stack : List (Waiting F
   pub move_does : (m : Watched) (o : Operand) (v : Value) (p : Place) → IsAmid s a w stack l sp m → IsOperand s a w stack l sp o v → HasPlace c p → Does s m (move_to c o p) (IsAmid s (holding s a w stack l sp p v) w stack l sp)
   move_does m o v (Slot k) h i has =
       does_then s m (operand_code c 10 o) _ _ _ (operand_does s a w stack l sp m 10 o v a0_scratch h i.fits i.is) (λ m1 x2 g.
-      let not_ra : operand_register c 10 o ≡ 1 → ⊥ = there_apart 10 (operand_register c 10 o) 1 g.there ra_scratch (λ e. absurd (omega (arith, e))) in
+      let not_ra : operand_register c 10 o ≡ 1 → ⊥ = there_beside 10 (operand_register c 10 o) g.there (λ e. absurd (omega (arith, e))) in
       does_is s m1 _ _ _ (store_to_does s m1 Sw (operand_register c 10 o) (slot_offset c k) not_ra (slot_aligned s a w stack l sp m1 k g.amid) (in_frame s a w stack l sp m1 (slot_offset c k) 4 g.amid (slot_fits s a w stack l sp k has)))
       (λ m2 y2 k2. record { x2 = y2 ∙ g.amid.x2; related = related_stored s a w stack l sp m1 m2 (operand_register c 10 o) k g.word v g.amid has g.got g.stands y2 k2 }))
-    where
-      ra_scratch : IsScratch 1
-      ra_scratch = record { free = (λ e. absurd (omega (arith, e)), λ e. absurd (omega (arith, e))); valueless = refl }
   move_does m o v (Register q) h i has =
       does_is s m _ _ _ (into_gets s a w stack l sp m q o v (value_free q has.0) h i.fits i.is) (λ m1 x2 g. record {
         x2 = x2 ∙ h.x2;

@@ -9,32 +9,28 @@ use Rattle.qs_memory.specs.Soundness.{IsLive}
 use Rattle.qs_memory.proofs.BlockLaws.{live_known, live_below, blocks_are_released, after_release}
 use Rattle.qs_calls.specs.World.{World}
 use Rattle.qs_isa.specs.declared.instruction.Instr.{Instr}
-use Rattle.qs_isa.specs.declared.instruction.LoadKind.TheVariants.{Lw}
 use Rattle.qs_asm.specs.Items.{Lays, plain}
 use Rattle.qs_machine.specs.State.{State}
 use Rattle.qs_machine.specs.Step as machine
 use Rattle.qs_machine.specs.Step.{Next, Traps, act, write_and_go}
 use Rattle.qs_machine.specs.declared.answers.Cause.TheVariants.{JumpMisaligned}
-use Rattle.qs_tac.specs.Holders.{File, is_saved_register}
+use Rattle.qs_tac.specs.Holders.{File}
 use Rattle.qs_tac.specs.Values.{Activation}
 use Rattle.qs_tac.specs.Steps.{Waiting}
-use Rattle.qs_frames.specs.Layout.{total, used_registers, register_at, kept}
+use Rattle.qs_frames.specs.Layout.{total, frame_words, register_at}
 use Rattle.qs_frames.proofs.FrameLaws.{is_cost}
-use Rattle.qs_emit_selection.specs.Pieces as pieces
 use Rattle.qs_emit_selection.specs.Pieces.{jalr, move_stack}
-use Rattle.qs_emit_selection.specs.Operands.{Context}
+use Rattle.qs_emit_selection.specs.Operands.{Context, stored}
 use Rattle.qs_emit_selection.specs.Emission.{restore, leave}
 use Rattle.qs_emit.specs.Machine.{Watched, instruction_at}
-use Rattle.qs_emit.specs.Lies.{number_at, StandsFor, Holds, IsOwn, SameOwn}
+use Rattle.qs_emit.specs.Lies.{StandsFor, Holds, IsOwn, SameOwn}
 use Rattle.qs_emit.specs.Surroundings.{HasBlocks, Lay, ground}
 use Rattle.qs_emit.specs.Relation.{Setup, context, cost, place, caller_registers, HasStack, IsInRoom, root_block, IsRelated, StandsAt, around}
 use Rattle.qs_emit.specs.Entries.{IsResult}
 use Rattle.qs_emit.proofs.Injection.{Later, cell_kept}
-use Rattle.qs_emit.proofs.Bytes.{number_same}
-use Rattle.qs_emit.proofs.Steps.{Takes, takes_on, takes_less, HasAt, has_front, has_back, IsSteady, steady_on, Does, does_is, does_then, load_does, same_on}
-use Rattle.qs_emit.proofs.Slots.{word_at}
-use Rattle.qs_emit.proofs.FrameLaws.{SameSaved, saved_none, used_saved, Onward, reach_like, frame_onward, stack_onward}
-use Rattle.qs_emit.proofs.Operands.{IsScratch, saved_apart, IsAmid, amid_gets}
+use Rattle.qs_emit.proofs.Steps.{Takes, takes_on, takes_less, HasAt, has_front, has_back, IsSteady, steady_on, Does, does_is, does_then, same_on}
+use Rattle.qs_emit.proofs.FrameLaws.{is_given, SameGiven, given_none, stored_given, stored_inside, Onward, reach_like, frame_onward, stack_onward}
+use Rattle.qs_emit.proofs.Operands.{given_apart, IsAmid}
 use Rattle.qs_emit.proofs.LoopSteps.{GoesTo, gone, goes}
 use Rattle.qs_emit.proofs.CodePlaces.{IsCode, plain_laid, HasFunction, fits_between}
 use Rattle.qs_emit.proofs.FollowedSteps.{steady_at}
@@ -80,47 +76,43 @@ module _ (s : Setup) (a : Activation File) (w : Memory) (stack : List (Waiting F
   related_left c others e =
       let up = sp + cost s a.function in
       let mine = caller_registers (context s a.function) registers flat sp in
-      let above : HasStack s (ground w l flat) (c ∷ others) mine up (number_at 4 flat sp) = subst (λ (z : List (Waiting File)). HasStack s (ground w l flat) z mine up (number_at 4 flat sp)) e r.above in
+      let above : HasStack s (ground w l flat) (c ∷ others) mine up = subst (λ (z : List (Waiting File)). HasStack s (ground w l flat) z mine up) e r.above in
       let o : Onward (ground w l flat) (ground left l flat) up = record { after = later_left; frames = λ at le p. p; same = λ at le p. refl } in
       let theirs = caller_registers (context s c.activation.function) mine flat up in
       record {
         known = above.0.known;
-        frame = frame_onward s (ground w l flat) (ground left l flat) c.activation.function mine mine up up c.activation.first_block c.activation.held o (omega arith) (saved_none mine) (λ q v i. refl) above.0.frame;
+        frame = frame_onward s (ground w l flat) (ground left l flat) c.activation.function mine mine up up c.activation.first_block c.activation.held o (omega arith) (λ q i. refl) (λ q v i. refl) above.0.frame;
         in_room = above.0.in_room;
-        above = stack_onward s (ground w l flat) (ground left l flat) others theirs theirs up (up + cost s c.activation.function) (number_at 4 flat up) o (omega arith) (saved_none theirs) above.1;
+        above = stack_onward s (ground w l flat) (ground left l flat) others theirs theirs up (up + cost s c.activation.function) o (omega arith) (given_none theirs) above.1;
         blocks = blocks_left;
         root = subst (λ (z : List (Waiting File)). root_block a.first_block z ≡ s.first) e r.root;
       }
 
--- the return address of a frame
-return_is : (s : Setup) (w : Memory) (l : Lay) (flat : ℕ → ℕ) (stack : List (Waiting File)) (registers : ℕ → ℕ) (sp return_to : ℕ) → HasStack s (ground w l flat) stack registers sp return_to → (return_to % 4 ≡ 0) × (return_to < 2 ^ 32)
-return_is s w l flat [] registers sp return_to h = let e = h.1.0 in let al = s.return_aligned in let lo = s.return_low in (omega (arith, e, al), omega (arith, e, lo))
-return_is s w l flat (c ∷ stack) registers sp return_to h = (h.0.aligned, h.0.low)
+-- where a frame returns to
+return_is : (s : Setup) (w : Memory) (l : Lay) (flat : ℕ → ℕ) (stack : List (Waiting File)) (registers : ℕ → ℕ) (sp : ℕ) → HasStack s (ground w l flat) stack registers sp → (registers 1 % 4 ≡ 0) × (registers 1 < 2 ^ 32)
+return_is s w l flat [] registers sp h = let e = h.1.0 in let al = s.return_aligned in let lo = s.return_low in (omega (arith, e, al), omega (arith, e, lo))
+return_is s w l flat (c ∷ stack) registers sp h = (h.0.aligned, h.0.low)
 
 module _ (s : Setup) (a : Activation File) (w : World) (stack : List (Waiting File)) (l : Lay) where
   abbrev c : Context
   c = context s a.function
 
-  -- before x2 is raised: the registers and bytes are those of the frame, and the saved registers are the caller's again
+  -- before x2 is raised: the registers and bytes are those of the frame, and what is given back is the caller's again
   record IsReady (sp : ℕ) (result : Option Value) (m1 : Watched) : Type 0 where
     registers : ℕ → ℕ
     flat : ℕ → ℕ
     related : IsRelated s a w.memory stack l registers sp flat
     x2 : m1.now.registers 2 ≡ sp
     value : IsResult w.memory l result (m1.now.registers 10)
-    return_to : m1.now.registers 1 ≡ number_at 4 flat sp
-    given : (q : ℕ) → is_saved_register q ≡ true → m1.now.registers q ≡ caller_registers c registers flat sp q
+    given : (q : ℕ) → is_given q ≡ true → m1.now.registers q ≡ caller_registers c registers flat sp q
     bytes : SameOwn s.room sp flat m1.now.memory
 
-  ra_scratch : IsScratch 1
-  ra_scratch = record { free = (λ e. absurd (omega (arith, e)), λ e. absurd (omega (arith, e))); valueless = refl }
+  stored_fit : (sp : ℕ) → IsInRoom s.room sp (cost s a.function) → sp + register_at (0 + length (stored c)) ≤ s.room.ceiling
+  stored_fit sp room = let e = stored_inside c in let b = room.below in omega (arith, e, b)
 
-  used_fit : (sp : ℕ) → IsInRoom s.room sp (cost s a.function) → sp + register_at (0 + length (used_registers c.places)) ≤ s.room.ceiling
-  used_fit sp room = let e = (is_cost (kept c.places) (total c.function.blocks)).enough in let b = room.below in omega (arith, e, b)
-
-  -- the return address and the registers come back
+  -- what is stored comes back
   abbrev backing : List Instr
-  backing = pieces.load Lw 1 2 0 ∷ restore (used_registers c.places) 0
+  backing = restore (stored c) 0
 
   result_same : (result : Option Value) (x y : ℕ) → y ≡ x → IsResult w.memory l result x → IsResult w.memory l result y
   result_same None x y e h = h
@@ -129,27 +121,16 @@ module _ (s : Setup) (a : Activation File) (w : World) (stack : List (Waiting Fi
   backs : (sp : ℕ) (result : Option Value) (m : Watched) → IsAmid s a w.memory stack l sp m → IsResult w.memory l result (m.now.registers 10) → Does s m backing (IsReady sp result)
   backs sp result m h value =
       let room = h.related.in_room in
-      let x2 = h.x2 in
-      let above = room.above in
-      let below = room.below in
       let al = room.aligned in
-      let top = s.ceiling in
-      let size = (is_cost (kept c.places) (total c.function.blocks)).enough in
-      let address : words.add (m.now.registers 2) 0 ≡ sp = omega (arith, x2, below, top) in
-      does_then s m (pieces.load Lw 1 2 0 ∷ []) (restore (used_registers c.places) 0) _ _ (load_does s m Lw 1 2 0 sp ra_scratch.free address (omega (arith, al)) (inl (omega (arith, x2), (above, omega (arith, below, top, size))))) (λ m1 y2 g.
-      let h1 = amid_gets s a w.memory stack l sp m m1 1 _ ra_scratch h y2 g in
-      let own : SameOwn s.room sp m.now.memory m1.now.memory = subst (λ (p : ℕ). SameOwn s.room p m.now.memory m1.now.memory) x2 g.bytes_same in
-      let word : m1.now.registers 1 ≡ number_at 4 m1.now.memory sp = g.got ∙ sym (word_at m.now.memory sp) ∙ sym (number_same 4 m.now.memory m1.now.memory sp (λ y lo hi. own.same y (inl lo))) in
-      does_is s m1 _ _ _ (restores_do s m1 (used_registers c.places) 0 sp h1.x2 (omega (arith, al)) above (used_fit sp room) (used_saved c.places)) (λ m2 z2 k. record {
-        registers = m1.now.registers;
-        flat = m1.now.memory;
-        related = h1.related;
-        x2 = z2 ∙ h1.x2;
-        value = result_same result (m.now.registers 10) (m2.now.registers 10) (k.others 10 refl ∙ g.others 10 (λ e. absurd (omega (arith, e)))) value;
-        return_to = k.others 1 refl ∙ word;
+      does_is s m _ _ _ (restores_do s m (stored c) 0 sp h.x2 (omega (arith, al)) room.above (stored_fit sp room) (stored_given c)) (λ m1 z2 k. record {
+        registers = m.now.registers;
+        flat = m.now.memory;
+        related = h.related;
+        x2 = z2 ∙ h.x2;
+        value = result_same result (m.now.registers 10) (m1.now.registers 10) (k.others 10 refl) value;
         given = k.given;
         bytes = k.bytes;
-      }))
+      })
 
   -- the frame is left, and the machine is at the return address
   pub record HasLeft (m : Watched) (result : Option Value) : Type 0 where
@@ -158,10 +139,10 @@ module _ (s : Setup) (a : Activation File) (w : World) (stack : List (Waiting Fi
     pub registers : ℕ → ℕ
     pub flat : ℕ → ℕ
     pub related : IsRelated s a w.memory stack l registers (m.now.registers 2) flat
-    pub pc : to.now.pc ≡ number_at 4 flat (m.now.registers 2)
+    pub pc : to.now.pc ≡ caller_registers c registers flat (m.now.registers 2) 1
     pub x2 : to.now.registers 2 ≡ m.now.registers 2 + cost s a.function
     pub value : IsResult w.memory l result (to.now.registers 10)
-    pub given : SameSaved (caller_registers c registers flat (m.now.registers 2)) to.now.registers
+    pub given : SameGiven (caller_registers c registers flat (m.now.registers 2)) to.now.registers
     pub same : SameOwn s.room (m.now.registers 2 + cost s a.function) flat to.now.memory
     pub input : to.now.input ≡ m.now.input
     pub output : to.now.output ≡ m.now.output
@@ -181,11 +162,14 @@ module _ (s : Setup) (a : Activation File) (w : World) (stack : List (Waiting Fi
     -- x2 is raised, and the machine goes back
     raised : (m1 m2 : Watched) (n len : ℕ) → Takes s.image s.room n m m1 → m1.now.input ≡ m.now.input → m1.now.output ≡ m.now.output → m1.low ≡ m.low → IsReady (m.now.registers 2) result m1 → StackMoved s m1 up len m2 → instruction_at s.image m2.now.pc ≡ Some (jalr 0 1 0) → HasLeft m result
     raised m1 m2 n len takes input output low k g at =
-        let return_at = return_is s w.memory l k.flat stack _ up (number_at 4 k.flat (m.now.registers 2)) k.related.above in
-        let one : m2.now.registers 1 ≡ number_at 4 k.flat (m.now.registers 2) = g.others 1 (λ e. absurd (omega (arith, e))) (λ e. absurd (omega (arith, e))) ∙ k.return_to in
-        last (gone s m2 (number_at 4 k.flat (m.now.registers 2))) (goes s m2 (jalr 0 1 0) (number_at 4 k.flat (m.now.registers 2)) at (back_acts m2.now (number_at 4 k.flat (m.now.registers 2)) one return_at.0 return_at.1) refl g.steady)
+        let return_at = return_is s w.memory l k.flat stack _ up k.related.above in
+        let one : m2.now.registers 1 ≡ back_to = g.others 1 (λ e. absurd (omega (arith, e))) (λ e. absurd (omega (arith, e))) ∙ k.given 1 refl in
+        last (gone s m2 back_to) (goes s m2 (jalr 0 1 0) back_to at (back_acts m2.now back_to one return_at.0 return_at.1) refl g.steady)
       where
-        last : (m3 : Watched) → GoesTo s m2 (number_at 4 k.flat (m.now.registers 2)) m3 → HasLeft m result
+        back_to : ℕ
+        back_to = caller_registers c k.registers k.flat (m.now.registers 2) 1
+
+        last : (m3 : Watched) → GoesTo s m2 back_to m3 → HasLeft m result
         last m3 j =
             let x : m2.now.registers 2 ≡ up = g.x2 in
             let low2 = g.low in
@@ -201,7 +185,7 @@ module _ (s : Setup) (a : Activation File) (w : World) (stack : List (Waiting Fi
               pc = j.pc;
               x2 = ap (λ (r : ℕ → ℕ). r 2) j.registers ∙ x;
               value = result_same result (m1.now.registers 10) (m3.now.registers 10) (ap (λ (r : ℕ → ℕ). r 10) j.registers ∙ g.others 10 (λ e. absurd (omega (arith, e))) (λ e. absurd (omega (arith, e)))) k.value;
-              given = record { same = λ q b. ap (λ (r : ℕ → ℕ). r q) j.registers ∙ g.others q (saved_apart q 2 b refl) (saved_apart q 5 b refl) ∙ k.given q b };
+              given = record { same = λ q b. ap (λ (r : ℕ → ℕ). r q) j.registers ∙ g.others q (given_apart q 2 b refl) (given_apart q 5 b refl) ∙ k.given q b };
               same = same_on s.room up k.flat m2.now.memory m3.now.memory old (subst (λ (p : ℕ). SameOwn s.room p m2.now.memory m3.now.memory) x j.own);
               input = ◌∙◌ {a = m3.now.input} j.input (◌∙◌ {a = m2.now.input} g.input input);
               output = ◌∙◌ {a = m3.now.output} j.output (◌∙◌ {a = m2.now.output} g.output output);
@@ -236,10 +220,10 @@ module _ (s : Setup) (a : Activation File) (w : World) (stack : List (Waiting Fi
         ready = does_then s m first backing _ _ does (λ m1 x2 k. backs (m.now.registers 2) result m1 k.0 k.1)
 
         cost_small : (0 < cost s a.function) × (cost s a.function ≤ 2 ^ 28)
-        cost_small = ((is_cost (kept c.places) (total c.function.blocks)).positive, s.emittable.cost a.function h.related.known)
+        cost_small = ((is_cost (frame_words c.function c.places) (total c.function.blocks)).positive, s.emittable.cost a.function h.related.known)
 
         cost_aligned : cost s a.function % 16 ≡ 0
-        cost_aligned = (is_cost (kept c.places) (total c.function.blocks)).multiple
+        cost_aligned = (is_cost (frame_words c.function c.places) (total c.function.blocks)).multiple
 
         next : (m1 : Watched) → Takes s.image s.room (length front) m m1 → m1.now.pc ≡ m.now.pc + 4 * length front → m1.now.registers 2 ≡ m.now.registers 2 → m1.now.input ≡ m.now.input → m1.now.output ≡ m.now.output → m1.low ≡ m.low → IsSteady s.room m1 → IsReady (m.now.registers 2) result m1 → HasAt (instruction_at s.image) (m.now.pc + 4 * length front) back → m.now.pc % 4 ≡ 0 → m.now.pc + 4 * (length front + (length raise + 1)) < 2 ^ 31 → HasLeft m result
         next m1 takes pc x2 input output low steady k tail al lo =

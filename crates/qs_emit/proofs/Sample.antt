@@ -26,7 +26,7 @@ use Rattle.qs_tac.specs.declared.operands.Address.{Address}
 use Rattle.qs_tac.specs.declared.places.Place.TheVariants.{Slot}
 use Rattle.qs_tac.specs.Places.{PlacesTree, Accepted, own_slots, no_places}
 use Rattle.qs_tac.specs.Units.{world_after}
-use Rattle.qs_frames.specs.Layout.{rounded, frame_cost}
+use Rattle.qs_frames.specs.Layout.{rounded, keeps_return_address, frame_cost}
 use Rattle.qs_emit_selection.specs.Pieces.{is_small, low_part, high_part, is_near}
 use Rattle.qs_emit_selection.specs.Laws.{HasFewArguments}
 use Rattle.qs_emit_selection.specs.Units.{selected}
@@ -71,12 +71,12 @@ image = record {
   parameters = 0;
   unsigned_set = 0;
   functions = record { name = codes "main"; address = 65548; cost = 16 } ∷ [];
-  code = 0x00c000ef ∷ 0x00000893 ∷ 0x00000073 ∷ 0xff010113 ∷ 0x00112023 ∷ 0x10000537 ∷ 0x00700713 ∷ 0x00e52023 ∷ 0x10000537 ∷ 0x00052503 ∷ 0x00a12223 ∷ 0x00412503 ∷ 0x00012083 ∷ 0x01010113 ∷ 0x00008067 ∷ [];
+  code = 0x00c000ef ∷ 0x00000893 ∷ 0x00000073 ∷ 0xff010113 ∷ 0x10000537 ∷ 0x00700713 ∷ 0x00e52023 ∷ 0x10000537 ∷ 0x00052503 ∷ 0x00a12023 ∷ 0x00012503 ∷ 0x01010113 ∷ 0x00008067 ∷ [];
   bytes = 0 ∷ 0 ∷ 0 ∷ 0 ∷ 104 ∷ 105 ∷ 0 ∷ 0 ∷ 5 ∷ 0 ∷ 0 ∷ 16 ∷ [];
 }
 
 cost_is : (f : ℕ) → f < 1 → cost_at unit places f ≤ 2 ^ 28
-unfolding frame_cost rounded
+unfolding frame_cost rounded keeps_return_address
 cost_is zero h = omega arith
 cost_is (suc f) h = absurd (omega (arith, h))
 
@@ -140,16 +140,16 @@ memory = record { blocks = refl; live = live; sound = record { cells = sound } }
 -- ---- the image
 
 code_is : IsAssembly (selected unit places) image.code
-unfolding decode_of is_small low_part high_part is_near frame_cost rounded
+unfolding decode_of is_small low_part high_part is_near frame_cost rounded keeps_return_address
 code_is = assembly (label_offset (selected unit places)) (selected unit places) (unwrap_or (assembled (selected unit places)) []) image.code (record { each = λ l. refl }) refl refl
 
 address_is : (f : ℕ) → f < 1 → (record_at image f).address ≡ function_address unit places f
-unfolding is_small low_part high_part is_near frame_cost rounded
+unfolding is_small low_part high_part is_near frame_cost rounded keeps_return_address
 address_is zero lt = refl
 address_is (suc f) lt = absurd (omega (arith, lt))
 
 same_cost : (f : ℕ) → f < 1 → (record_at image f).cost ≡ cost_at unit places f
-unfolding frame_cost rounded
+unfolding frame_cost rounded keeps_return_address
 same_cost zero lt = refl
 same_cost (suc f) lt = absurd (omega (arith, lt))
 
@@ -193,7 +193,7 @@ well_formed = record {
   differ = λ i j d before inside e. absurd (omega (arith, before, inside));
   main = (0, omega arith, refl);
   entry = record { k = 0; below = omega arith; at = refl };
-  addresses = All-cons (λ (f : FunctionRecord). IsAddress 15 f.address) main_record [] (record { k = 3; below = omega arith; at = refl }) (All-nil (λ (f : FunctionRecord). IsAddress 15 f.address));
+  addresses = All-cons (λ (f : FunctionRecord). IsAddress 13 f.address) main_record [] (record { k = 3; below = omega arith; at = refl }) (All-nil (λ (f : FunctionRecord). IsAddress 13 f.address));
   costs = All-cons (λ (f : FunctionRecord). IsCost f.cost) main_record [] (record { k = 1; multiple = refl; positive = omega arith; most = omega arith }) (All-nil (λ (f : FunctionRecord). IsCost f.cost));
   words = below (2 ^ 32) image.code refl;
   octets = below 256 image.bytes refl;

@@ -42,16 +42,18 @@ use Rattle.qs_tac.specs.Steps.{instruction_at as linear_at}
 use Rattle.qs_tac.specs.Units.{stopped_steps}
 use Rattle.qs_emit_selection.specs.Operands.{Context}
 use Rattle.qs_emit_selection.specs.Operands.{into as operand_into}
+use Rattle.qs_frames.specs.Layout.{keeps_return_address}
+use Rattle.qs_frames.proofs.FrameLaws.{caller_keeps}
 use Rattle.qs_emit_selection.specs.Emission as emission
 use Rattle.qs_emit_selection.specs.Emission.{Labels, labels_of, first_label, instruction_items}
 use Rattle.qs_emit.specs.Machine.{Watched, instruction_at}
-use Rattle.qs_emit.specs.Lies.{AreBytes, number_at, StandsFor}
+use Rattle.qs_emit.specs.Lies.{AreBytes, StandsFor}
 use Rattle.qs_emit.specs.Surroundings.{HasBlocks, Lay, ground}
 use Rattle.qs_emit.specs.Relation.{Setup, no_function, context, cost, place, function_at, HasPlace, HasStack, root_block, caller_registers, IsRelated, StandsAt, around}
 use Rattle.qs_emit.specs.Entries.{IsResult}
 use Rattle.qs_emit.proofs.Injection.{value_kept}
 use Rattle.qs_emit.proofs.Steps.{Takes, takes_on, takes_less, HasAt, Does, does_is, does_none}
-use Rattle.qs_emit.proofs.FrameLaws.{related_held, cell_own, blocks_same}
+use Rattle.qs_emit.proofs.FrameLaws.{kept_of_given, saved_is_given, related_held, cell_own, blocks_same}
 use Rattle.qs_emit.proofs.Operands.{holder, argument_scratch, IsAmid, holding, into_does, put_does}
 use Rattle.qs_emit.proofs.OperationLaws.{IsOperand}
 use Rattle.qs_emit.proofs.Results.{move_does, unary_does, convert_does, binary_does, address_of_does}
@@ -94,14 +96,14 @@ module _ (s : Setup) (mark : Option Value) (n : ℕ) (next : Next File) (more : 
     result_left None x k = k
     result_left (Some v) x k = value_kept w.memory left l.address_of l.address_of v x (later_left s a w.memory stack l g.registers (m.now.registers 2) g.flat g.related) k
 
-    above_of : (c : Waiting File) (others : List (Waiting File)) → stack ≡ c ∷ others → HasStack s (ground w.memory l g.flat) (c ∷ others) mine up (number_at 4 g.flat (m.now.registers 2))
-    above_of c others e = subst (λ (z : List (Waiting File)). HasStack s (ground w.memory l g.flat) z mine up (number_at 4 g.flat (m.now.registers 2))) e g.related.above
+    above_of : (c : Waiting File) (others : List (Waiting File)) → stack ≡ c ∷ others → HasStack s (ground w.memory l g.flat) (c ∷ others) mine up
+    above_of c others e = subst (λ (z : List (Waiting File)). HasStack s (ground w.memory l g.flat) z mine up) e g.related.above
 
     -- to a caller, which takes the result or not
     caller_amid : (c : Waiting File) (others : List (Waiting File)) → stack ≡ c ∷ others → IsAmid s c.activation left others l up g.to
     caller_amid c others e = record {
       x2 = g.x2;
-      related = related_held s c.activation left others l mine up g.flat (related_left s a w.memory stack l g.registers (m.now.registers 2) g.flat g.related c others e) g.to.now.registers g.to.now.memory g.given (λ q v i. g.given.same q ((above_of c others e).0.stays (Register q) v i)) g.same;
+      related = related_held s c.activation left others l mine up g.flat (related_left s a w.memory stack l g.registers (m.now.registers 2) g.flat g.related c others e) g.to.now.registers g.to.now.memory (kept_of_given (context s c.activation.function) mine g.to.now.registers g.given) (λ q v i. g.given.same q (saved_is_given q ((above_of c others e).0.stays (Register q) v i))) g.same;
     }
 
     record HasResumed (b : Activation File) (others : List (Waiting File)) : Type 0 where
@@ -116,7 +118,7 @@ module _ (s : Setup) (mark : Option Value) (n : ℕ) (next : Next File) (more : 
         let waits = above.0 in
         let f = c.activation.function in
         let code = emission.take_result (context s f) c.taken_by in
-        let k = plain_laid (instruction_at s.image) s.label_at (number_at 4 g.flat (m.now.registers 2)) code (place s f c.activation.at) waits.takes in
+        let k = plain_laid (instruction_at s.image) s.label_at (mine 1) code (place s f c.activation.at) waits.takes in
         let end = k.end in
         let pc = g.pc in
         let al = waits.aligned in
@@ -150,7 +152,7 @@ module _ (s : Setup) (mark : Option Value) (n : ℕ) (next : Next File) (more : 
     -- the root
     root_returns : stack ≡ [] → ComesToStop (around s) mark (suc n) m (Returns a.function ∷ []) (has_ended (record { result = result; memory = left; input = w.input }))
     root_returns e =
-        let above : HasStack s (ground w.memory l g.flat) [] mine up (number_at 4 g.flat (m.now.registers 2)) = subst (λ (z : List (Waiting File)). HasStack s (ground w.memory l g.flat) z mine up (number_at 4 g.flat (m.now.registers 2))) e g.related.above in
+        let above : HasStack s (ground w.memory l g.flat) [] mine up = subst (λ (z : List (Waiting File)). HasStack s (ground w.memory l g.flat) z mine up) e g.related.above in
         let first : a.first_block ≡ s.first = subst (λ (z : List (Waiting File)). root_block a.first_block z ≡ s.first) e g.related.root in
         let old = blocks_left s a w.memory stack l g.registers (m.now.registers 2) g.flat g.related in
         let blocks = blocks_same s left l up g.flat g.to.now.memory (λ b o live lt. g.same.same (l.address_of b + o) (cell_own s (ground left l g.flat) up b o old live lt)) old in
@@ -165,7 +167,7 @@ module _ (s : Setup) (mark : Option Value) (n : ℕ) (next : Next File) (more : 
           seen = record { output = g.output ∙ sym (append-nil m.now.output); x2 = g.x2; low = omega (arith, low, least) };
           pc = g.pc ∙ above.1.0;
           x2 = g.x2 ∙ above.0;
-          saved = λ q b. g.given.same q b ∙ above.1.1 q b;
+          saved = λ q b. g.given.same q (saved_is_given q b) ∙ above.1.1 q b;
           result = result_left result (g.to.now.registers 10) g.value;
           only_old = λ b live. let k = live_below a.first_block w.memory b live in omega (arith, k, first);
           blocks = subst (λ (p : ℕ). HasBlocks (around s) (ground left l g.to.now.memory) p) (sym g.x2) blocks;
@@ -232,9 +234,9 @@ module _ (s : Setup) (mark : Option Value) (n : ℕ) (next : Next File) (more : 
 
     -- ---- calls of functions
 
-    called_follows : (x : Option ℕ) (f : ℕ) (os : List Operand) (vs : List Value) (g : TacFunctionTree) → slice_get s.unit.functions f ≡ Some g → length os ≡ length g.parameters → length os ≤ 8 → list_all (operand_fits s.unit (function_at s.unit a.function)) os ≡ true → taken_fits (function_at s.unit a.function) x ≡ true → operands (holder s) os a ≡ Some vs → Lays (instruction_at s.image) s.label_at (place s a.function a.at) (plain (emission.pass c 10 os) ++ (items.Jump 1 (first_label s.unit.functions f) ∷ plain (emission.take_result c x))) (place s a.function (a.at + 1))
+    called_follows : (x : Option ℕ) (f : ℕ) (os : List Operand) (vs : List Value) (g : TacFunctionTree) → keeps_return_address c.function c.places ≡ true → slice_get s.unit.functions f ≡ Some g → length os ≡ length g.parameters → length os ≤ 8 → list_all (operand_fits s.unit (function_at s.unit a.function)) os ≡ true → taken_fits (function_at s.unit a.function) x ≡ true → operands (holder s) os a ≡ Some vs → Lays (instruction_at s.image) s.label_at (place s a.function a.at) (plain (emission.pass c 10 os) ++ (items.Jump 1 (first_label s.unit.functions f) ∷ plain (emission.take_result c x))) (place s a.function (a.at + 1))
         → FollowsToStop (around s) mark (suc n) m (activate f (record { parameters = g.parameters; blocks = g.blocks }) (begins (holder s) next (record { activation = waits (holder s) a; taken_by = x } ∷ stack) f) vs (take_result (holder s) next x (waits (holder s) a) stack) w)
-    called_follows x f os vs g is count few fits taken e stands =
+    called_follows x f os vs g keeps is count few fits taken e stands =
         subst (λ (z : RootRun). FollowsToStop (around s) mark (suc n) m (emit (Calls f) z))
         (sym (pass_is g.parameters vs (length w.memory) no_values (with_memory w (make g.blocks w.memory)) (λ e w. next (record { function = f; at = 0; first_block = length w_first; held = (holder s).enter f e }) w (record { activation = waits (holder s) a; taken_by = x } ∷ stack))))
         (by (passes g.parameters vs (length w.memory) no_values (make g.blocks w.memory)) refl)
@@ -253,7 +255,7 @@ module _ (s : Setup) (mark : Option Value) (n : ℕ) (next : Next File) (more : 
         by (Some r) q room =
             let passed : passes (function_at s.unit f).parameters vs (length w.memory) no_values (make (function_at s.unit f).blocks w.memory) ≡ Some r = subst (λ (z : TacFunctionTree). passes z.parameters vs (length w.memory) no_values (make z.blocks w.memory) ≡ Some r) (sym same) q in
             let counted : length os ≡ length (function_at s.unit f).parameters = subst (λ (z : TacFunctionTree). length os ≡ length z.parameters) (sym same) count in
-            let b = function_called s a w stack l m h x f vs (taken_there x taken) inside os r has known counted few fits e stands low_next aligned_here (omega (arith, room)) passed in
+            let b = function_called s a w stack l m h x f vs (taken_there x taken) inside os r has keeps known counted few fits e stands low_next aligned_here (omega (arith, room)) passed in
             follows_later s mark n m b.to (Some (Calls f)) (next (record { function = f; at = 0; first_block = length w.memory; held = (holder s).enter f r.environment }) (with_memory w r.memory) (record { activation = waits (holder s) a; taken_by = x } ∷ stack)) h.low b.reaches
             (more _ _ _ b.lay_there b.to b.stands) room
 
@@ -339,15 +341,15 @@ module _ (s : Setup) (mark : Option Value) (n : ℕ) (next : Next File) (more : 
                   ),
                 )
 
-    invoke_follows : (x : Option ℕ) (f : Callee) (os : List Operand) (vs : List Value) → length os ≤ 8 → callee_fits s.unit f os ≡ true → list_all (operand_fits s.unit (function_at s.unit a.function)) os ≡ true → taken_fits (function_at s.unit a.function) x ≡ true → operands (holder s) os a ≡ Some vs → Stands (call x f os)
+    invoke_follows : (x : Option ℕ) (f : Callee) (os : List Operand) (vs : List Value) → slice_get (function_at s.unit a.function).code a.at ≡ Some (call x f os) → length os ≤ 8 → callee_fits s.unit f os ≡ true → list_all (operand_fits s.unit (function_at s.unit a.function)) os ≡ true → taken_fits (function_at s.unit a.function) x ≡ true → operands (holder s) os a ≡ Some vs → Stands (call x f os)
         → FollowsToStop (around s) mark (suc n) m (invoke f (enters (holder s) s.unit next (record { activation = waits (holder s) a; taken_by = x } ∷ stack)) vs (take_result (holder s) next x (waits (holder s) a) stack) w)
-    invoke_follows x (Function f) os vs few callee fits taken e stands =
+    invoke_follows x (Function f) os vs there few callee fits taken e stands =
         follows_given s mark (suc n) m (slice_get s.unit.functions f.0) _ (λ g is.
         let counts : (length os == length g.parameters) ≡ true = subst (λ (o : Option TacFunctionTree). takes o os ≡ true) is callee in
         let count : length os ≡ length g.parameters = grind (arith, nat_tests, counts) in
-        called_follows x f.0 os vs g is count few fits taken e stands)
-    invoke_follows x PutChar os vs few callee fits taken e stands = put_follows x os vs few fits taken e stands
-    invoke_follows x GetChar os vs few callee fits taken e stands = get_follows x os vs few fits taken e stands
+        called_follows x f.0 os vs g (caller_keeps c.function c.places (record { at = a.at; x = x; callee = f; arguments = os; is = there })) is count few fits taken e stands)
+    invoke_follows x PutChar os vs there few callee fits taken e stands = put_follows x os vs few fits taken e stands
+    invoke_follows x GetChar os vs there few callee fits taken e stands = get_follows x os vs few fits taken e stands
 
     -- ---- each instruction
 
@@ -403,7 +405,7 @@ module _ (s : Setup) (mark : Option Value) (n : ℕ) (next : Next File) (more : 
     instruction_follows (call x f os) stands fits is =
         follows_given s mark (suc n) m (operands (holder s) os a) _ (λ vs e.
         let fits_two = and_left _ (list_all (operand_fits s.unit (function_at s.unit a.function)) os) fits in
-        invoke_follows x f os vs (s.emittable.arguments a.function a.at (call x f os) is x f os refl) (and_right _ _ fits_two) (and_right _ _ fits) (and_left _ _ fits_two) e stands)
+        invoke_follows x f os vs is (s.emittable.arguments a.function a.at (call x f os) is x f os refl) (and_right _ _ fits_two) (and_right _ _ fits) (and_left _ _ fits_two) e stands)
     instruction_follows (jump to) stands fits is =
         let lt : to < length (function_at s.unit a.function).code = grind (arith, nat_tests, fits) in
         goes_on a (going_to to a) w w stack l m h (jump_follows s a w stack l m to h (let next_low = low_next in let up = stands.1 in omega (arith, next_low, up)) (has.place_low to (omega (arith, lt))) (has.place_aligned to (omega (arith, lt))) stands.0)

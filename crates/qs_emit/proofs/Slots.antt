@@ -19,7 +19,7 @@ use Rattle.qs_emit_selection.specs.Pieces.{lui, addi, add, is_small, low_part, h
 use Rattle.qs_emit.specs.Machine.{Room, Watched, base}
 use Rattle.qs_emit.specs.Lies.{number_at, IsOwn, SameOwn}
 use Rattle.qs_emit.specs.Relation.{Setup}
-use Rattle.qs_emit.proofs.Steps.{Does, Gets, Writes, IsFree, same_on, does_then, does_is, does_either, op_does, op_imm_does, lui_does, load_does, store_does, gets_on, MayRead, MayWrite}
+use Rattle.qs_emit.proofs.Steps.{Does, Gets, IsFree, same_on, does_then, does_is, does_either, op_does, op_imm_does, lui_does, load_does, store_does, gets_on, MayRead, MayWrite}
 
 -- ---- words in two parts
 
@@ -106,6 +106,12 @@ pub byte_at : (flat : ℕ → ℕ) (address : ℕ) → number_at 1 flat address 
 unfolding number_at
 byte_at flat address = omega arith
 
+-- the bytes become others behind a store into the frame, and the registers stay, but for x1 where the offset is out of reach
+pub record Stores (s : Setup) (m : Watched) (offset : ℕ) (new : ℕ → ℕ) (to : Watched) : Type 0 where
+  pub others : (q : ℕ) → (q ≡ 1 → ⊥) → to.now.registers q ≡ m.now.registers q
+  pub near : is_near offset ≡ true → to.now.registers 1 ≡ m.now.registers 1
+  pub bytes_are : SameOwn s.room (m.now.registers 2) new to.now.memory
+
 module _ (s : Setup) where
   pub gets_is : (m to : Watched) (r x y : ℕ) → x ≡ y → Gets s m r x to → Gets s m r y to
   gets_is m to r x y e g = record { got = g.got ∙ e; others = g.others; bytes_same = g.bytes_same }
@@ -183,8 +189,8 @@ module _ (s : Setup) where
           does_is s m1 _ _ _ (load_does s m1 kind rd rd (low_part offset) (m1.now.registers 2 + offset) free at al (frame_read m1 offset (load_width kind) (frame_moved m m1 offset (load_width kind) x2 inside)))
           (λ m2 y2 k. gets_on s m m1 m2 rd _ _ x2 g (gets_is m1 m2 rd _ _ same k)))
 
-  pub store_to_does : (m : Watched) (kind : StoreKind) (rs offset : ℕ) → (rs ≡ 1 → ⊥) → (m.now.registers 2 + offset) % store_width kind ≡ 0 → IsInFrame m offset (store_width kind) → Does s m (store_to kind rs offset) (Writes s m (stored kind m.now.memory (m.now.registers 2 + offset) (register m.now rs)) 1)
-  store_to_does m kind rs offset not_ra aligned inside = does_either s m (is_near offset) _ _ _ (λ e. near) (λ e. far)
+  pub store_to_does : (m : Watched) (kind : StoreKind) (rs offset : ℕ) → (rs ≡ 1 → ⊥) → (m.now.registers 2 + offset) % store_width kind ≡ 0 → IsInFrame m offset (store_width kind) → Does s m (store_to kind rs offset) (Stores s m offset (stored kind m.now.memory (m.now.registers 2 + offset) (register m.now rs)))
+  store_to_does m kind rs offset not_ra aligned inside = does_either s m (is_near offset) _ _ _ (λ e. near) far
     where
       low : m.now.registers 2 + offset < 2 ^ 32
       low = let b = inside.below in let c = s.ceiling in omega (arith, b, c)
@@ -192,8 +198,10 @@ module _ (s : Setup) where
       ra_free : IsFree 1
       ra_free = (λ e. absurd (omega (arith, e)), λ e. absurd (omega (arith, e)))
 
-      near : Does s m (pieces.store kind rs 2 offset ∷ []) (Writes s m (stored kind m.now.memory (m.now.registers 2 + offset) (register m.now rs)) 1)
-      near = store_does s m kind rs 2 offset (m.now.registers 2 + offset) (let l = low in omega (arith, l)) aligned (frame_write m offset (store_width kind) inside)
+      near : Does s m (pieces.store kind rs 2 offset ∷ []) (Stores s m offset (stored kind m.now.memory (m.now.registers 2 + offset) (register m.now rs)))
+      near =
+          does_is s m _ _ _ (store_does s m kind rs 2 offset (m.now.registers 2 + offset) (let l = low in omega (arith, l)) aligned (frame_write m offset (store_width kind) inside))
+          (λ m1 x2 g. record { others = λ q n. g.registers q; near = λ e. g.registers 1; bytes_are = g.bytes_are })
 
       same_register : (m1 : Watched) → ((q : ℕ) → (q ≡ 1 → ⊥) → m1.now.registers q ≡ m.now.registers q) → register m1.now rs ≡ register m.now rs
       same_register m1 others = by (rs == 0) (others rs not_ra)
@@ -202,8 +210,8 @@ module _ (s : Setup) where
           by true e = refl
           by false e = e
 
-      far : Does s m (lui 1 (high_part offset) ∷ add 1 1 2 ∷ pieces.store kind rs 1 (low_part offset) ∷ []) (Writes s m (stored kind m.now.memory (m.now.registers 2 + offset) (register m.now rs)) 1)
-      far = does_then s m (lui 1 (high_part offset) ∷ add 1 1 2 ∷ []) (pieces.store kind rs 1 (low_part offset) ∷ []) _ _ (high_does m 1 offset ra_free) (λ m1 x2 g.
+      far : is_near offset ≡ false → Does s m (lui 1 (high_part offset) ∷ add 1 1 2 ∷ pieces.store kind rs 1 (low_part offset) ∷ []) (Stores s m offset (stored kind m.now.memory (m.now.registers 2 + offset) (register m.now rs)))
+      far e_far = does_then s m (lui 1 (high_part offset) ∷ add 1 1 2 ∷ []) (pieces.store kind rs 1 (low_part offset) ∷ []) _ _ (high_does m 1 offset ra_free) (λ m1 x2 g.
           let e : register m1.now 1 ≡ (high_part offset + m.now.registers 2) % 2 ^ 32 = g.got in
           let l = low in
           let whole : (m.now.registers 2 + offset) % 2 ^ 32 ≡ m.now.registers 2 + offset = omega (arith, l) in
@@ -214,7 +222,8 @@ module _ (s : Setup) where
           ap (λ (n : ℕ). stored kind m1.now.memory (n + offset) (register m1.now rs)) x2 ∙ ap (λ (v : ℕ). stored kind m1.now.memory (m.now.registers 2 + offset) v) (same_register m1 g.others) in
           does_is s m1 _ _ _ (store_does s m1 kind rs 1 (low_part offset) (m1.now.registers 2 + offset) at al (frame_write m1 offset (store_width kind) (frame_moved m m1 offset (store_width kind) x2 inside)))
           (λ m2 y2 k. record {
-            others = λ q n. k.others q n ∙ g.others q n;
+            others = λ q n. k.registers q ∙ g.others q n;
+            near = λ e. let no_way : true ≡ false = sym e ∙ e_far in cc;
             bytes_are = same_on s.room (m.now.registers 2) _ _ m2.now.memory (stored_same s.room (m.now.registers 2) kind m.now.memory m1.now.memory (m.now.registers 2 + offset) (register m.now rs) g.bytes_same)
                 (subst (λ (new : ℕ → ℕ). SameOwn s.room (m.now.registers 2) new m2.now.memory) as_new (subst (λ (sp : ℕ). SameOwn s.room sp new1 m2.now.memory) x2 k.bytes_are));
           }))

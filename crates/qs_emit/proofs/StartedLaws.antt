@@ -30,8 +30,7 @@ use Rattle.qs_emit.specs.Started.{main_run, main_world, IsStart, HasRoom, ExitsB
 use Rattle.qs_emit.proofs.Injection.{value_there}
 use Rattle.qs_emit.proofs.Steps.{Takes, IsSteady, stepped, takes_step, stirred_bytes, same_stirred}
 use Rattle.qs_emit.proofs.Slots.{reads_free}
-use Rattle.qs_emit.proofs.FrameLaws.{cell_own, blocks_same}
-use Rattle.qs_emit.proofs.Operands.{saved_apart}
+use Rattle.qs_emit.proofs.FrameLaws.{saved_is_for_values, value_link, cell_own, blocks_same}
 use Rattle.qs_emit.proofs.LoopSteps.{link_acts}
 use Rattle.qs_emit.proofs.CodePlaces.{has_function}
 use Rattle.qs_emit.proofs.Jumps.{distance_back}
@@ -142,7 +141,7 @@ module _ (s : Setup) (arguments : List Value) (w : World) (l : Lay) (m : Watched
         arguments_in = λ i v e. subst (λ (x : ℕ). StandsFor w.memory l.address_of v x) (sym (reads_free s m1.now (10 + i) (λ z. absurd (omega (arith, z))) ∙ other (10 + i) (λ z. absurd (omega (arith, z))) ∙ sym (reads_free s m.now (10 + i) (λ z. absurd (omega (arith, z)))))) (h.arguments_in i v e);
         blocks = blocks_same s w.memory l (m.now.registers 2) m.now.memory m1.now.memory (λ b o live lt. own.same (l.address_of b + o) (cell_own s (ground w.memory l m.now.memory) (m.now.registers 2) b o h.blocks live lt)) h.blocks;
         first = h.first;
-        saved = λ q b. let e = other q (saved_apart q 1 b refl) in let k = h.saved q b in (e ∙ k.0, (let lt = k.1 in omega (arith, e, lt)));
+        saved = λ q b. let e = other q (value_link q (saved_is_for_values q b)) in let k = h.saved q b in (e ∙ k.0, (let lt = k.1 in omega (arith, e, lt)));
         input = h.input;
         input_bytes = h.input_bytes;
         bytes = stirred_bytes s m.time (m.now.registers 2) m.now.memory h.bytes;

@@ -155,9 +155,9 @@ pub record Gets (s : Setup) (m : Watched) (r x : ℕ) (to : Watched) : Type 0 wh
   pub others : (q : ℕ) → (q ≡ r → ⊥) → to.now.registers q ≡ m.now.registers q
   pub bytes_same : SameOwn s.room (m.now.registers 2) m.now.memory to.now.memory
 
--- the bytes become others, and the registers stay but for one
-pub record Writes (s : Setup) (m : Watched) (new : ℕ → ℕ) (r : ℕ) (to : Watched) : Type 0 where
-  pub others : (q : ℕ) → (q ≡ r → ⊥) → to.now.registers q ≡ m.now.registers q
+-- the bytes become others, and the registers stay
+pub record Writes (s : Setup) (m : Watched) (new : ℕ → ℕ) (to : Watched) : Type 0 where
+  pub registers : (q : ℕ) → to.now.registers q ≡ m.now.registers q
   pub bytes_are : SameOwn s.room (m.now.registers 2) new to.now.memory
 
 -- a register that is neither x0 nor x2
@@ -339,11 +339,11 @@ module _ (s : Setup) where
       goes_on : can_read s.image s.room.size address (load_width kind) ≡ true → machine.load s.image s.room.size m.now kind r address ≡ write s.room.size m.now r (loaded kind m.now.memory address)
       goes_on h = let f : (address % load_width kind == 0) ≡ true = grind (arith, nat_tests, aligned) in rw (f, h) refl
 
-  pub store_does : (m : Watched) (kind : StoreKind) (r a i address : ℕ) → words.add (register m.now a) i ≡ address → address % store_width kind ≡ 0 → MayWrite m address (store_width kind) → Does s m (instructions.Store kind a r i ∷ []) (Writes s m (stored kind m.now.memory address (register m.now r)) 1)
+  pub store_does : (m : Watched) (kind : StoreKind) (r a i address : ℕ) → words.add (register m.now a) i ≡ address → address % store_width kind ≡ 0 → MayWrite m address (store_width kind) → Does s m (instructions.Store kind a r i ∷ []) (Writes s m (stored kind m.now.memory address (register m.now r)))
   store_does m kind r a i address e aligned may =
       let new = stored kind m.now.memory address (register m.now r) in
       let t : State = record m.now { pc = m.now.pc + 4; memory = new } in
-      does_one m t _ (Writes s m new 1) (rw e (goes_on (can_be_written may))) (rw e (keeps may)) refl refl refl refl (stored_bytes kind m.now.memory address (register m.now r)) (record { others = λ q h. refl; bytes_are = same_stirred s.room m.time (m.now.registers 2) new })
+      does_one m t _ (Writes s m new) (rw e (goes_on (can_be_written may))) (rw e (keeps may)) refl refl refl refl (stored_bytes kind m.now.memory address (register m.now r)) (record { registers = λ q. refl; bytes_are = same_stirred s.room m.time (m.now.registers 2) new })
     where
       can_be_written : MayWrite m address (store_width kind) → can_write s.image s.room.size address (store_width kind) ≡ true
       can_be_written (inl h) = let p = h.1.0 in let q = h.1.1 in let c = s.ceiling in

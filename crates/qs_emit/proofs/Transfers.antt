@@ -28,7 +28,7 @@ use Rattle.qs_emit.specs.Surroundings.{Lay, ground}
 use Rattle.qs_emit.specs.Relation.{Setup, context, function_at}
 use Rattle.qs_emit.proofs.Injection.{cells_same, cells_held}
 use Rattle.qs_emit.proofs.Steps.{Does, does_is, does_then, does_none, MayRead, MayWrite}
-use Rattle.qs_emit.proofs.FrameLaws.{values_none, cell_own}
+use Rattle.qs_emit.proofs.FrameLaws.{values_none, holding_of_values, cell_own}
 use Rattle.qs_emit.proofs.Access.{lies_low, may_read_block, may_write_block}
 use Rattle.qs_emit.proofs.Operands.{holder, value_apart, argument_scratch, IsAmid, amid_on}
 use Rattle.qs_emit.proofs.Anchors.{HasAddress, address_into_does, word_address_aligned}
@@ -107,7 +107,7 @@ module _ (s : Setup) (a : Activation File) (w : Memory) (stack : List (Waiting F
       let may = range_write m1 h1 q size 1 k.at is k.writable in
       let aligned : is_word_address p ≡ true → to % 4 ≡ 0 = λ t. word_address_aligned s a w stack l sp m p q k.at.block k.at.offset h fits e t is.is is.live in
       does_is s m1 _ _ _ (fill_code_does s sp m1 (is_word_address p) to size aligned h1.x2 (g.got ∙ word) low own (may 1) (may 4)) (λ m2 y2 f.
-      written_amid s a w stack l sp m1 m2 q (length (blank_cells blank)) 1 (blank_cells blank) later m2.now.memory h1 k refl y2 f.saved (record { same = λ at o. refl })
+      written_amid s a w stack l sp m1 m2 q (length (blank_cells blank)) 1 (blank_cells blank) later m2.now.memory h1 k refl y2 (holding_of_values (context s a.function) m1.now.registers m2.now.registers f.saved) (record { same = λ at o. refl })
       (λ at o out. f.outside at o (subst (λ (n : ℕ). (at < to) ⊎ (to + n ≤ at)) long out))
       (zeros_hold w l.address_of (blank_cells blank) m2.now.memory to (zero_blank w l.address_of blank) (λ j lt. f.inside j (omega (arith, lt, long))))))
 
@@ -166,5 +166,5 @@ module _ (s : Setup) (a : Activation File) (w : Memory) (stack : List (Waiting F
       (range_write m2 h2 to size alignment target k.wrote.is k.wrote.writable) (range_read m2 h2 from size alignment source k.is) apart) (λ m3 x3 i.
       let long : length (cells_at w source size) ≡ size = length-cells_from (block_at w source.block).cells source.offset size in
       let held = cells_held w l.address_of l.owner m2.now.memory source.block size source.offset lies k.is.live k.is.fits in
-      written_amid s a w stack l sp m2 m3 to size alignment (cells_at w source size) later m3.now.memory h2 k.wrote long x3 i.saved (record { same = λ at o. refl }) i.outside
+      written_amid s a w stack l sp m2 m3 to size alignment (cells_at w source size) later m3.now.memory h2 k.wrote long x3 (holding_of_values (context s a.function) m2.now.registers m3.now.registers i.saved) (record { same = λ at o. refl }) i.outside
       (cells_same w l.address_of (cells_at w source size) m2.now.memory m3.now.memory f t (λ j lt. i.inside j (omega (arith, lt, long))) held))))

@@ -9,13 +9,12 @@ use Rattle.qs_memory.proofs.CellLaws.{overlaid-apart}
 use Rattle.qs_tac.specs.Holders.{File}
 use Rattle.qs_tac.specs.Values.{Activation}
 use Rattle.qs_tac.specs.Steps.{Waiting}
-use Rattle.qs_emit.specs.Lies.{number_at, Holds, HoldAll, cell_of, Lies, IsOwn}
+use Rattle.qs_emit.specs.Lies.{Holds, HoldAll, cell_of, Lies, IsOwn}
 use Rattle.qs_emit.specs.Lies.{frame as of_frame}
 use Rattle.qs_emit.specs.Surroundings.{Lay, ground}
-use Rattle.qs_emit.specs.Relation.{Setup, context, cost, caller_registers, HasStack, IsRelated}
+use Rattle.qs_emit.specs.Relation.{Setup, context, cost, caller_registers, IsRelated}
 use Rattle.qs_emit.proofs.Injection.{Later, cell_kept}
-use Rattle.qs_emit.proofs.Bytes.{number_same}
-use Rattle.qs_emit.proofs.FrameLaws.{Onward, saved_none, reach_onward, frame_onward, caller_same, stack_onward, cell_own, not_both}
+use Rattle.qs_emit.proofs.FrameLaws.{Onward, kept_none, reach_onward, frame_onward, caller_same, stack_onward, cell_own, not_both}
 
 overlaid_hold : (m : Memory) (address_of : ℕ → ℕ) (new : List Cell) (offset : ℕ) (old : ℕ → Cell) (flat : ℕ → ℕ) (from at : ℕ) → HoldAll m address_of new flat (from + offset) → offset ≤ at → at < offset + length new → Holds m address_of (overlaid new offset old at) (flat (from + at))
 overlaid_hold m address_of [] offset old flat from at held le lt = absurd (omega (arith, le, lt))
@@ -105,13 +104,11 @@ module _ (m : Memory) (l : Lay) (flat later : ℕ → ℕ) (t : Target) (new : L
       let after = after_write m t new live in
       let outside : (at : ℕ) → l.owner at ≡ of_frame → IsWritten at → ⊥ = λ at e w. not_both (l.owner at) t.block _ e (written_owner r.blocks.lies at w) in
       let o : Onward g h sp = record { after = record { after = after; same = λ b k. refl }; frames = λ at le e. e; same = λ at le e. same at (inl le) (outside at e) } in
-      let word : number_at 4 later sp ≡ number_at 4 flat sp = number_same 4 flat later sp (λ at lo hi. o.same at lo (r.frame.private at lo (omega (arith, hi)))) in
       record {
         known = r.known;
-        frame = frame_onward s g h f registers registers sp sp a.first_block a.held o (omega arith) (saved_none registers) (λ q v e. refl) r.frame;
+        frame = frame_onward s g h f registers registers sp sp a.first_block a.held o (omega arith) (λ q e. refl) (λ q v e. refl) r.frame;
         in_room = r.in_room;
-        above = subst (λ (x : ℕ). HasStack s h stack (caller_registers (context s f) registers later sp) (sp + cost s f) x) (sym word)
-            (stack_onward s g h stack (caller_registers (context s f) registers flat sp) (caller_registers (context s f) registers later sp) sp (sp + cost s f) (number_at 4 flat sp) o (omega arith) (caller_same s g h f registers registers sp sp o (omega arith) (saved_none registers) r.frame.private) r.above);
+        above = stack_onward s g h stack (caller_registers (context s f) registers flat sp) (caller_registers (context s f) registers later sp) sp (sp + cost s f) o (omega arith) (caller_same s g h f registers registers sp sp o (omega arith) (kept_none (context s f) registers) r.frame.private) r.above;
         blocks = record {
           lies = lies_written r.blocks.lies (λ b i k lt out. same (l.address_of b + i) (cell_own s g sp b i r.blocks k lt) out) held;
           in_reach = λ b k. reach_onward s.image s.room g h sp sp b o (known b k) (r.blocks.in_reach b (after.live b (known b k) k));

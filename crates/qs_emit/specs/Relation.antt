@@ -6,6 +6,7 @@ use Rattle.qs_memory.specs.Memory.{Memory, block_at}
 use Rattle.qs_memory.specs.Soundness.{IsLive}
 use Rattle.qs_calls.specs.World.{World}
 use Rattle.qs_isa.specs.Addresses.{code_start}
+use Rattle.qs_isa.specs.Registers.{ra}
 use Rattle.qs_image.specs.Image.{Image}
 use Rattle.qs_image.specs.Limits.{most_code_words, most_data_bytes}
 use Rattle.qs_machine.specs.State.{stack_pointer, stack_top, stack_limit}
@@ -20,12 +21,12 @@ use Rattle.qs_tac.specs.Laws.{AreAccepted}
 use Rattle.qs_tac.specs.declared.places.Place.{Place}
 use Rattle.qs_tac.specs.declared.places.Place.TheVariants.{Slot, Register}
 use Rattle.qs_tac.specs.declared.units.TacData.{TacData}
-use Rattle.qs_frames.specs.Layout.{rounded, used_registers, HasSlot, register_at}
+use Rattle.qs_frames.specs.Layout.{rounded, HasSlot, register_at}
 use Rattle.qs_emit.specs.Machine.{Room, Watched, base, instruction_at}
 use Rattle.qs_emit_selection.specs.Data.{data_address}
 use Rattle.qs_emit_selection.specs.Laws.{HasFewArguments}
 use Rattle.qs_emit_selection.specs.Limits.{most_arguments}
-use Rattle.qs_emit_selection.specs.Operands.{Context, frame_of, slot_offset, local_offset}
+use Rattle.qs_emit_selection.specs.Operands.{Context, frame_of, stored, slot_offset, local_offset}
 use Rattle.qs_emit_selection.specs.Emission.{first_label, unit_items, take_result}
 use Rattle.qs_emit.specs.Lies.{number_at, AreBytes, StandsFor, frame, IsInReach}
 use Rattle.qs_emit.specs.Surroundings.{Surroundings, Ground, Lay, ground, HasBlocks}
@@ -130,11 +131,11 @@ abbrev pub IsAmong : List ℕ → (r : ℕ) → Type 0
 IsAmong [] r = ⊥
 IsAmong (q ∷ registers) r = (r ≡ q) ⊎ IsAmong registers r
 
--- a place that the frame has: one of its slots, or a register that holds values; what the caller finds as it was is saved
+-- a place that the frame has: one of its slots, or a register that holds values; what the caller finds as it was is stored
 abbrev pub HasPlace : Context → Place → Type 0
 HasPlace c (Slot k) = HasSlot c.places k
 HasPlace c (Register r) =
-    (is_for_values r ≡ true) × (is_saved_register r ≡ true → IsAmong (used_registers c.places) r)
+    (is_for_values r ≡ true) × (is_saved_register r ≡ true → IsAmong (stored c) r)
 
 -- a place of the frame at x2 holds a value
 pub record IsHeld (c : Context) (m : Memory) (address_of registers flat : ℕ → ℕ) (sp : ℕ) (p : Place) (v : Value)
@@ -142,14 +143,14 @@ pub record IsHeld (c : Context) (m : Memory) (address_of registers flat : ℕ �
   pub has : HasPlace c p
   pub stands : StandsFor m address_of v (word_in c registers flat sp p)
 
--- the registers as the caller left them: a frame has those that its function uses
+-- the registers as the caller left them, the return address in x1: a frame has those that its function stores
 abbrev pub saved_in : List ℕ → (registers flat : ℕ → ℕ) → (sp i r : ℕ) → ℕ
 saved_in [] registers flat sp i r = registers r
 saved_in (q ∷ used) registers flat sp i r =
     if r == q then number_at 4 flat (sp + register_at i) else saved_in used registers flat sp (i + 1) r
 
 abbrev pub caller_registers : Context → (registers flat : ℕ → ℕ) → (sp r : ℕ) → ℕ
-caller_registers c registers flat sp r = saved_in (used_registers c.places) registers flat sp 0 r
+caller_registers c registers flat sp r = saved_in (stored c) registers flat sp 0 r
 
 -- the bytes from x2 on that belong to the frame alone: they end where its blocks begin
 abbrev pub private_end : Context → (sp : ℕ) → ℕ
@@ -179,11 +180,11 @@ pub record IsInRoom (r : Room) (sp bytes : ℕ) : Type 0 where
 
 -- ---- the stack
 
--- an activation that waits for a call: what the call returns to takes its result, and then the activation's next
+-- an activation that waits for a call: what the call returns to, by x1, takes its result, and then the activation's next
 -- instruction follows
-pub record IsWaiting (s : Setup) (g : Ground) (w : Waiting File) (registers : ℕ → ℕ) (sp return_to : ℕ) : Type 0 where
+pub record IsWaiting (s : Setup) (g : Ground) (w : Waiting File) (registers : ℕ → ℕ) (sp : ℕ) : Type 0 where
   pub takes :
-      Lays (instruction_at s.image) s.label_at return_to (plain (take_result (context s w.activation.function) w.taken_by))
+      Lays (instruction_at s.image) s.label_at (registers ra) (plain (take_result (context s w.activation.function) w.taken_by))
       (place s w.activation.function w.activation.at)
   pub known : w.activation.function < length s.unit.functions
   pub inside : w.activation.at ≤ length (function_at s.unit w.activation.function).code
@@ -194,18 +195,19 @@ pub record IsWaiting (s : Setup) (g : Ground) (w : Waiting File) (registers : �
   -- its values stand where calls leave them
   pub stays : (p : Place) (v : Value) → w.activation.held p ≡ Some v → is_kept p ≡ true
   pub in_room : IsInRoom s.room sp (cost s w.activation.function)
-  pub aligned : return_to % 4 ≡ 0
-  pub low : return_to < 2 ^ 32
+  pub aligned : registers ra % 4 ≡ 0
+  pub low : registers ra < 2 ^ 32
 
--- frames one above the other, up to x2 as it was at the root's entry
-abbrev pub HasStack : Setup → Ground → List (Waiting File) → (registers : ℕ → ℕ) → (sp return_to : ℕ) → Type 0
-HasStack s g [] registers sp return_to =
+-- frames one above the other, up to x2 as it was at the root's entry; the registers are those that the upmost call is to
+-- give back
+abbrev pub HasStack : Setup → Ground → List (Waiting File) → (registers : ℕ → ℕ) → (sp : ℕ) → Type 0
+HasStack s g [] registers sp =
     (sp ≡ s.room.ceiling)
-    × ((return_to ≡ s.return_to) × ((r : ℕ) → is_saved_register r ≡ true → registers r ≡ s.root_registers r))
-HasStack s g (w ∷ stack) registers sp return_to =
-    IsWaiting s g w registers sp return_to
+    × ((registers ra ≡ s.return_to) × ((r : ℕ) → is_saved_register r ≡ true → registers r ≡ s.root_registers r))
+HasStack s g (w ∷ stack) registers sp =
+    IsWaiting s g w registers sp
     × HasStack s g stack (caller_registers (context s w.activation.function) registers g.flat sp)
-    (sp + cost s w.activation.function) (number_at 4 g.flat sp)
+    (sp + cost s w.activation.function)
 
 -- the number of the first block of the root's call
 abbrev pub root_block : (number : ℕ) → List (Waiting File) → ℕ
@@ -222,7 +224,7 @@ pub record IsRelated (s : Setup) (a : Activation File) (m : Memory) (stack : Lis
   pub in_room : IsInRoom s.room sp (cost s a.function)
   pub above :
       HasStack s (ground m l flat) stack (caller_registers (context s a.function) registers flat sp)
-      (sp + cost s a.function) (number_at 4 flat sp)
+      (sp + cost s a.function)
   pub blocks : HasBlocks (around s) (ground m l flat) sp
   pub root : root_block a.first_block stack ≡ s.first
 

@@ -33,7 +33,7 @@ use Rattle.qs_tac.specs.declared.places.Place.{Place}
 use Rattle.qs_tac.specs.declared.places.Place.TheVariants.{Slot, Register}
 use Rattle.qs_tac.specs.declared.operands.Operand.{Operand}
 use Rattle.qs_tac.specs.declared.operands.Operand.TheVariants.{Temporary, Integer, Byte, Constant, Null, Local, Data}
-use Rattle.qs_frames.specs.Layout.{is_among, used_among, saved_registers, used_registers, register_at}
+use Rattle.qs_frames.specs.Layout.{is_among, used_among, saved_registers, used_registers, keeps_return_address, return_register, register_at}
 use Rattle.qs_tac.specs.Trees.{InstructionTree, move, unary, binary, convert, address_of, load, store}
 use Rattle.qs_tac.specs.Trees.{copy, fill, call, jump, branch, return, TacUnitTree}
 use Rattle.qs_tac.specs.Fits.{operand_fits, index_fits, address_fits, condition_fits, operation_fits, instruction_fits}
@@ -46,11 +46,11 @@ use Rattle.qs_frames.specs.Laws.{block}
 use Rattle.qs_frames.proofs.FrameLaws.{frames_are_laid_out}
 use Rattle.qs_emit_selection.specs.Pieces as pieces
 use Rattle.qs_emit_selection.specs.Pieces.{is_small, low_part, high_part, constant, is_near, load_from, store_to, address_in_frame, move_stack, shift_among, shift_of, product_by, product, loop_end, copy_loop, fill_loop, zero_bytes}
-use Rattle.qs_emit_selection.specs.Operands.{Context, frame_of, local_offset, place_into, byte_into, into, register_of, stands_in, unless_there, operand_code, operand_register, put_place, put, result_register, result_code, move_to, Anchor, displacement, behind_frame, behind_pointer, based, add_elements, add_index, anchor_of, address_into, is_word_address}
+use Rattle.qs_emit_selection.specs.Operands.{Context, stored, frame_of, local_offset, place_into, byte_into, into, register_of, stands_in, unless_there, operand_code, operand_register, put_place, put, result_register, result_code, move_to, Anchor, displacement, behind_frame, behind_pointer, based, add_elements, add_index, anchor_of, address_into, is_word_address}
 use Rattle.qs_emit_selection.specs.Operations.{constant_of, negated, if_small, with_constant, or_code, kind_of, both, on_both, arithmetic, less_than, less_than_constant, less, apart, compare, directed, step, move_by, move_by_elements, moved, elements_between, unary_instruction, conversion}
 use Rattle.qs_emit_selection.specs.Operations as operations
 use Rattle.qs_emit_selection.specs.Emission.{save, restore, take_parameter, take_parameters, enter, leave, copy_code, unless_none, fill_code, pass, take_result, Labels, goes_to, less_branch, not_less_branch, compare_branch, compare_items, branch_items, gives, instruction_items}
-use Rattle.qs_emit_selection.proofs.Sizes.{few_used}
+use Rattle.qs_emit_selection.proofs.Sizes.{few_stored}
 use Rattle.qs_emit_selection.specs.Laws.{IsItem, AreItems, IsPlace, IsContext, HasFewArguments, AreSelectedWords}
 use Rattle.qs_asm.specs.declared.item.Item.{Item}
 use Rattle.qs_asm.specs.Items.{plain}
@@ -182,18 +182,18 @@ fill_instrs true size h =
     (either_instrs (size / 4 == 0) _ _ (λ e. tt) (λ e. fill_loop_instrs _ 4 (size / 4 * 4) (omega arith) (omega (arith, h)))) (zero_instrs (size % 4) 0 (omega arith))
 fill_instrs false size h = either_instrs (size == 0) _ _ (λ e. tt) (λ e. fill_loop_instrs _ 1 size (omega arith) h)
 
--- ---- registers that are saved
+-- ---- registers that are stored
 
 abbrev pub IsIn : List ℕ → (r : ℕ) → Type 0
 IsIn [] r = ⊥
 IsIn (q ∷ registers) r = (r ≡ q) ⊎ IsIn registers r
 
-save_instrs : (registers : List ℕ) (i : ℕ) → ((r : ℕ) → IsIn registers r → r < 32) → i + length registers ≤ 12 → AreInstrs (save registers i)
+save_instrs : (registers : List ℕ) (i : ℕ) → ((r : ℕ) → IsIn registers r → r < 32) → i + length registers ≤ 13 → AreInstrs (save registers i)
 save_instrs [] i h n = tt
 save_instrs (r ∷ registers) i h n =
     ((omega arith, h r (inl refl), below_signed (register_at i) (omega (arith, n))), save_instrs registers (i + 1) (λ q k. h q (inr k)) (omega (arith, n)))
 
-restore_instrs : (registers : List ℕ) (i : ℕ) → ((r : ℕ) → IsIn registers r → r < 32) → i + length registers ≤ 12 → AreInstrs (restore registers i)
+restore_instrs : (registers : List ℕ) (i : ℕ) → ((r : ℕ) → IsIn registers r → r < 32) → i + length registers ≤ 13 → AreInstrs (restore registers i)
 restore_instrs [] i h n = tt
 restore_instrs (r ∷ registers) i h n =
     then_instrs (restore registers (i + 1)) _ (restore_instrs registers (i + 1) (λ q k. h q (inr k)) (omega (arith, n)))
@@ -477,8 +477,16 @@ module _ (u : TacUnitTree) (c : Context) (ok : IsContext c) where
   saved_are : (r : ℕ) → IsIn saved_registers r → r < 32
   saved_are r h = omega (arith, h)
 
-  few : 0 + length (used_registers c.places) ≤ 12
-  few = let f = few_used c in omega (arith, f)
+  stored_are : (r : ℕ) → IsIn (stored c) r → r < 32
+  stored_are r h = by (keeps_return_address c.function c.places) h
+    where
+      by : (b : Bool) → IsIn (return_register b ++ used_registers c.places) r → r < 32
+      by true (inl e) = omega (arith, e)
+      by true (inr m) = used_are c.places.at saved_registers saved_are r m
+      by false m = used_are c.places.at saved_registers saved_are r m
+
+  few : 0 + length (stored c) ≤ 13
+  few = let f = few_stored c in omega (arith, f)
 
   cost_small : (frame_of c).cost < 2 ^ 32
   cost_small = let h = ok.cost in omega (arith, h)
@@ -495,17 +503,15 @@ module _ (u : TacUnitTree) (c : Context) (ok : IsContext c) where
   pub enter_instrs : length c.function.parameters ≤ 8 → AreInstrs (enter c)
   enter_instrs h =
       then_instrs (move_stack (2 ^ 32 - (frame_of c).cost)) _ (stack_instrs _ down)
-      ((omega arith, omega arith, below_signed 0 (omega arith)), then_instrs (save (used_registers c.places) 0) _ (save_instrs (used_registers c.places) 0 (used_are c.places.at saved_registers saved_are) few) (parameters_instrs 10 c.function.parameters (omega (arith, h))))
+      (then_instrs (save (stored c) 0) _ (save_instrs (stored c) 0 stored_are few) (parameters_instrs 10 c.function.parameters (omega (arith, h))))
     where
       down : 2 ^ 32 - (frame_of c).cost < 2 ^ 32
       down = let p = (frames_are_laid_out c.function c.places).positive in omega (arith, p)
 
   leave_instrs : AreInstrs (leave c)
-  leave_instrs = (
-    (omega arith, omega arith, below_signed 0 (omega arith)),
-    then_instrs (restore (used_registers c.places) 0) _ (restore_instrs (used_registers c.places) 0 (used_are c.places.at saved_registers saved_are) few)
-        (then_instrs (move_stack (frame_of c).cost) _ (stack_instrs _ cost_small) ((omega arith, omega arith, below_signed 0 (omega arith)), tt)),
-  )
+  leave_instrs =
+      then_instrs (restore (stored c) 0) _ (restore_instrs (stored c) 0 stored_are few)
+      (then_instrs (move_stack (frame_of c).cost) _ (stack_instrs _ cost_small) ((omega arith, omega arith, below_signed 0 (omega arith)), tt))
 
   pass_instrs : (register : ℕ) (os : List Operand) → register + length os ≤ 31 → list_all (operand_fits u c.function) os ≡ true → AreInstrs (pass c register os)
   pass_instrs register [] h k = tt

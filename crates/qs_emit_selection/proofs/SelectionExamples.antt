@@ -26,7 +26,7 @@ use Rattle.qs_tac.specs.declared.places.Place.TheVariants as places
 use Rattle.qs_tac.specs.declared.operands.Operand.{Operand}
 use Rattle.qs_tac.specs.declared.operands.Operand.TheVariants.{Temporary, Integer, Constant, Local, Data}
 use Rattle.qs_tac.specs.declared.operands.Condition.TheVariants.{Compare}
-use Rattle.qs_frames.specs.Layout.{rounded, frame_cost}
+use Rattle.qs_frames.specs.Layout.{rounded, keeps_return_address, frame_cost}
 use Rattle.qs_emit_selection.specs.Pieces.{is_small, low_part, high_part, is_near, shift_of}
 use Rattle.qs_emit_selection.specs.Operands.{Context}
 use Rattle.qs_emit_selection.specs.Emission.{Labels, instruction_items}
@@ -53,39 +53,39 @@ some_labels = record { function = λ f. 100 + f; instruction = λ k. 200 + k }
 abbrev become : InstructionTree → List Item
 become i = instruction_items (context_of 3) some_labels i
 
--- the slots of three temporaries are at 12, 8 and 4 behind x2
+-- no function is called, so the slots of three temporaries are at 8, 4 and 0 behind x2
 a_small_sum :
     become (binary (binaries.Arithmetic arithmetics.Add Signed) 0 (Integer 1) (Constant 5))
-    ≡ plain (Load Lw 10 2 8 ∷ OpImm Addi 10 10 5 ∷ Store Sw 2 10 12 ∷ [])
-unfolding is_small is_near frame_cost rounded
+    ≡ plain (Load Lw 10 2 4 ∷ OpImm Addi 10 10 5 ∷ Store Sw 2 10 8 ∷ [])
+unfolding is_small is_near frame_cost rounded keeps_return_address
 a_small_sum = refl
 
 -- 0x12fff is 0x13000 and -1
 a_wide_sum :
     become (binary (binaries.Arithmetic arithmetics.Add Signed) 0 (Integer 1) (Constant 0x12fff))
-    ≡ plain (Load Lw 10 2 8 ∷ Lui 11 0x13000 ∷ OpImm Addi 11 11 0xffffffff ∷ Op Add 10 10 11 ∷ Store Sw 2 10 12 ∷ [])
-unfolding is_small low_part high_part is_near frame_cost rounded
+    ≡ plain (Load Lw 10 2 4 ∷ Lui 11 0x13000 ∷ OpImm Addi 11 11 0xffffffff ∷ Op Add 10 10 11 ∷ Store Sw 2 10 8 ∷ [])
+unfolding is_small low_part high_part is_near frame_cost rounded keeps_return_address
 a_wide_sum = refl
 
 -- 7 is taken away by adding -7
 a_difference :
     become (binary (binaries.Arithmetic arithmetics.Subtract Unsigned) 2 (Integer 2) (Constant 7))
-    ≡ plain (Load Lw 10 2 4 ∷ OpImm Addi 10 10 0xfffffff9 ∷ Store Sw 2 10 4 ∷ [])
-unfolding is_small is_near frame_cost rounded
+    ≡ plain (Load Lw 10 2 0 ∷ OpImm Addi 10 10 0xfffffff9 ∷ Store Sw 2 10 0 ∷ [])
+unfolding is_small is_near frame_cost rounded keeps_return_address
 a_difference = refl
 
 -- x <= y is not y < x
 a_comparison :
     become (binary (binaries.Compare comparisons.LessOrEqual Signed) 0 (Integer 1) (Integer 2))
-    ≡ plain (Load Lw 10 2 4 ∷ Load Lw 11 2 8 ∷ Op Slt 10 10 11 ∷ OpImm Xori 10 10 1 ∷ Store Sw 2 10 12 ∷ [])
-unfolding is_near frame_cost rounded
+    ≡ plain (Load Lw 10 2 0 ∷ Load Lw 11 2 4 ∷ Op Slt 10 10 11 ∷ OpImm Xori 10 10 1 ∷ Store Sw 2 10 8 ∷ [])
+unfolding is_near frame_cost rounded keeps_return_address
 a_comparison = refl
 
 -- the third element down, of 12 bytes each
 a_constant_step :
     become (binary (binaries.Move Down Signed 12) 0 (Temporary 1) (Constant 3))
-    ≡ plain (Load Lw 10 2 8 ∷ OpImm Addi 10 10 0xffffffdc ∷ Store Sw 2 10 12 ∷ [])
-unfolding is_small is_near frame_cost rounded
+    ≡ plain (Load Lw 10 2 4 ∷ OpImm Addi 10 10 0xffffffdc ∷ Store Sw 2 10 8 ∷ [])
+unfolding is_small is_near frame_cost rounded keeps_return_address
 a_constant_step = refl
 
 -- p->b[i].c where b is 4 bytes and c is 8 bytes behind the start
@@ -95,8 +95,8 @@ a_load_behind_an_index :
       offset = Some 4;
       index = Some (record { count = Integer 2; signedness = Signed; element = 4; offset = Some 8 });
     }))
-    ≡ plain (Load Lw 10 2 8 ∷ Load Lw 11 2 4 ∷ ShiftImm Slli 13 11 2 ∷ Op Add 13 13 10 ∷ Load Lw 10 13 12 ∷ Store Sw 2 10 12 ∷ [])
-unfolding is_small is_near shift_of frame_cost rounded
+    ≡ plain (Load Lw 10 2 4 ∷ Load Lw 11 2 0 ∷ ShiftImm Slli 13 11 2 ∷ Op Add 13 13 10 ∷ Load Lw 10 13 12 ∷ Store Sw 2 10 8 ∷ [])
+unfolding is_small is_near shift_of frame_cost rounded keeps_return_address
 a_load_behind_an_index = refl
 
 -- the second block of data lies 8 bytes behind the first; a constant index is a part of the displacement
@@ -106,29 +106,29 @@ a_store_of_a_byte :
       offset = None;
       index = Some (record { count = Constant 3; signedness = Signed; element = 1; offset = None });
     }) (Integer 0))
-    ≡ plain (Lui 10 0x10000000 ∷ Load Lw 14 2 12 ∷ Store Sb 10 14 11 ∷ [])
-unfolding low_part high_part is_near frame_cost rounded
+    ≡ plain (Lui 10 0x10000000 ∷ Load Lw 14 2 8 ∷ Store Sb 10 14 11 ∷ [])
+unfolding low_part high_part is_near frame_cost rounded keeps_return_address
 a_store_of_a_byte = refl
 
 -- the block lies behind the three slots
 a_fill :
     become (fill (zeros 6) (record { base = Local 0; offset = None; index = None }))
-    ≡ plain (OpImm Addi 15 2 16 ∷ OpImm Addi 17 0 4 ∷ Op Add 17 17 15 ∷ Store Sw 15 0 0 ∷ OpImm Addi 15 15 4
+    ≡ plain (OpImm Addi 15 2 12 ∷ OpImm Addi 17 0 4 ∷ Op Add 17 17 15 ∷ Store Sw 15 0 0 ∷ OpImm Addi 15 15 4
     ∷ instructions.Branch Bne 15 17 0xfffffff8 ∷ Store Sb 15 0 0 ∷ Store Sb 15 0 1 ∷ [])
-unfolding is_small is_near frame_cost rounded
+unfolding is_small is_near frame_cost rounded keeps_return_address
 a_fill = refl
 
 -- the first of 600 slots lies 2400 bytes behind x2
 a_far_slot :
     instruction_items (context_of 600) some_labels (move 0 (Constant 7))
     ≡ plain (OpImm Addi 10 0 7 ∷ Lui 1 4096 ∷ Op Add 1 1 2 ∷ Store Sw 1 10 0xfffff960 ∷ [])
-unfolding is_small low_part high_part is_near frame_cost rounded
+unfolding is_small low_part high_part is_near frame_cost rounded keeps_return_address
 a_far_slot = refl
 
 a_call :
     become (call (Some 0) (Function (record { 0 = 3 })) (Integer 1 ∷ Constant 2 ∷ []))
-    ≡ plain (Load Lw 10 2 8 ∷ OpImm Addi 11 0 2 ∷ []) ++ (Jump 1 103 ∷ plain (Store Sw 2 10 12 ∷ []))
-unfolding is_small is_near frame_cost rounded
+    ≡ plain (Load Lw 10 2 4 ∷ OpImm Addi 11 0 2 ∷ []) ++ (Jump 1 103 ∷ plain (Store Sw 2 10 8 ∷ []))
+unfolding is_small is_near frame_cost rounded keeps_return_address
 a_call = refl
 
 a_character :
@@ -139,8 +139,8 @@ a_character = refl
 
 a_branch :
     become (branch (Compare comparisons.Less Signed (Integer 0) (Constant 10)) 5)
-    ≡ plain (Load Lw 10 2 12 ∷ OpImm Addi 11 0 10 ∷ []) ++ (Branch Blt 10 11 205 ∷ [])
-unfolding is_small is_near frame_cost rounded
+    ≡ plain (Load Lw 10 2 8 ∷ OpImm Addi 11 0 10 ∷ []) ++ (Branch Blt 10 11 205 ∷ [])
+unfolding is_small is_near frame_cost rounded keeps_return_address
 a_branch = refl
 
 -- ---- a unit: int f(int x) { return x + 1; } int main(void) { return f(4); }
@@ -171,18 +171,18 @@ their_places = all_slots successor ∷ record { at = places.Register 9 ∷ []; n
 their_items :
     selected two_functions their_places
     ≡ Jump 1 4 ∷ plain (OpImm Addi 17 0 0 ∷ Ecall ∷ [])
-    ++ (Label 0 ∷ plain (OpImm Addi 2 2 0xfffffff0 ∷ Store Sw 2 1 0 ∷ Store Sw 2 10 8 ∷ []))
-    ++ (Label 1 ∷ plain (Load Lw 10 2 8 ∷ OpImm Addi 10 10 1 ∷ Store Sw 2 10 4 ∷ []))
-    ++ (Label 2 ∷ plain (Load Lw 10 2 4 ∷ Load Lw 1 2 0 ∷ OpImm Addi 2 2 16 ∷ Jalr 0 1 0 ∷ []))
+    ++ (Label 0 ∷ plain (OpImm Addi 2 2 0xfffffff0 ∷ Store Sw 2 10 4 ∷ []))
+    ++ (Label 1 ∷ plain (Load Lw 10 2 4 ∷ OpImm Addi 10 10 1 ∷ Store Sw 2 10 0 ∷ []))
+    ++ (Label 2 ∷ plain (Load Lw 10 2 0 ∷ OpImm Addi 2 2 16 ∷ Jalr 0 1 0 ∷ []))
     ++ (Label 3 ∷ Label 4 ∷ plain (OpImm Addi 2 2 0xfffffff0 ∷ Store Sw 2 1 0 ∷ Store Sw 2 9 4 ∷ []))
     ++ (Label 5 ∷ plain (OpImm Addi 10 0 4 ∷ []) ++ (Jump 1 0 ∷ plain (OpImm Addi 9 10 0 ∷ [])))
-    ++ (Label 6 ∷ plain (OpImm Addi 10 9 0 ∷ Load Lw 1 2 0 ∷ Load Lw 9 2 4 ∷ OpImm Addi 2 2 16 ∷ Jalr 0 1 0 ∷ []))
+    ++ (Label 6 ∷ plain (OpImm Addi 10 9 0 ∷ Load Lw 9 2 4 ∷ Load Lw 1 2 0 ∷ OpImm Addi 2 2 16 ∷ Jalr 0 1 0 ∷ []))
     ++ (Label 7 ∷ [])
-unfolding is_small is_near frame_cost
+unfolding is_small is_near frame_cost keeps_return_address
 their_items = refl
 
 they_have_no_fault : first_fault two_functions their_places ≡ None
-unfolding frame_cost
+unfolding frame_cost keeps_return_address
 they_have_no_fault = refl
 
 -- ---- values in registers: x5, which calls change, and x9, which is saved; the slot of the last temporary lies first
@@ -196,12 +196,12 @@ mixed = record { function = function_of 4; places = mixed_places; data_at = λ b
 -- slot 1 holds temporary 0 and lies behind slot 0, which holds temporary 2
 a_sum_in_a_register :
     instruction_items mixed some_labels (binary (binaries.Arithmetic arithmetics.Add Signed) 1 (Integer 0) (Integer 3))
-    ≡ plain (Load Lw 10 2 12 ∷ Op Add 5 10 9 ∷ [])
-unfolding is_near
+    ≡ plain (Load Lw 10 2 8 ∷ Op Add 5 10 9 ∷ [])
+unfolding is_near rounded keeps_return_address
 a_sum_in_a_register = refl
 
-a_move_to_a_slot : instruction_items mixed some_labels (move 2 (Temporary 1)) ≡ plain (Store Sw 2 5 8 ∷ [])
-unfolding is_near
+a_move_to_a_slot : instruction_items mixed some_labels (move 2 (Temporary 1)) ≡ plain (Store Sw 2 5 4 ∷ [])
+unfolding is_near rounded keeps_return_address
 a_move_to_a_slot = refl
 
 a_move_to_a_register : instruction_items mixed some_labels (move 1 (Temporary 3)) ≡ plain (OpImm Addi 5 9 0 ∷ [])
@@ -220,7 +220,7 @@ abbrev eight : List Operand
 eight = Constant 1 ∷ Constant 2 ∷ Constant 3 ∷ Constant 4 ∷ Constant 5 ∷ Constant 6 ∷ Constant 7 ∷ Constant 8 ∷ []
 
 eight_arguments : first_fault (unit_of (calls_with eight)) [] ≡ None
-unfolding frame_cost
+unfolding frame_cost keeps_return_address
 eight_arguments = refl
 
 nine_arguments : first_fault (unit_of (calls_with (Constant 0 ∷ eight))) [] ≡ Some faults.TooManyArguments
@@ -233,11 +233,11 @@ abbrev with_block : (size : ℕ) → TacFunctionTree
 with_block size = record { parameters = []; temporaries = 0; blocks = size ∷ []; code = [] }
 
 the_largest_frame : first_fault (unit_of (with_block 0x0ffffffc)) [] ≡ None
-unfolding frame_cost rounded
+unfolding frame_cost rounded keeps_return_address
 the_largest_frame = refl
 
 too_large_a_frame : first_fault (unit_of (with_block 0x0ffffffd)) [] ≡ Some faults.FrameTooLarge
-unfolding frame_cost rounded
+unfolding frame_cost rounded keeps_return_address
 too_large_a_frame = refl
 
 abbrev with_data : (size : ℕ) → TacUnitTree

@@ -43,11 +43,11 @@ use Rattle.qs_tac.specs.declared.operands.Index.{Index}
 use Rattle.qs_tac.specs.declared.operands.Address.{Address}
 use Rattle.qs_tac.specs.declared.operands.Condition.{Condition}
 use Rattle.qs_tac.specs.declared.operands.Condition.TheVariants.{NotZero, Zero, Compare, ComparePointers}
-use Rattle.qs_frames.specs.Layout.{is_among, used_among, saved_registers, used_registers}
-use Rattle.qs_frames.proofs.FrameLaws.{one_place_each, slot_low, slot_past, fewer_slots}
+use Rattle.qs_frames.proofs.FrameLaws.{one_place_each, stored_words, slot_low, slot_past, fewer_slots}
+use Rattle.qs_emit_selection.proofs.EntryLaws.{few_are_stored}
 use Rattle.qs_emit_selection.specs.Pieces as pieces
 use Rattle.qs_emit_selection.specs.Pieces.{sltiu, sltu, is_small, low_part, constant, is_near, load_from, store_to, address_in_frame, move_stack, shift_of, product_by, loop_end, copy_loop, fill_loop, zero_bytes}
-use Rattle.qs_emit_selection.specs.Operands.{Context, slot_offset, constant_count, place_into, byte_into, into, register_of, stands_in, unless_there, operand_code, operand_register, put_place, put, result_register, result_code, move_to, Anchor, displacement, behind_frame, behind_pointer, based, add_elements, add_index, anchor_of, address_into, is_word_address}
+use Rattle.qs_emit_selection.specs.Operands.{Context, stored, slot_offset, constant_count, place_into, byte_into, into, register_of, stands_in, unless_there, operand_code, operand_register, put_place, put, result_register, result_code, move_to, Anchor, displacement, behind_frame, behind_pointer, based, add_elements, add_index, anchor_of, address_into, is_word_address}
 use Rattle.qs_emit_selection.specs.Operations.{constant_of, or_code, both, on_both, arithmetic, less, apart, compare, move_by, move_by_elements, moved, elements_between}
 use Rattle.qs_emit_selection.specs.Operations as operations
 use Rattle.qs_emit_selection.specs.Emission.{copy_code, unless_none, fill_code, save, restore, take_parameter, take_parameters, enter, leave, pass, take_result, Labels, goes_to, compare_branch, compare_items, branch_items, gives, instruction_items, body_items, function_items, first_label, labels_of, functions_items, environment, start_items, unit_items}
@@ -148,22 +148,14 @@ module _ (c : Context) where
       let f = restore_length registers (i + 1) in
       omega (arith, e, f)
 
-  kept_or_not : (b : Bool) (r : ℕ) (used : List ℕ) (n : ℕ) → length used ≤ n → length (if b then r ∷ used else used) ≤ suc n
-  kept_or_not true r used n h = omega (arith, h)
-  kept_or_not false r used n h = omega (arith, h)
+  pub few_stored : length (stored c) ≤ 13
+  few_stored = few_are_stored c.function c.places
 
-  used_long : (places : List Place) (registers : List ℕ) → length (used_among places registers) ≤ length registers
-  used_long places [] = omega arith
-  used_long places (r ∷ registers) = kept_or_not (is_among places r) r (used_among places registers) (length registers) (used_long places registers)
+  save_long : Long 0 13 (save (stored c) 0)
+  save_long = let e = save_length (stored c) 0 in let f = few_stored in record { least = omega arith; most = omega (arith, e, f) }
 
-  pub few_used : length (used_registers c.places) ≤ 12
-  few_used = used_long c.places.at saved_registers
-
-  save_long : Long 0 12 (save (used_registers c.places) 0)
-  save_long = let e = save_length (used_registers c.places) 0 in let f = few_used in record { least = omega arith; most = omega (arith, e, f) }
-
-  restore_long : Long 0 12 (restore (used_registers c.places) 0)
-  restore_long = let e = restore_length (used_registers c.places) 0 in let f = few_used in record { least = omega arith; most = omega (arith, e, f) }
+  restore_long : Long 0 13 (restore (stored c) 0)
+  restore_long = let e = restore_length (stored c) 0 in let f = few_stored in record { least = omega arith; most = omega (arith, e, f) }
 
 -- ---- operands and results
 
@@ -201,11 +193,12 @@ module _ (c : Context) (accepted : Accepted c.function c.places) where
   near_slot : (t k : ℕ) → place_of c.places t ≡ Slot k → sizes.is_near c.function t ≡ true → is_near (slot_offset c k) ≡ true
   near_slot t k is h =
       let count = one_place_each c.function c.places accepted in
-      let few = few_used c in
+      let few = few_stored c in
+      let words = stored_words c.function c.places in
       near_offset (slot_offset c k) c.function.temporaries t
       (⊎_elim
-      (λ lt. let low = slot_low c.places t k lt is in inl (omega (arith, low, count, few, lt)))
-      (λ ge. let past = slot_past c.places k (let none : t ≡ k = slot_same t k (sym (outside c.places.at t ge) ∙ is) in let fewer = fewer_slots c.places in omega (arith, fewer, ge, none)) in inr (omega (arith, past, few)))
+      (λ lt. let low = slot_low c.function c.places t k lt is in inl (omega (arith, low, count, few, words, lt)))
+      (λ ge. let past = slot_past c.function c.places k (let none : t ≡ k = slot_same t k (sym (outside c.places.at t ge) ∙ is) in let fewer = fewer_slots c.places in omega (arith, fewer, ge, none)) in inr (omega (arith, past, few, words)))
       (cases_lt t (length c.places.at)))
       h
     where
@@ -492,11 +485,11 @@ module _ (c : Context) (accepted : Accepted c.function c.places) where
   enter_long : Long 1 (enter_words c.function) (enter c)
   enter_long =
       wider (omega arith) (omega arith)
-      (then_long (stack_long _) (then_long (one _) (then_long (save_long c) (parameters_long a0 c.function.parameters))))
+      (then_long (stack_long _) (then_long (save_long c) (parameters_long a0 c.function.parameters)))
 
   leave_long : Long 1 leave_words (leave c)
   leave_long =
-      wider (omega arith) (omega arith) (then_long (one _) (then_long (restore_long c) (then_long (stack_long _) (one _))))
+      wider (omega arith) (omega arith) (then_long (restore_long c) (then_long (stack_long _) (one _)))
 
   -- ---- calls
 

@@ -1,5 +1,5 @@
 -- The first labels of functions as a list.
-use Rattle.std.proofs.Common.{◌≡◌, ℕ, zero, suc, ◌+◌, List, [], ◌∷◌, ◌++◌, length, map, drop, ◌≤◌, refl, ap, sym, ◌∙◌, add-zero, zero-add, add-one, append_assoc, get_or, subst, ◌<◌, ◌^◌, ◌*◌, None, arith}
+use Rattle.std.proofs.Common.{◌≡◌, ℕ, zero, suc, ◌+◌, List, [], ◌∷◌, ◌++◌, length, map, drop, ◌≤◌, refl, ap, sym, ◌∙◌, add-zero, zero-add, add-one, append_assoc, get_or, subst, ◌<◌, ◌^◌, None, arith}
 use Rattle.std.specs.Prelude.{slice_index_or}
 use Rattle.std.proofs.lemmas.List.{append-nil}
 use Rattle.qs_tac.specs.Trees.{TacFunctionTree}
@@ -11,8 +11,8 @@ use Rattle.std.proofs.Math.Seq.{drop-cons}
 use Rattle.qs_asm.specs.declared.item.Item.{Item}
 use Rattle.qs_tac.specs.Trees.{TacUnitTree}
 use Rattle.qs_tac.specs.Places.{PlacesTree, no_places}
-use Rattle.qs_frames.specs.Layout.{total, kept, layout}
-use Rattle.qs_frames.proofs.OffsetLaws.{cost_has_room}
+use Rattle.qs_frames.specs.Layout.{total, layout, FrameFits}
+use Rattle.qs_frames.proofs.OffsetLaws.{frame_has_room}
 use Rattle.qs_emit_selection.specs.Data.{data_address}
 use Rattle.qs_emit_selection.specs.Emission.{functions_items}
 use Rattle.qs_emit_selection.specs.Limits.{function_fault, functions_fault}
@@ -74,14 +74,11 @@ pub room_for_blocks :
     (f : TacFunctionTree) (p : PlacesTree) → function_fault f p ≡ None → (layout f p).placed + total f.blocks ≤ 2 ^ 29
 room_for_blocks f p h =
     let cost : (layout f p).cost ≤ 2 ^ 28 = (is_free f p h).cost in
-    let room : 4 + 4 * kept p + total f.blocks ≤ (layout f p).cost = cost_has_room (kept p) (total f.blocks) in
+    let room = frame_has_room f p in
     omega (arith, cost, room)
 
-pub room_for_slots : (f : TacFunctionTree) (p : PlacesTree) → function_fault f p ≡ None → kept p ≤ 2 ^ 28
-room_for_slots f p h =
-    let cost : (layout f p).cost ≤ 2 ^ 28 = (is_free f p h).cost in
-    let room : 4 + 4 * kept p + total f.blocks ≤ (layout f p).cost = cost_has_room (kept p) (total f.blocks) in
-    omega (arith, cost, room)
+pub frame_is_fit : (f : TacFunctionTree) (p : PlacesTree) → function_fault f p ≡ None → FrameFits f p
+frame_is_fit f p h = (is_free f p h).cost
 
 pub next_function :
     (functions now : List TacFunction) (f : ℕ) (g : TacFunction) → now ≡ functions → g ≡ get_or now f g → f < length now

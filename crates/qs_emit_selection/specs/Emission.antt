@@ -26,11 +26,11 @@ use Rattle.qs_tac.specs.Places.{PlacesTree, place_of, no_places}
 use Rattle.qs_tac.specs.declared.operands.Operand.{Operand}
 use Rattle.qs_tac.specs.declared.operands.Condition.{Condition}
 use Rattle.qs_tac.specs.declared.operands.Condition.TheVariants.{NotZero, Zero, Compare, ComparePointers}
-use Rattle.qs_frames.specs.Layout.{register_at, return_address_at, used_registers}
+use Rattle.qs_frames.specs.Layout.{register_at}
 use Rattle.qs_emit_selection.specs.Pieces as pieces
 use Rattle.qs_emit_selection.specs.Pieces.{addi, jalr, load_kind, store_kind}
 use Rattle.qs_emit_selection.specs.Pieces.{store_to, move_stack, copy_loop, fill_loop, zero_bytes}
-use Rattle.qs_emit_selection.specs.Operands.{Context, frame_of, local_offset, into, operand_code, operand_register}
+use Rattle.qs_emit_selection.specs.Operands.{Context, frame_of, stored, local_offset, into, operand_code, operand_register}
 use Rattle.qs_emit_selection.specs.Operands.{result_register, put, result_code, move_to, anchor_of, address_into, is_word_address}
 use Rattle.qs_emit_selection.specs.Operations as operations
 use Rattle.qs_emit_selection.specs.Operations.{both, unary_instruction, conversion}
@@ -57,7 +57,7 @@ fill_code false size = unless_none size (fill_loop Sb 1 size)
 
 -- ---- entry and return
 
--- the registers that are given back, one after the other into their words of the frame, and back in the other order
+-- registers, one after the other into their words of the frame, and back in the other order
 abbrev pub save : List ℕ → (i : ℕ) → List Instr
 save [] i = []
 save (r ∷ registers) i = pieces.store Sw r sp (register_at i) ∷ save registers (i + 1)
@@ -77,14 +77,10 @@ take_parameters c register (p ∷ parameters) = take_parameter c register p ++ t
 
 abbrev pub enter : Context → List Instr
 enter c =
-    move_stack (2 ^ 32 - (frame_of c).cost)
-    ++ pieces.store Sw ra sp return_address_at
-    ∷ (save (used_registers c.places) 0 ++ take_parameters c a0 c.function.parameters)
+    move_stack (2 ^ 32 - (frame_of c).cost) ++ (save (stored c) 0 ++ take_parameters c a0 c.function.parameters)
 
 abbrev pub leave : Context → List Instr
-leave c =
-    pieces.load Lw ra sp return_address_at
-    ∷ (restore (used_registers c.places) 0 ++ (move_stack (frame_of c).cost ++ jalr x0 ra 0 ∷ []))
+leave c = restore (stored c) 0 ++ (move_stack (frame_of c).cost ++ jalr x0 ra 0 ∷ [])
 
 -- ---- calls
 

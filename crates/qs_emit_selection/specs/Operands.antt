@@ -15,7 +15,7 @@ use Rattle.qs_tac.specs.declared.operands.Operand.TheVariants.{Temporary, Intege
 use Rattle.qs_tac.specs.declared.operands.Index.{Index}
 use Rattle.qs_tac.specs.declared.operands.Address.{Address}
 use Rattle.qs_frames.specs.declared.frame.Frame.{Frame}
-use Rattle.qs_frames.specs.Layout.{layout, slot_at, block_offset}
+use Rattle.qs_frames.specs.Layout.{layout, stored_registers, slot_at, block_offset}
 use Rattle.qs_emit_selection.specs.Pieces.{lui, addi, andi, add, is_small, low_part, high_part, constant}
 use Rattle.qs_emit_selection.specs.Pieces.{is_near, load_from, store_to, address_in_frame, product}
 
@@ -29,9 +29,13 @@ pub record Context : Type 0 where
 abbrev pub frame_of : Context → Frame
 frame_of c = layout c.function c.places
 
+-- the registers that the entry stores and the return brings back
+abbrev pub stored : Context → List ℕ
+stored c = stored_registers c.function c.places
+
 -- the offset of a slot, and of a placed block, from x2
 abbrev pub slot_offset : Context → (k : ℕ) → ℕ
-slot_offset c k = slot_at c.places k
+slot_offset c k = slot_at c.function c.places k
 
 abbrev pub local_offset : Context → (i : ℕ) → ℕ
 local_offset c i = block_offset c.function (frame_of c) i

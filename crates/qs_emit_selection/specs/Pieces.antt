@@ -17,7 +17,7 @@ use Rattle.qs_isa.specs.declared.instruction.OpKind.TheVariants.{Add, Sub, Slt, 
 use Rattle.qs_memory.specs.declared.scalar.Scalar.{Scalar}
 use Rattle.qs_memory.specs.declared.scalar.Scalar.TheVariants as scalars
 
--- x10 to x17 are for the steps that instructions are made of, and so is x1 within a function, which has stored its return
+-- x10 to x17 are for the steps that instructions are made of, and so is x1 in a function that has stored its return
 -- address; x5 moves x2 at the entry and at the return, where no value has to be there still
 
 -- ---- instructions by their names in assembly

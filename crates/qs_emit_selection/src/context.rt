@@ -2,7 +2,7 @@
 ghost use Rattle.std.specs.Prelude.{◌≡◌, true};
 ghost use Rattle.qs_tac.specs.TreeOf.{function_tree, function_trees};
 ghost use Rattle.qs_tac.specs.Places.{places_tree};
-ghost use Rattle.qs_frames.specs.Layout.{layout, slot_at, block_offset, used_registers};
+ghost use Rattle.qs_frames.specs.Layout.{layout, slot_at, block_offset, stored_registers};
 ghost use Rattle.qs_frames.specs.Starts.{BeginAt};
 ghost use Rattle.qs_emit_selection.specs.Data.{data_address};
 ghost use Rattle.qs_emit_selection.specs.Emission.{first_label};
@@ -25,8 +25,8 @@ pub struct FunctionContext<'a> {
     pub frame: Frame,
     /// the offsets of its slots from x2
     pub slots: &'a Starts,
-    /// the registers that it gives back
-    pub saved: &'a [u32],
+    /// the registers that its entry stores
+    pub stored: &'a [u32],
     /// the offsets of its blocks from x2
     pub blocks: &'a Starts,
     /// the addresses of the unit's data
@@ -37,8 +37,8 @@ pub struct FunctionContext<'a> {
     pub labels: &'a Starts,
     ghost placed: { places_fit (places_tree places.now) ≡ true },
     ghost framed: { frame ≡ layout (function_tree function.now) (places_tree places.now) },
-    ghost slotted: { BeginAt slots.now (slot_at (places_tree places.now)) },
-    ghost gives_back: { saved.now ≡ used_registers (places_tree places.now) },
+    ghost slotted: { BeginAt slots.now (slot_at (function_tree function.now) (places_tree places.now)) },
+    ghost keeps: { stored.now ≡ stored_registers (function_tree function.now) (places_tree places.now) },
     ghost offsets: { BeginAt blocks.now (block_offset (function_tree function.now) frame) },
     ghost addresses: { BeginAt data_starts.now (data_address unit.now.data_blocks.items) },
     ghost labelled: { BeginAt labels.now (first_label (function_trees unit.now.functions.items)) },

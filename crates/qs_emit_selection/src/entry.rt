@@ -1,10 +1,11 @@
 // The entry of a function, and the return from it.
 ghost use Rattle.std.specs.Prelude.{◌≡◌, ◌<◌, ◌≤◌, ◌-◌, ◌^◌, OnOk, All, length};
-ghost use Rattle.qs_frames.specs.Layout.{used_registers, register_at};
+ghost use Rattle.qs_frames.specs.Layout.{register_at};
 ghost use Rattle.qs_emit_selection.specs.ContextOf.{context_tree as tree};
 ghost use Rattle.qs_emit_selection.specs.ContextOf.{parameter_code, parameters_code};
 ghost use Rattle.qs_emit_selection.specs.Emission as spec;
 ghost use Rattle.qs_emit_selection.specs.Limits.{most_arguments};
+ghost use Rattle.qs_emit_selection.specs.Operands.{stored};
 ghost use Rattle.qs_emit_selection.specs.Puts.{Emits};
 
 use crate::context::FunctionContext;
@@ -17,27 +18,27 @@ use qs_base::{NoMemory, sub32};
 use qs_calls::Parameter;
 use qs_isa::{Immediate, LoadKind, Register, StoreKind};
 
-// ---- registers that are given back
+// ---- registers that are stored
 
-fn saved_registers<'a>(c: &'a FunctionContext) -> &'a [u32]
-    ensures are { result.now ≡ used_registers (tree c.now).places }
-    ensures few { length result.now ≤ 12 }
+fn stored_registers<'a>(c: &'a FunctionContext) -> &'a [u32]
+    ensures are { result.now ≡ stored (tree c.now) }
+    ensures few { length result.now ≤ 13 }
     ensures registers { All (λ r. r < 32) result.now }
 {
-    c.saved
+    c.stored
 }
 
 /// Where a register stands in the frame.
 fn place_of_register(i: usize) -> Immediate
-    requires { i < 12 }
+    requires { i < 13 }
     ensures { result ≡ register_at i }
 {
-    below(4 + 4 * i as u32)
+    below(4 * i as u32)
 }
 
 /// The registers, into their words of the frame.
 fn put_save(items: &mut Vec<Item>, registers: &[u32]) -> Result<(), NoMemory>
-    requires few { length registers.now ≤ 12 }
+    requires few { length registers.now ≤ 13 }
     requires registers { All (λ r. r < 32) registers.now }
     ensures { OnOk result (Emits items.old items.new (spec.save registers.now 0)) }
 {
@@ -58,7 +59,7 @@ fn put_save(items: &mut Vec<Item>, registers: &[u32]) -> Result<(), NoMemory>
 
 /// The registers, from their words of the frame, the last one first.
 fn put_restore(items: &mut Vec<Item>, registers: &[u32]) -> Result<(), NoMemory>
-    requires few { length registers.now ≤ 12 }
+    requires few { length registers.now ≤ 13 }
     requires registers { All (λ r. r < 32) registers.now }
     ensures { OnOk result (Emits items.old items.new (spec.restore registers.now 0)) }
 {
@@ -126,11 +127,7 @@ pub fn put_enter(items: &mut Vec<Item>, c: &FunctionContext) -> Result<(), NoMem
     ensures { OnOk result (Emits items.old items.new (spec.enter (tree c.now))) }
 {
     put_move_stack(items, downwards(c.frame.cost))?;
-    put(
-        items,
-        store(StoreKind::Sw, Register::RA, Register::SP, below(0)),
-    )?;
-    put_save(items, saved_registers(c))?;
+    put_save(items, stored_registers(c))?;
     put_parameters(items, c, &c.function.parameters)
 }
 
@@ -138,11 +135,7 @@ pub fn put_enter(items: &mut Vec<Item>, c: &FunctionContext) -> Result<(), NoMem
 pub fn put_leave(items: &mut Vec<Item>, c: &FunctionContext) -> Result<(), NoMemory>
     ensures { OnOk result (Emits items.old items.new (spec.leave (tree c.now))) }
 {
-    put(
-        items,
-        load(LoadKind::Lw, Register::RA, Register::SP, below(0)),
-    )?;
-    put_restore(items, saved_registers(c))?;
+    put_restore(items, stored_registers(c))?;
     put_move_stack(items, c.frame.cost)?;
     put(items, jalr(Register::ZERO, Register::RA, below(0)))
 }

@@ -19,7 +19,7 @@ use crate::limits::first_fault;
 use crate::pieces::put_item;
 use qs_asm::Item;
 use qs_base::{FnId, NoMemory, count, sum};
-use qs_frames::{Starts, laid_from, layout, slot_starts, used_registers};
+use qs_frames::{Starts, laid_from, layout, slot_starts, stored_registers};
 use qs_isa::{DATA_START, EXIT_CALL, Register};
 use qs_tac::{Places, TacData, TacFunction, TacUnit};
 use std::alloc::Global;
@@ -81,8 +81,8 @@ fn put_function_at(
     ensures { OnOk result (Selects items.old items.new unit.now number function.now places.now) }
 {
     let frame = layout(function, places);
-    let slots = slot_starts(alloc, places)?;
-    let saved = used_registers(alloc, places)?;
+    let slots = slot_starts(alloc, function, places)?;
+    let stored = stored_registers(alloc, function, places)?;
     let blocks = laid_from(alloc, frame.placed, &function.blocks)?;
     let c = FunctionContext {
         unit,
@@ -90,7 +90,7 @@ fn put_function_at(
         places,
         frame,
         slots: &slots,
-        saved: &saved,
+        stored: &stored,
         blocks: &blocks,
         data_starts,
         number,

@@ -1,19 +1,20 @@
 -- Where the parts of a frame lie.
 use Rattle.std.proofs.Common.{◌≡◌, ◌≢◌, ◌⊎◌, inl, inr, ⊎_elim, ℕ, zero, suc, ◌+◌, ◌*◌, ◌/◌, ◌%◌, ◌==◌, ◌&&◌, ◌<◌, ◌≤◌, not, Bool, true, false, List, [], ◌∷◌, length, Option, Some, None, refl, sym, ap, ◌∙◌, arith}
-use Rattle.std.specs.Prelude.{nat_lt, if◌then◌else◌, slice_get, slice_index_or, unwrap_or}
-use Rattle.std.specs.List.{list_all}
+use Rattle.std.specs.Prelude.{nat_lt, nat_le, ◌||◌, ◌++◌, if◌then◌else◌, slice_get, slice_index_or, unwrap_or}
+use Rattle.std.specs.List.{list_all, list_any}
 use Rattle.std.specs.Option.{option_or}
 use Rattle.std.proofs.lemmas.Bool.{cases_lt, and_parts}
 use Rattle.std.proofs.lemmas.Bool.Decides.{nat_tests}
-use Rattle.qs_tac.specs.Trees.{TacFunctionTree}
+use Rattle.qs_calls.specs.declared.callee.Callee.TheVariants.{Function}
+use Rattle.qs_tac.specs.Trees.{InstructionTree, call, TacFunctionTree}
 use Rattle.qs_tac.specs.Places.{PlacesTree, place_of, slots_from, slots_among, slot_count, may_stand, Accepted, own_slots, keep_values}
 use Rattle.qs_tac.proofs.NeedLaws.{own_slot}
-use Rattle.qs_tac.specs.Sizes.{values}
+use Rattle.qs_tac.specs.Sizes.{values, reach}
 use Rattle.qs_tac.specs.Holders.{same_place}
 use Rattle.qs_tac.specs.declared.places.Place.{Place}
 use Rattle.qs_tac.specs.declared.places.Place.TheVariants.{Slot, Register}
-use Rattle.qs_frames.specs.Layout.{rounded, total, offset, is_among, used_among, saved_registers, kept, behind_last, words_before_slots, slot_at, HasSlot, frame_cost, layout}
-use Rattle.qs_frames.specs.Laws.{Part, return_address, register, slot, block, HasPart, part_from, part_end, IsLaidOut}
+use Rattle.qs_frames.specs.Layout.{rounded, total, offset, is_among, used_among, saved_registers, used_registers, kept, calls_function, keeps_return_address, return_words, return_register, stored_registers, behind_last, words_before_slots, slot_at, HasSlot, frame_words, frame_cost, layout}
+use Rattle.qs_frames.specs.Laws.{Part, register, slot, block, HasPart, part_from, part_end, CallsFunction, IsLaidOut}
 
 -- ---- blocks
 
@@ -57,15 +58,68 @@ offset_before (size ∷ sizes) (suc i) (suc j) h l =
 
 -- ---- the cost
 
-pub record IsCost (kept blocks : ℕ) : Type 0 where
-  pub positive : 0 < frame_cost kept blocks
-  pub multiple : frame_cost kept blocks % 16 ≡ 0
-  pub bound : frame_cost kept blocks ≤ 16 * ((4 + blocks + 4 * kept + 15) / 16)
-  pub enough : 4 + 4 * kept + blocks ≤ frame_cost kept blocks
+pub record IsCost (words blocks : ℕ) : Type 0 where
+  pub positive : 0 < frame_cost words blocks
+  pub multiple : frame_cost words blocks % 16 ≡ 0
+  pub bound : (kept : ℕ) → words ≤ 1 + kept → frame_cost words blocks ≤ 16 * ((4 + blocks + 4 * kept + 15) / 16)
+  pub enough : 4 * words + blocks ≤ frame_cost words blocks
 
-pub is_cost : (kept blocks : ℕ) → IsCost kept blocks
+pub is_cost : (words blocks : ℕ) → IsCost words blocks
 unfolding frame_cost
-is_cost kept blocks = record { positive = omega arith; multiple = omega arith; bound = omega arith; enough = omega arith }
+is_cost words blocks = record { positive = omega arith; multiple = omega arith; bound = λ kept h. omega (arith, h); enough = omega arith }
+
+-- ---- the return address
+
+pub few_return_words : (f : TacFunctionTree) (p : PlacesTree) → return_words f p ≤ 1
+few_return_words f p = by (keeps_return_address f p)
+  where
+    by : (b : Bool) → (if b then 1 else 0) ≤ 1
+    by true = omega arith
+    by false = omega arith
+
+pub few_words : (f : TacFunctionTree) (p : PlacesTree) → frame_words f p ≤ 1 + kept p
+few_words f p = let few = few_return_words f p in omega (arith, few)
+
+-- the return address' word, and one for each register that is given back
+pub stored_words : (f : TacFunctionTree) (p : PlacesTree) → length (stored_registers f p) ≡ words_before_slots f p
+stored_words f p = by (keeps_return_address f p)
+  where
+    by : (b : Bool) → length (return_register b ++ used_registers p) ≡ (if b then 1 else 0) + length (used_registers p)
+    by true = omega arith
+    by false = omega arith
+
+-- a function that calls another keeps its return address
+pub caller_keeps : (f : TacFunctionTree) (p : PlacesTree) → CallsFunction f → keeps_return_address f p ≡ true
+unfolding keeps_return_address
+caller_keeps f p h = either (list_any calls_function f.code) _ (found f.code h.at h.is)
+  where
+    either : (a b : Bool) → a ≡ true → a || b ≡ true
+    either true b e = refl
+    either false b e = cc
+
+    more : (a b : Bool) → b ≡ true → a || b ≡ true
+    more true b e = refl
+    more false b e = e
+
+    found : (code : List InstructionTree) (k : ℕ) → slice_get code k ≡ Some (call h.x (Function h.callee) h.arguments) → list_any calls_function code ≡ true
+    found [] k e = absurd cc
+    found (i ∷ code) zero e = ap (λ (j : InstructionTree). calls_function j || list_any calls_function code) (same i e)
+      where
+        same : (i : InstructionTree) → Some i ≡ Some (call h.x (Function h.callee) h.arguments) → i ≡ call h.x (Function h.callee) h.arguments
+        same i e = cc
+    found (i ∷ code) (suc k) e = more (calls_function i) (list_any calls_function code) (found code k e)
+
+-- in a frame without the return address each word before the blocks, and each block, begins in the reach of an immediate
+pub in_reach : (f : TacFunctionTree) (p : PlacesTree) → keeps_return_address f p ≡ false → (return_words f p ≡ 0) × (4 * kept p + total f.blocks < reach)
+unfolding keeps_return_address
+in_reach f p h =
+    let parts = or_parts (list_any calls_function f.code) (nat_le reach (4 * kept p + total f.blocks)) h in
+    let far : nat_le reach (4 * kept p + total f.blocks) ≡ false = parts.1 in
+    (ap (λ (b : Bool). if b then 1 else 0) h, grind (arith, nat_tests, far))
+  where
+    or_parts : (a b : Bool) → (a || b) ≡ false → (a ≡ false) × (b ≡ false)
+    or_parts true b e = absurd cc
+    or_parts false b e = (refl, e)
 
 -- ---- slots
 
@@ -173,38 +227,38 @@ is_behind (p ∷ places) (suc t) k e =
 
 -- ---- where slots lie
 
-pub slot_is : (p : PlacesTree) (k : ℕ) (h : HasSlot p k) → slot_at p k ≡ 4 * (words_before_slots p + h.behind)
-slot_is p k h =
+pub slot_is : (f : TacFunctionTree) (p : PlacesTree) (k : ℕ) (h : HasSlot p k) → slot_at f p k ≡ 4 * (words_before_slots f p + h.behind)
+slot_is f p k h =
     let below : nat_lt k (slot_count p) ≡ true = (let l = h.below in grind (arith, nat_tests, l)) in
-    ap (λ (b : Bool). 4 * (words_before_slots p + (if b then unwrap_or (behind_last p.at k) 0 else 0))) below
-    ∙ ap (λ o. 4 * (words_before_slots p + unwrap_or o 0)) h.last
+    ap (λ (b : Bool). 4 * (words_before_slots f p + (if b then unwrap_or (behind_last p.at k) 0 else 0))) below
+    ∙ ap (λ o. 4 * (words_before_slots f p + unwrap_or o 0)) h.last
 
 -- behind the registers, and before the blocks
-pub slot_behind : (p : PlacesTree) (k : ℕ) → 4 * words_before_slots p ≤ slot_at p k
-slot_behind p k = by (if nat_lt k (slot_count p) then unwrap_or (behind_last p.at k) 0 else 0)
+pub slot_behind : (f : TacFunctionTree) (p : PlacesTree) (k : ℕ) → 4 * words_before_slots f p ≤ slot_at f p k
+slot_behind f p k = by (if nat_lt k (slot_count p) then unwrap_or (behind_last p.at k) 0 else 0)
   where
-    by : (n : ℕ) → 4 * words_before_slots p ≤ 4 * (words_before_slots p + n)
+    by : (n : ℕ) → 4 * words_before_slots f p ≤ 4 * (words_before_slots f p + n)
     by n = omega arith
 
-pub slot_aligned : (p : PlacesTree) (k : ℕ) → slot_at p k % 4 ≡ 0
-slot_aligned p k = by (words_before_slots p + (if nat_lt k (slot_count p) then unwrap_or (behind_last p.at k) 0 else 0))
+pub slot_aligned : (f : TacFunctionTree) (p : PlacesTree) (k : ℕ) → slot_at f p k % 4 ≡ 0
+slot_aligned f p k = by (words_before_slots f p + (if nat_lt k (slot_count p) then unwrap_or (behind_last p.at k) 0 else 0))
   where
     by : (n : ℕ) → 4 * n % 4 ≡ 0
     by n = omega arith
 
-pub slot_inside : (p : PlacesTree) (k : ℕ) → HasSlot p k → slot_at p k + 4 ≤ 4 + 4 * kept p
-slot_inside p k h =
-    let is = slot_is p k h in
+pub slot_inside : (f : TacFunctionTree) (p : PlacesTree) (k : ℕ) → HasSlot p k → slot_at f p k + 4 ≤ 4 * frame_words f p
+slot_inside f p k h =
+    let is = slot_is f p k h in
     let below = behind_below p.at k h.behind h.last in
     omega (arith, is, below)
 
 pub slots_apart :
-    (p : PlacesTree) (i j : ℕ) → HasSlot p i → HasSlot p j → (i ≡ j → ⊥)
-    → (slot_at p i + 4 ≤ slot_at p j) ⊎ (slot_at p j + 4 ≤ slot_at p i)
-slots_apart p i j h k n =
-    let a = slot_is p i h in
-    let b = slot_is p j k in
-    by_order h.behind k.behind ((slot_at p i + 4 ≤ slot_at p j) ⊎ (slot_at p j + 4 ≤ slot_at p i))
+    (f : TacFunctionTree) (p : PlacesTree) (i j : ℕ) → HasSlot p i → HasSlot p j → (i ≡ j → ⊥)
+    → (slot_at f p i + 4 ≤ slot_at f p j) ⊎ (slot_at f p j + 4 ≤ slot_at f p i)
+slots_apart f p i j h k n =
+    let a = slot_is f p i h in
+    let b = slot_is f p j k in
+    by_order h.behind k.behind ((slot_at f p i + 4 ≤ slot_at f p j) ⊎ (slot_at f p j + 4 ≤ slot_at f p i))
     (λ e. n (behind_apart p.at i j k.behind (h.last ∙ ap Some e) k.last))
     (λ l. inl (omega (arith, a, b, l))) (λ l. inr (omega (arith, a, b, l)))
 
@@ -252,8 +306,8 @@ has_slot f p a t k h is =
         grind (arith, nat_tests, stands)
 
 -- and it lies before as many words as there are temporaries behind this one
-pub slot_low : (p : PlacesTree) (t k : ℕ) → t < length p.at → place_of p t ≡ Slot k → slot_at p k + 4 * (t + 1) ≤ 4 * (words_before_slots p + length p.at)
-slot_low p t k h is =
+pub slot_low : (f : TacFunctionTree) (p : PlacesTree) (t k : ℕ) → t < length p.at → place_of p t ≡ Slot k → slot_at f p k + 4 * (t + 1) ≤ 4 * (words_before_slots f p + length p.at)
+slot_low f p t k h is =
     let b = is_behind p.at t k (place_got p t h ∙ ap Some is) in
     let near = b.near in
     let most : (if nat_lt k (slot_count p) then unwrap_or (behind_last p.at k) 0 else 0) ≤ b.behind =
@@ -265,11 +319,11 @@ slot_low p t k h is =
     by false e = omega arith
 
 -- a slot that no frame has a word for lies as if it were the first
-pub slot_past : (p : PlacesTree) (k : ℕ) → slot_count p ≤ k → slot_at p k ≡ 4 * words_before_slots p
-slot_past p k h =
+pub slot_past : (f : TacFunctionTree) (p : PlacesTree) (k : ℕ) → slot_count p ≤ k → slot_at f p k ≡ 4 * words_before_slots f p
+slot_past f p k h =
     let past : nat_lt k (slot_count p) ≡ false = grind (arith, nat_tests, h) in
-    let none : 4 * (words_before_slots p + 0) ≡ 4 * words_before_slots p = omega arith in
-    ap (λ (b : Bool). 4 * (words_before_slots p + (if b then unwrap_or (behind_last p.at k) 0 else 0))) past ∙ none
+    let none : 4 * (words_before_slots f p + 0) ≡ 4 * words_before_slots f p = omega arith in
+    ap (λ (b : Bool). 4 * (words_before_slots f p + (if b then unwrap_or (behind_last p.at k) 0 else 0))) past ∙ none
 
 pub fewer_slots : (p : PlacesTree) → slot_count p ≤ length p.at
 fewer_slots p = few_slots p.at
@@ -278,26 +332,24 @@ fewer_slots p = few_slots p.at
 
 module _ (f : TacFunctionTree) (p : PlacesTree) where
   part_aligned : (a : Part) → HasPart f p a → part_from f p a % 4 ≡ 0
-  part_aligned return_address h = refl
   part_aligned (register i) h = omega arith
-  part_aligned (slot k) h = slot_aligned p k
+  part_aligned (slot k) h = slot_aligned f p k
   part_aligned (block i) h =
       let o : offset f.blocks i % 4 ≡ 0 = offset_aligned f.blocks i in
       omega (arith, o)
 
+  enough : 4 * frame_words f p + total f.blocks ≤ (layout f p).cost
+  enough = (is_cost (frame_words f p) (total f.blocks)).enough
+
+  -- registers lie before the slots
+  register_before : (i : ℕ) → HasPart f p (register i) → part_end f p (register i) ≤ 4 * words_before_slots f p
+  register_before i h = let w = stored_words f p in omega (arith, w, h)
+
   part_inside : (a : Part) → HasPart f p a → part_end f p a ≤ (layout f p).cost
-  part_inside return_address h =
-      let e : 4 + 4 * kept p + total f.blocks ≤ frame_cost (kept p) (total f.blocks) = (is_cost (kept p) (total f.blocks)).enough in
-      omega (arith, e)
-  part_inside (register i) h =
-      let e : 4 + 4 * kept p + total f.blocks ≤ frame_cost (kept p) (total f.blocks) = (is_cost (kept p) (total f.blocks)).enough in
-      omega (arith, e)
-  part_inside (slot k) h =
-      let e : 4 + 4 * kept p + total f.blocks ≤ frame_cost (kept p) (total f.blocks) = (is_cost (kept p) (total f.blocks)).enough in
-      let inside = slot_inside p k in
-      omega (arith, e, inside)
+  part_inside (register i) h = let e = enough in let b = register_before i h in omega (arith, e, b)
+  part_inside (slot k) h = let e = enough in let inside = slot_inside f p k h in omega (arith, e, inside)
   part_inside (block i) h =
-      let e : 4 + 4 * kept p + total f.blocks ≤ frame_cost (kept p) (total f.blocks) = (is_cost (kept p) (total f.blocks)).enough in
+      let e = enough in
       let o : offset f.blocks i + slice_index_or f.blocks i 0 ≤ total f.blocks = offset_inside f.blocks i h in
       omega (arith, e, o)
 
@@ -305,35 +357,35 @@ module _ (f : TacFunctionTree) (p : PlacesTree) where
   AreApart a b = (part_end f p a ≤ part_from f p b) ⊎ (part_end f p b ≤ part_from f p a)
 
   parts_apart : (a b : Part) → HasPart f p a → HasPart f p b → a ≢ b → AreApart a b
-  parts_apart return_address return_address h k n = absurd (n refl)
-  parts_apart return_address (register j) h k n = inl (omega arith)
-  parts_apart return_address (slot j) h k n = inl (let b = slot_behind p j in omega (arith, b))
-  parts_apart return_address (block j) h k n = inl (omega arith)
-  parts_apart (register i) return_address h k n = inr (omega arith)
   parts_apart (register i) (register j) h k n =
-      by_order i j (AreApart (register i) (register j)) (λ e. n (ap register e)) (λ l. inl (omega arith)) (λ l. inr (omega arith))
-  parts_apart (register i) (slot j) h k n = inl (let b = slot_behind p j in omega (arith, b, h))
-  parts_apart (register i) (block j) h k n = inl (omega arith)
-  parts_apart (slot i) return_address h k n = inr (let b = slot_behind p i in omega (arith, b))
-  parts_apart (slot i) (register j) h k n = inr (let b = slot_behind p i in omega (arith, b, k))
-  parts_apart (slot i) (slot j) h k n = slots_apart p i j h k (λ e. n (ap slot e))
-  parts_apart (slot i) (block j) h k n = inl (let b = slot_inside p i in omega (arith, b))
-  parts_apart (block i) return_address h k n = inr (omega arith)
-  parts_apart (block i) (register j) h k n = inr (omega arith)
-  parts_apart (block i) (slot j) h k n = inr (let b = slot_inside p j in omega (arith, b))
+      by_order i j (AreApart (register i) (register j)) (λ e. n (ap register e)) (λ l. inl (omega (arith, l))) (λ l. inr (omega (arith, l)))
+  parts_apart (register i) (slot j) h k n = inl (let b = slot_behind f p j in let e = register_before i h in omega (arith, b, e))
+  parts_apart (register i) (block j) h k n = inl (let e = register_before i h in omega (arith, e))
+  parts_apart (slot i) (register j) h k n = inr (let b = slot_behind f p i in let e = register_before j k in omega (arith, b, e))
+  parts_apart (slot i) (slot j) h k n = slots_apart f p i j h k (λ e. n (ap slot e))
+  parts_apart (slot i) (block j) h k n = inl (let b = slot_inside f p i h in omega (arith, b))
+  parts_apart (block i) (register j) h k n = inr (let e = register_before j k in omega (arith, e))
+  parts_apart (block i) (slot j) h k n = inr (let b = slot_inside f p j k in omega (arith, b))
   parts_apart (block i) (block j) h k n =
       by_order i j (AreApart (block i) (block j)) (λ e. n (ap block e))
       (λ l. inl (let o = offset_before f.blocks i j l k in omega (arith, o)))
       (λ l. inr (let o = offset_before f.blocks j i l h in omega (arith, o)))
 
+  part_near : keeps_return_address f p ≡ false → (a : Part) → HasPart f p a → part_from f p a < reach
+  part_near e (register i) h = let w = stored_words f p in let r = in_reach f p e in let none = r.0 in let below = r.1 in omega (arith, w, h, none, below)
+  part_near e (slot k) h = let inside = slot_inside f p k h in let r = in_reach f p e in let none = r.0 in let below = r.1 in omega (arith, inside, none, below)
+  part_near e (block i) h = let inside = offset_inside f.blocks i h in let r = in_reach f p e in let none = r.0 in let below = r.1 in omega (arith, inside, none, below)
+
   pub frames_are_laid_out : IsLaidOut f p
   frames_are_laid_out = record {
-    positive = (is_cost (kept p) (total f.blocks)).positive;
-    multiple = (is_cost (kept p) (total f.blocks)).multiple;
-    bound = (is_cost (kept p) (total f.blocks)).bound;
+    positive = (is_cost (frame_words f p) (total f.blocks)).positive;
+    multiple = (is_cost (frame_words f p) (total f.blocks)).multiple;
+    bound = (is_cost (frame_words f p) (total f.blocks)).bound (kept p) (few_words f p);
     aligned = part_aligned;
     inside = part_inside;
     apart = parts_apart;
+    keeps = caller_keeps f p;
+    near = part_near;
   }
 
 -- ---- what is kept

@@ -9,10 +9,11 @@ use Rattle.qs_tac.specs.Places.{PlacesTree, slots_among, slot_count}
 use Rattle.qs_tac.specs.Holders.{same_place}
 use Rattle.qs_tac.specs.declared.places.Place.{Place}
 use Rattle.qs_tac.specs.declared.places.Place.TheVariants.{Slot, Register}
-use Rattle.qs_frames.specs.Layout.{rounded, frame_cost, total, offset, is_among, used_among, saved_registers, used_registers, kept, behind_last, words_before_slots, slot_at}
+use Rattle.qs_tac.specs.Trees.{TacFunctionTree}
+use Rattle.qs_frames.specs.Layout.{rounded, frame_words, layout, total, offset, is_among, used_among, saved_registers, used_registers, kept, behind_last, words_before_slots, slot_at}
 use Rattle.qs_frames.specs.declared.blocks.Starts.{Starts}
 use Rattle.qs_frames.specs.Starts.{BeginAt, AreStarts}
-use Rattle.qs_frames.proofs.FrameLaws.{is_rounded, is_cost, behind_below}
+use Rattle.qs_frames.proofs.FrameLaws.{is_rounded, is_cost, few_return_words, behind_below}
 
 abbrev pub offsets_from : (at : ℕ) → (sizes : List ℕ) → List ℕ
 offsets_from at [] = []
@@ -77,8 +78,8 @@ none_left now sizes k same h = past sizes k (subst (λ l. length l ≤ k) same h
     past (size ∷ sizes) zero h = absurd (omega arith)
     past (size ∷ sizes) (suc k) h = past sizes k (omega arith)
 
-pub cost_has_room : (kept blocks : ℕ) → 4 + 4 * kept + blocks ≤ frame_cost kept blocks
-cost_has_room kept blocks = (is_cost kept blocks).enough
+pub frame_has_room : (f : TacFunctionTree) (p : PlacesTree) → 4 * frame_words f p + total f.blocks ≤ (layout f p).cost
+frame_has_room f p = (is_cost (frame_words f p) (total f.blocks)).enough
 
 pub slots_are_kept : (p : PlacesTree) → slots_among p.at ≤ kept p
 slots_are_kept p = omega arith
@@ -125,10 +126,10 @@ behind_most places k = by (behind_last places k) refl
     by None e = omega arith
     by (Some n) e = let b = behind_below places k n e in omega (arith, b)
 
-pub first_slot : (p : PlacesTree) → slot_at p 0 ≡ 4 * (words_before_slots p + unwrap_or (behind_last p.at 0) 0)
-first_slot p = by (nat_lt 0 (slot_count p)) refl
+pub first_slot : (f : TacFunctionTree) (p : PlacesTree) → slot_at f p 0 ≡ 4 * (words_before_slots f p + unwrap_or (behind_last p.at 0) 0)
+first_slot f p = by (nat_lt 0 (slot_count p)) refl
   where
-    by : (b : Bool) → nat_lt 0 (slot_count p) ≡ b → 4 * (words_before_slots p + (if b then unwrap_or (behind_last p.at 0) 0 else 0)) ≡ 4 * (words_before_slots p + unwrap_or (behind_last p.at 0) 0)
+    by : (b : Bool) → nat_lt 0 (slot_count p) ≡ b → 4 * (words_before_slots f p + (if b then unwrap_or (behind_last p.at 0) 0 else 0)) ≡ 4 * (words_before_slots f p + unwrap_or (behind_last p.at 0) 0)
     by true e = refl
     by false e =
         let none : slot_count p ≤ 0 = grind (arith, nat_tests, e) in
@@ -141,17 +142,17 @@ laid_by words None stands = stands
 laid_by words (Some n) stands = 4 * (words + n)
 
 -- once the rest is looked at, the slots lie where they are to
-pub record AreSlotsFrom (p : PlacesTree) (rest : List Place) (at : List ℕ) : Type 0 where
+pub record AreSlotsFrom (f : TacFunctionTree) (p : PlacesTree) (rest : List Place) (at : List ℕ) : Type 0 where
   pub count : length at ≡ slot_count p
-  pub each : (k : ℕ) → k < slot_count p → laid_by (words_before_slots p) (behind_last rest k) (slice_index_or at k 0) ≡ slot_at p k
+  pub each : (k : ℕ) → k < slot_count p → laid_by (words_before_slots f p) (behind_last rest k) (slice_index_or at k 0) ≡ slot_at f p k
 
-pub slots_begin : (p : PlacesTree) (before : ℕ) → before ≡ 4 * words_before_slots p → AreSlotsFrom p p.at (replicate (slot_count p) before)
-slots_begin p before is = record {
+pub slots_begin : (f : TacFunctionTree) (p : PlacesTree) (before : ℕ) → before ≡ 4 * words_before_slots f p → AreSlotsFrom f p p.at (replicate (slot_count p) before)
+slots_begin f p before is = record {
   count = length-replicate (slot_count p) before;
   each = λ k h.
       let below : nat_lt k (slot_count p) ≡ true = grind (arith, nat_tests, h) in
-      ap (laid_by (words_before_slots p) (behind_last p.at k)) (each_is (slot_count p) k h)
-      ∙ (by (behind_last p.at k) ∙ ap (λ (b : Bool). 4 * (words_before_slots p + (if b then unwrap_or (behind_last p.at k) 0 else 0))) (sym below));
+      ap (laid_by (words_before_slots f p) (behind_last p.at k)) (each_is (slot_count p) k h)
+      ∙ (by (behind_last p.at k) ∙ ap (λ (b : Bool). 4 * (words_before_slots f p + (if b then unwrap_or (behind_last p.at k) 0 else 0))) (sym below));
 }
   where
     each_is : (count k : ℕ) → k < count → slice_index_or (replicate count before) k 0 ≡ before
@@ -159,15 +160,15 @@ slots_begin p before is = record {
     each_is (suc count) zero h = refl
     each_is (suc count) (suc k) h = each_is count k (omega (arith, h))
 
-    by : (o : Option ℕ) → laid_by (words_before_slots p) o before ≡ 4 * (words_before_slots p + unwrap_or o 0)
+    by : (o : Option ℕ) → laid_by (words_before_slots f p) o before ≡ 4 * (words_before_slots f p + unwrap_or o 0)
     by None = omega (arith, is)
     by (Some n) = refl
 
 -- a temporary in a register is passed over
-pub slots_pass : (p : PlacesTree) (all rest : List Place) (r : ℕ) (at : List ℕ) → all ≡ Register r ∷ rest → AreSlotsFrom p all at → AreSlotsFrom p rest at
-slots_pass p all rest r at is h = record {
+pub slots_pass : (f : TacFunctionTree) (p : PlacesTree) (all rest : List Place) (r : ℕ) (at : List ℕ) → all ≡ Register r ∷ rest → AreSlotsFrom f p all at → AreSlotsFrom f p rest at
+slots_pass f p all rest r at is h = record {
   count = h.count;
-  each = λ k l. ap (λ o. laid_by (words_before_slots p) o (slice_index_or at k 0)) (none (behind_last rest k)) ∙ (ap (λ (m : List Place). laid_by (words_before_slots p) (behind_last m k) (slice_index_or at k 0)) (sym is) ∙ h.each k l);
+  each = λ k l. ap (λ o. laid_by (words_before_slots f p) o (slice_index_or at k 0)) (none (behind_last rest k)) ∙ (ap (λ (m : List Place). laid_by (words_before_slots f p) (behind_last m k) (slice_index_or at k 0)) (sym is) ∙ h.each k l);
 }
   where
     none : (o : Option ℕ) → o ≡ option_or o None
@@ -176,13 +177,13 @@ slots_pass p all rest r at is h = record {
 
 -- one in a slot says where the slot lies, unless another one comes behind it
 pub slots_go_on :
-    (p : PlacesTree) (all rest : List Place) (j : ℕ) (at : List ℕ) (lies : ℕ) → all ≡ Slot j ∷ rest
-    → lies ≡ 4 * (words_before_slots p + slots_among rest) → AreSlotsFrom p all at → AreSlotsFrom p rest (set at j lies)
-slots_go_on p all rest j at lies is e h = record {
+    (f : TacFunctionTree) (p : PlacesTree) (all rest : List Place) (j : ℕ) (at : List ℕ) (lies : ℕ) → all ≡ Slot j ∷ rest
+    → lies ≡ 4 * (words_before_slots f p + slots_among rest) → AreSlotsFrom f p all at → AreSlotsFrom f p rest (set at j lies)
+slots_go_on f p all rest j at lies is e h = record {
   count = length-set at j lies ∙ h.count;
   each = λ k l.
       by k (behind_last rest k) (j == k) refl l
-      ∙ (ap (λ (m : List Place). laid_by (words_before_slots p) (behind_last m k) (slice_index_or at k 0)) (sym is) ∙ h.each k l);
+      ∙ (ap (λ (m : List Place). laid_by (words_before_slots f p) (behind_last m k) (slice_index_or at k 0)) (sym is) ∙ h.each k l);
 }
   where
     here : (l : List ℕ) (k : ℕ) → k < length l → slice_index_or (set l k lies) k 0 ≡ lies
@@ -199,21 +200,21 @@ slots_go_on p all rest j at lies is e h = record {
 
     by :
         (k : ℕ) (o : Option ℕ) (b : Bool) → (j == k) ≡ b → k < slot_count p
-        → laid_by (words_before_slots p) o (slice_index_or (set at j lies) k 0)
-        ≡ laid_by (words_before_slots p) (option_or o (if j == k then Some (slots_among rest) else None)) (slice_index_or at k 0)
+        → laid_by (words_before_slots f p) o (slice_index_or (set at j lies) k 0)
+        ≡ laid_by (words_before_slots f p) (option_or o (if j == k then Some (slots_among rest) else None)) (slice_index_or at k 0)
     by k (Some n) b t l = refl
     by k None true t l =
         let same : j ≡ k = grind (arith, nat_tests, t) in
         let count = h.count in
-        ap (λ (i : ℕ). slice_index_or (set at i lies) k 0) same ∙ (here at k (omega (arith, count, l)) ∙ (e ∙ ap (λ (b : Bool). laid_by (words_before_slots p) (if b then Some (slots_among rest) else None) (slice_index_or at k 0)) (sym t)))
+        ap (λ (i : ℕ). slice_index_or (set at i lies) k 0) same ∙ (here at k (omega (arith, count, l)) ∙ (e ∙ ap (λ (b : Bool). laid_by (words_before_slots f p) (if b then Some (slots_among rest) else None) (slice_index_or at k 0)) (sym t)))
     by k None false t l =
         let other : j ≡ k → ⊥ = grind (arith, nat_tests, t) in
-        there at j k other ∙ ap (λ (b : Bool). laid_by (words_before_slots p) (if b then Some (slots_among rest) else None) (slice_index_or at k 0)) (sym t)
+        there at j k other ∙ ap (λ (b : Bool). laid_by (words_before_slots f p) (if b then Some (slots_among rest) else None) (slice_index_or at k 0)) (sym t)
 
 pub slots_are_laid :
-    (p : PlacesTree) (starts : Starts) (rest : List Place) → rest ≡ [] → starts.end ≡ 4 * words_before_slots p
-    → AreSlotsFrom p rest starts.at.items → BeginAt starts (slot_at p)
-slots_are_laid p starts rest none end h k = by (cases_lt k (slot_count p))
+    (f : TacFunctionTree) (p : PlacesTree) (starts : Starts) (rest : List Place) → rest ≡ [] → starts.end ≡ 4 * words_before_slots f p
+    → AreSlotsFrom f p rest starts.at.items → BeginAt starts (slot_at f p)
+slots_are_laid f p starts rest none end h k = by (cases_lt k (slot_count p))
   where
     past : (l : List ℕ) (k d : ℕ) → length l ≤ k → slice_index_or l k d ≡ d
     past [] k d h = refl
@@ -225,16 +226,16 @@ slots_are_laid p starts rest none end h k = by (cases_lt k (slot_count p))
     within (x ∷ l) zero d e h = refl
     within (x ∷ l) (suc k) d e h = within l k d e (omega (arith, h))
 
-    by : (k < slot_count p) ⊎ (slot_count p ≤ k) → slice_index_or starts.at.items k starts.end ≡ slot_at p k
+    by : (k < slot_count p) ⊎ (slot_count p ≤ k) → slice_index_or starts.at.items k starts.end ≡ slot_at f p k
     by (inl l) =
         let count = h.count in
         within starts.at.items k starts.end 0 (omega (arith, count, l))
-        ∙ (ap (λ (m : List Place). laid_by (words_before_slots p) (behind_last m k) (slice_index_or starts.at.items k 0)) (sym none) ∙ h.each k l)
+        ∙ (ap (λ (m : List Place). laid_by (words_before_slots f p) (behind_last m k) (slice_index_or starts.at.items k 0)) (sym none) ∙ h.each k l)
     by (inr l) =
         let count = h.count in
         let above : nat_lt k (slot_count p) ≡ false = grind (arith, nat_tests, l) in
-        let none_more : 4 * words_before_slots p ≡ 4 * (words_before_slots p + 0) = omega arith in
+        let none_more : 4 * words_before_slots f p ≡ 4 * (words_before_slots f p + 0) = omega arith in
         past starts.at.items k starts.end (omega (arith, count, l))
-        ∙ (end ∙ (none_more ∙ ap (λ (b : Bool). 4 * (words_before_slots p + (if b then unwrap_or (behind_last p.at k) 0 else 0))) (sym above)))
+        ∙ (end ∙ (none_more ∙ ap (λ (b : Bool). 4 * (words_before_slots f p + (if b then unwrap_or (behind_last p.at k) 0 else 0))) (sym above)))
 
-pub ruleset frame_sizes = (cost_has_room, slots_are_kept, few_are_kept)
+pub ruleset frame_sizes = (frame_has_room, few_return_words, slots_are_kept, few_are_kept)

@@ -9,4 +9,4 @@ mod parts;
 pub use blocks::{Starts, laid_from, total_within};
 pub use frame::Frame;
 pub use laws::{frames_are_laid_out, no_more_is_kept_than_values};
-pub use parts::{layout, slot_starts, try_layout, used_registers};
+pub use parts::{layout, slot_starts, stored_registers, try_layout};

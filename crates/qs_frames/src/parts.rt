@@ -1,6 +1,8 @@
 // The frame of a function, and where its parts lie.
-ghost use Rattle.std.specs.Prelude.{◌≡◌, ◌↔◌, ◌+◌, ◌*◌, ◌^◌, ◌≤◌, ◌<◌, IfOk, IsSome, IfSome, length, unwrap_or};
-ghost use Rattle.qs_tac.specs.TreeOf.{function_tree};
+ghost use Rattle.std.specs.Prelude.{◌≡◌, ◌↔◌, ◌+◌, ◌*◌, ◌^◌, ◌≤◌, ◌<◌, ◌++◌};
+ghost use Rattle.std.specs.Prelude.{IfOk, OnOk, IsSome, IfSome, length, map, unwrap_or};
+ghost use Rattle.std.specs.List.{list_any};
+ghost use Rattle.qs_tac.specs.TreeOf.{function_tree, instruction_tree};
 ghost use Rattle.qs_tac.specs.Places.{places_tree, slots_among};
 ghost use Rattle.qs_frames.specs.Layout as spec;
 ghost use Rattle.qs_frames.specs.Starts.{BeginAt};
@@ -8,11 +10,17 @@ ghost use Rattle.qs_frames.specs.Starts.{BeginAt};
 use crate::blocks::{LARGEST_FRAME, Starts, total, total_within};
 use crate::frame::Frame;
 use qs_base::NoMemory;
-use qs_tac::{Place, Places, TacFunction};
+use qs_calls::Callee;
+use qs_tac::{Instruction, Place, Places, TacFunction};
 use std::alloc::Global;
 
 // as many words as the largest frame has
 const MOST_SLOTS: usize = LARGEST_FRAME as usize / 4;
+
+// words below this offset from x2 are in the reach of an immediate
+const REACH: u32 = 2048;
+
+const RETURN_ADDRESS: u32 = 1;
 
 const SAVED_REGISTERS: [u32; 12] = [8, 9, 18, 19, 20, 21, 22, 23, 24, 25, 26, 27];
 
@@ -70,24 +78,110 @@ fn kept(places: &Places) -> u32
     used_count(&places.at, &SAVED_REGISTERS) as u32 + slots_among(&places.at) as u32
 }
 
-fn used_among(alloc: Global, places: &[Place], registers: &[u32]) -> Result<Vec<u32>, NoMemory>
-    ensures { IfOk result (λ used. used.items ≡ spec.used_among places.now registers.now) }
+// ---- the return address
+
+fn is_function(callee: Callee) -> bool
+    ensures { result ≡ spec.is_function callee }
 {
-    let mut used = Vec::new(alloc);
-    for register in registers {
-        if is_among(places, *register) {
-            used.push(*register)?;
-        }
+    match callee {
+        Callee::Function(_) => true,
+        Callee::PutChar => false,
+        Callee::GetChar => false,
     }
-    Ok(used)
 }
 
-/// The registers that the function gives back to its caller as they were: those among x8, x9 and
-/// x18 to x27 in which a temporary stands, in rising order.
-pub fn used_registers(alloc: Global, places: &Places) -> Result<Vec<u32>, NoMemory>
-    ensures { IfOk result (λ r. r.items ≡ spec.used_registers (places_tree places.now)) }
+fn calls_function(i: &Instruction) -> bool
+    ensures { result ≡ spec.calls_function (instruction_tree i.now) }
 {
-    used_among(alloc, &places.at, &SAVED_REGISTERS)
+    match i {
+        Instruction::Move(_, _) => false,
+        Instruction::Unary(_, _, _) => false,
+        Instruction::Binary(_, _, _, _) => false,
+        Instruction::Convert(_, _, _) => false,
+        Instruction::AddressOf(_, _) => false,
+        Instruction::Load(_, _, _) => false,
+        Instruction::Store(_, _, _) => false,
+        Instruction::Copy { .. } => false,
+        Instruction::Fill(_, _) => false,
+        Instruction::Call(_, callee, _) => is_function(*callee),
+        Instruction::Jump(_) => false,
+        Instruction::Branch(_, _) => false,
+        Instruction::Return(_) => false,
+    }
+}
+
+fn any_calls_function(code: &[Instruction]) -> bool
+    ensures { result ≡ list_any spec.calls_function (map instruction_tree code.now) }
+{
+    for i in code {
+        if calls_function(i) {
+            return true;
+        }
+    }
+    false
+}
+
+/// Whether the frame of a function with so many bytes of blocks keeps the return address.
+#[tactic(auto, unfolding(crate::specs::Layout::keeps_return_address))]
+fn keeps_return_address(f: &TacFunction, places: &Places, blocks: u32) -> bool
+    requires kept { 4 * spec.kept (places_tree places.now) + blocks < 2 ^ 32 }
+    requires blocks { blocks ≡ spec.total (function_tree f.now).blocks }
+    ensures { result ≡ spec.keeps_return_address (function_tree f.now) (places_tree places.now) }
+{
+    any_calls_function(&f.code) || 4 * kept(places) + blocks >= REACH
+}
+
+fn return_words(f: &TacFunction, places: &Places, blocks: u32) -> u32
+    requires kept { 4 * spec.kept (places_tree places.now) + blocks < 2 ^ 32 }
+    requires blocks { blocks ≡ spec.total (function_tree f.now).blocks }
+    ensures words { result ≡ spec.return_words (function_tree f.now) (places_tree places.now) }
+    ensures few { result ≤ 1 }
+{
+    if keeps_return_address(f, places, blocks) {
+        1
+    } else {
+        0
+    }
+}
+
+// ---- the registers that are stored
+
+fn put_used(stored: &mut Vec<u32>, places: &[Place], registers: &[u32]) -> Result<(), NoMemory>
+    ensures { OnOk result (stored.new.items ≡ stored.old.items ++ spec.used_among places.now registers.now) }
+{
+    for register in registers {
+        if is_among(places, *register) {
+            stored.push(*register)?;
+        }
+    }
+    Ok(())
+}
+
+fn return_register(alloc: Global, is_kept: bool) -> Result<Vec<u32>, NoMemory>
+    ensures { IfOk result (λ r. r.items ≡ spec.return_register is_kept) }
+{
+    let mut stored = Vec::new(alloc);
+    if is_kept {
+        stored.push(RETURN_ADDRESS)?;
+    }
+    Ok(stored)
+}
+
+/// The registers that the entry of the function stores: x1, where the frame keeps the return
+/// address, and those that the function gives back to its caller as they were, which are those
+/// among x8, x9 and x18 to x27 in which a temporary stands, in rising order.
+#[tactic(auto, using(crate::proofs::OffsetLaws::frame_has_room))]
+pub fn stored_registers(
+    alloc: Global,
+    f: &TacFunction,
+    places: &Places,
+) -> Result<Vec<u32>, NoMemory>
+    requires { spec.FrameFits (function_tree f.now) (places_tree places.now) }
+    ensures { IfOk result (λ r. r.items ≡ spec.stored_registers (function_tree f.now) (places_tree places.now)) }
+{
+    let mut stored = return_register(alloc, keeps_return_address(f, places, total(&f.blocks)))?;
+    put_used(&mut stored, &places.at, &SAVED_REGISTERS)?;
+    Ok(stored)
 }
 
 // ---- slots
@@ -113,21 +207,24 @@ fn behind_last(places: &[Place], slot: u32) -> usize
 }
 
 #[tactic(auto, using(crate::proofs::OffsetLaws::behind_most))]
-fn slot_0(places: &Places) -> u32
-    requires { spec.kept (places_tree places.now) ≤ 2 ^ 28 }
-    ensures { result ≡ spec.slot_at (places_tree places.now) 0 }
+fn slot_0(f: &TacFunction, places: &Places, blocks: u32) -> u32
+    requires kept { 4 * spec.kept (places_tree places.now) + blocks ≤ 2 ^ 30 }
+    requires blocks { blocks ≡ spec.total (function_tree f.now).blocks }
+    ensures { result ≡ spec.slot_at (function_tree f.now) (places_tree places.now) 0 }
 {
-    let before = 1 + used_count(&places.at, &SAVED_REGISTERS) as u32;
+    let before = return_words(f, places, blocks) + used_count(&places.at, &SAVED_REGISTERS) as u32;
     4 * (before + behind_last(&places.at, 0) as u32)
 }
 
 /// Where the slots lie, from x2 on, by their numbers.
-pub fn slot_starts(alloc: Global, places: &Places) -> Result<Starts, NoMemory>
-    requires { spec.kept (places_tree places.now) ≤ 2 ^ 28 }
-    ensures { IfOk result (λ slots. BeginAt slots (spec.slot_at (places_tree places.now))) }
+#[tactic(auto, using(crate::proofs::OffsetLaws::frame_has_room))]
+pub fn slot_starts(alloc: Global, f: &TacFunction, places: &Places) -> Result<Starts, NoMemory>
+    requires { spec.FrameFits (function_tree f.now) (places_tree places.now) }
+    ensures { IfOk result (λ slots. BeginAt slots (spec.slot_at (function_tree f.now) (places_tree places.now))) }
 {
     let mut left = slots_among(&places.at);
-    let before = 4 * (1 + used_count(&places.at, &SAVED_REGISTERS) as u32);
+    let address = return_words(f, places, total(&f.blocks));
+    let before = 4 * (address + used_count(&places.at, &SAVED_REGISTERS) as u32);
     let mut at = vec![in alloc; before; left]?;
     for place in &places.at {
         match place {
@@ -146,26 +243,30 @@ pub fn slot_starts(alloc: Global, places: &Places) -> Result<Starts, NoMemory>
 // ---- the frame
 
 #[tactic(auto, unfolding(crate::specs::Layout::frame_cost))]
-fn frame_cost(kept: u32, blocks: u32) -> u32
-    requires { 4 * kept + blocks ≤ 2 ^ 30 }
-    ensures { result ≡ spec.frame_cost kept blocks }
+fn frame_cost(words: u32, blocks: u32) -> u32
+    requires { 4 * words + blocks ≤ 2 ^ 31 }
+    ensures { result ≡ spec.frame_cost words blocks }
 {
-    (4 + blocks + 4 * kept + 15) / 16 * 16
+    if words == 0 && blocks == 0 {
+        16
+    } else {
+        (4 * words + blocks - 1) / 16 * 16 + 16
+    }
 }
 
 /// The frame of a function whose temporaries stand in these places: with room for the return
-/// address, the registers that are given back, the slots, and the blocks.
-#[tactic(auto, using(crate::proofs::OffsetLaws::cost_has_room))]
+/// address, where it is kept, the registers that are given back, the slots, and the blocks.
+#[tactic(auto, using(crate::proofs::OffsetLaws::frame_has_room))]
 pub fn layout(f: &TacFunction, places: &Places) -> Frame
     requires { spec.FrameFits (function_tree f.now) (places_tree places.now) }
     ensures { result ≡ spec.layout (function_tree f.now) (places_tree places.now) }
 {
-    let kept = kept(places);
     let blocks = total(&f.blocks);
+    let words = return_words(f, places, blocks) + kept(places);
     Frame {
-        cost: frame_cost(kept, blocks),
-        slots: slot_0(places),
-        placed: 4 + 4 * kept,
+        cost: frame_cost(words, blocks),
+        slots: slot_0(f, places, blocks),
+        placed: 4 * words,
     }
 }
 
@@ -179,7 +280,8 @@ pub fn try_layout(f: &TacFunction, places: &Places) -> Option<Frame>
         return None;
     }
     let blocks = total_within(&f.blocks)?;
-    if frame_cost(kept(places), blocks) <= LARGEST_FRAME {
+    let words = return_words(f, places, blocks) + kept(places);
+    if frame_cost(words, blocks) <= LARGEST_FRAME {
         Some(layout(f, places))
     } else {
         None

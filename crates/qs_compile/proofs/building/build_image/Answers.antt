@@ -5,7 +5,7 @@ use Rattle.qs_asm.specs.declared.item.Item.{Item}
 use Rattle.qs_asm.specs.Assembly.{IsAssembly}
 use Rattle.qs_core.specs.TreeOf as trees
 use Rattle.qs_core.specs.UnitTrees as core
-use Rattle.qs_tac.specs.Laws.{AreAccepted}
+use Rattle.qs_tac.specs.Laws.{AreAccepted, ArePacked}
 use Rattle.qs_tac.specs.TreeOf.{function_tree}
 use Rattle.qs_tac.specs.UnitTrees.{unit_tree}
 use Rattle.qs_tac.specs.Places.{places_tree}
@@ -41,9 +41,9 @@ pub returns-in_err-check_fits-clause-fault : goal.returns-in_err-check_fits-clau
 returns-in_err-check_fits-clause-fault c =
     let u = core.unit_tree c.args.unit.now in
     let t = unit_tree c.in_ok-linear.linear in
-    let accepted = subst (λ (ps : List Places). AreAccepted t (map places_tree ps)) (sym c.deref.ensures.value) c.in_ok-places.ensures.accepted in
+    let packed = subst (λ (ps : List Places). ArePacked t (map places_tree ps)) (sym c.deref.ensures.value) c.in_ok-places.ensures.packed in
     let passes : Passes u (fault_of c.in_err-check_fits.field-0.0) =
-    selection_passes u t (map places_tree c.deref.result.now) c.in_err-check_fits.field-0.0 c.in_ok-linear.ensures accepted c.in_err-check_fits.ensures.fault in
+    selection_passes u t (map places_tree c.deref.result.now) c.in_err-check_fits.field-0.0 c.in_ok-linear.ensures packed c.in_err-check_fits.ensures.fault in
     let err = err_from_is_err_and c.from_residual-in_err-check_fits.result c.from_residual-in_err-check_fits.ensures.1 in
     let same : err.0 ≡ fault_of c.in_err-check_fits.field-0.0 = err.2 in
     let told : Passes u err.0 = subst (λ (fault : BuildFault). Passes u fault) (sym same) passes in
@@ -57,7 +57,7 @@ returns-in_err-code-clause-fault c =
     let items : c.deref-3.result.now ≡ selected t ps =
     c.deref-3.ensures.value ∙ c.in_ok-items.ensures.items ∙ ap (λ (ps : List Places). selected t (map places_tree ps)) c.deref-2.ensures.value in
     let passes : Passes u c.in_err-code.field-0.0 =
-    code_passes u t ps c.deref-3.result.now c.in_err-code.field-0.0 c.in_ok-linear.ensures c.in_ok-places.ensures.accepted items c.in_err-code.ensures.fault in
+    code_passes u t ps c.deref-3.result.now c.in_err-code.field-0.0 c.in_ok-linear.ensures c.in_ok-places.ensures.packed items c.in_err-code.ensures.fault in
     let err = err_from_is_err_and c.from_residual-in_err-code.result c.from_residual-in_err-code.ensures.1 in
     let same : err.0 ≡ c.in_err-code.field-0.0 = err.2 in
     let told : Passes u err.0 = subst (λ (fault : BuildFault). Passes u fault) (sym same) passes in

@@ -97,4 +97,14 @@ impl Poly {
         let nodes = nodes_of(alloc, a)?;
         Poly::single(alloc, AtomCode::new(nodes))
     }
+
+    /// The polynomial as one list: for each term its coefficient, the codes of its atoms and
+    /// `EndOfTerm`, and at last `EndOfPoly`.
+    pub fn code(&self, alloc: Global) -> Result<Vec<Node>, NoMemory>
+        ensures { IfOk result (λ nodes. nodes.items ≡ polynomial_code self.now) }
+    {
+        let mut nodes = Vec::new(alloc);
+        push_polynomial(&mut nodes, self)?;
+        Ok(nodes)
+    }
 }

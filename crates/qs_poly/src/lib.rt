@@ -15,4 +15,5 @@ mod terms;
 pub use atom::Atom;
 pub use fault::PolyFault;
 pub use laws::polynomials_are_exact;
+pub use node::Node;
 pub use poly::Poly;

@@ -4,11 +4,12 @@
 # Each line `$ COMMAND` of a block is run, in a copy of the repository's top, with what the lines below it show and the
 # status 0, or N where `# status N` stands behind it. Each relative link, and each file that is named with its folder,
 # is to be there, and so are the tables that bench/forms.py and bench/stack.py print. One line a failure, and then
-# `N passed, N failed`.
+# `N passed, N failed`. EXPLAIN names the program of tools/explain; else it is that of crates/qs_explain, which one call
+# of tools/explain builds.
 set -u
 top=$(cd "$(dirname "$(readlink -f "${BASH_SOURCE[0]}")")/.." && pwd)
 program=$(readlink -f "${1:-$top/qsc}")
-export QSC=$program
+export QSC=$program EXPLAIN=${EXPLAIN:-$top/crates/qs_explain/out/qs_explain}
 folder=$(mktemp -d)
 trap 'rm -rf "$folder"' EXIT
 passed=0 failed=0

@@ -1,9 +1,11 @@
 #!/usr/bin/env bash
-# Bytes of code and stack of each function of the examples, and the steps of each run, beside those of gcc -O0 for RV32IM
-# where riscv64-unknown-elf-gcc is there: bench/size.sh [PROGRAM]
+# Bytes of code and stack of each function of the examples, and the steps of each run, beside those of gcc for RV32IM
+# where riscv64-unknown-elf-gcc is there, at this level (-O0): bench/size.sh [PROGRAM [LEVEL]]
 #
+# gcc's program is linked with nothing but a start, calls of the environment, and copies of bytes at -O1.
 # What gcc makes is put into an image too, and both images run on the same machine.
 source "$(dirname "$(readlink -f "${BASH_SOURCE[0]}")")/program.sh"
+level=${2:--O0}
 gcc=$(command -v riscv64-unknown-elf-gcc || true)
 tools=${gcc%gcc}
 
@@ -44,8 +46,8 @@ words() { for n in "$@"; do printf "\\x$(printf %02x $((n & 255)))\\x$(printf %0
 # from a source to gcc.img, with gcc.su and gcc.sizes for its functions; $2 is the count of main's parameters
 gcc_image() {
   # shellcheck disable=SC2086 # the options are words of their own
-  "$gcc" $options -O0 -fstack-usage -include streams.h -c "$1" -o gcc.o &&
-    "$gcc" $options -O0 -nostdlib -Wl,--no-relax,--build-id=none -T link.ld start.o gcc.o memory.o -o gcc.elf || return 1
+  "$gcc" $options $level -fstack-usage -include streams.h -c "$1" -o gcc.o &&
+    "$gcc" $options $level -nostdlib -Wl,--no-relax,--build-id=none -T link.ld start.o gcc.o memory.o -o gcc.elf || return 1
   "${tools}objcopy" -O binary -j .text gcc.elf gcc.text
   "${tools}objcopy" -O binary -j .data --set-section-flags .data=alloc,load,contents gcc.elf gcc.data
   "${tools}nm" -S gcc.o | awk '$3 == "T" || $3 == "t" { print $4, $2 }' >gcc.sizes
@@ -112,7 +114,7 @@ done
 echo
 printf '%-14s %9s %9s %9s %9s\n' program steps gcc "least stack" gcc
 awk '{ printf "%-14s %9s %9s %9s %9s\n", $1, $2, $3, $4, $5 }' programs
-awk 'NF == 6 { b += log($3 / $4); s += log($5 / ($6 ? $6 : 1)); n++ }
-  END { if (n) printf "\nof gcc -O0, geometric means over %d functions: bytes %.2f, stack %.2f\n", n, exp(b / n), exp(s / n) }' functions
+awk -v level="$level" 'NF == 6 { b += log($3 / $4); s += log($5 / ($6 ? $6 : 1)); n++ }
+  END { if (n) printf "\nof gcc %s, geometric means over %d functions: bytes %.2f, stack %.2f\n", level, n, exp(b / n), exp(s / n) }' functions
 awk 'NF == 5 { b += log($2 / $3); s += log($4 / $5); n++ }
   END { if (n) printf "over %d programs: steps %.2f, least stack %.2f\n", n, exp(b / n), exp(s / n) }' programs

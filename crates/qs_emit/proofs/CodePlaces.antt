@@ -22,7 +22,7 @@ use Rattle.qs_frames.specs.Layout.{is_among, used_among, saved_registers}
 use Rattle.qs_frames.proofs.FrameLaws.{one_place_each, place_got, has_slot}
 use Rattle.qs_calls.specs.declared.parameter.Parameter.TheVariants.{Plain as plain_parameter}
 use Rattle.qs_emit_selection.specs.Operands.{Context}
-use Rattle.qs_emit_selection.specs.Emission.{Labels, enter, instruction_items, body_items, function_items, first_label, labels_of, functions_items, start_items}
+use Rattle.qs_emit_selection.specs.Emission.{Labels, enter, epilogue, is_end, items_at, instruction_items, body_items, function_items, first_label, labels_of, functions_items, start_items}
 use Rattle.qs_emit_selection.specs.Data.{data_address}
 use Rattle.qs_emit_selection.proofs.Sizes.{words_are_kept}
 use Rattle.qs_emit.specs.Machine.{instruction_at}
@@ -49,36 +49,54 @@ aligned_end at label from (Jump rd l ∷ items) to al h = aligned_end at label (
 aligned_end at label from (Branch kind a b l ∷ items) to al (inl h) = aligned_end at label (from + 4) items to (omega (arith, al)) h.1
 aligned_end at label from (Branch kind a b l ∷ items) to al (inr h) = aligned_end at label (from + 8) items to (omega (arith, al)) h.1.1
 
-goes_up : (at : ℕ → Option Instr) (label : ℕ → ℕ) (from : ℕ) (items : List Item) (to : ℕ) → Lays at label from items to → from ≤ to
+pub goes_up : (at : ℕ → Option Instr) (label : ℕ → ℕ) (from : ℕ) (items : List Item) (to : ℕ) → Lays at label from items to → from ≤ to
 goes_up at label from items to h = (takes_words at label from items to h).on
 
 -- ---- bodies
+
+-- the code of an instruction lies in a place, and only the last instruction is the last one
+pub record IsStood (at : ℕ → Option Instr) (label : ℕ → ℕ) (c : Context) (labels : Labels) (from : ℕ) (i : InstructionTree) (to : ℕ) (ended : Type 0) : Type 0 where
+  pub is_last : Bool
+  pub lays : Lays at label from (items_at c labels is_last i) to
+  pub ends : is_last ≡ true → ended
 
 module _ (at : ℕ → Option Instr) (label : ℕ → ℕ) (c : Context) (labels : Labels) where
   -- each instruction lies between its label and the next
   record HasBody (k : ℕ) (code : List InstructionTree) (from to : ℕ) : Type 0 where
     first : label (labels.instruction k) ≡ from
-    stands : (j : ℕ) (i : InstructionTree) → slice_get code j ≡ Some i → Lays at label (label (labels.instruction (k + j))) (instruction_items c labels i) (label (labels.instruction (k + j + 1)))
+    stands : (j : ℕ) (i : InstructionTree) → slice_get code j ≡ Some i → IsStood at label c labels (label (labels.instruction (k + j))) i (label (labels.instruction (k + j + 1))) (j + 1 ≡ length code)
     aligned : (j : ℕ) → j ≤ length code → label (labels.instruction (k + j)) % 4 ≡ 0
     low : (j : ℕ) → j ≤ length code → label (labels.instruction (k + j)) ≤ to
+    epilogue_there : Lays at label (label (labels.instruction (k + length code))) (plain (epilogue c)) to
+
+  -- the last instruction is the one behind which nothing comes
+  end_length : (code : List InstructionTree) → is_end code ≡ true → length code ≡ 0
+  end_length [] e = refl
+  end_length (i ∷ code) e = cc
 
   body_laid : (k : ℕ) (code : List InstructionTree) (from to : ℕ) → from % 4 ≡ 0 → Lays at label from (body_items c labels k code) to → HasBody k code from to
-  body_laid k [] from to al h = record {
-    first = h.0;
-    stands = λ j i e. cc;
-    aligned = λ j le. let z : k + j ≡ k = omega (arith, le) in ap (λ (n : ℕ). label (labels.instruction n) % 4) z ∙ ap (λ (n : ℕ). n % 4) h.0 ∙ al;
-    low = λ j le. let z : k + j ≡ k = omega (arith, le) in let e = ap (λ (n : ℕ). label (labels.instruction n)) z in let f = h.0 in let g = h.1 in omega (arith, e, f, g);
-  }
+  body_laid k [] from to al h =
+      let up = goes_up at label from (plain (epilogue c)) to h.1 in
+      let here : k + 0 ≡ k = omega arith in
+      let first = h.0 in
+      record {
+        first = h.0;
+        stands = λ j i e. cc;
+        aligned = λ j le. let z : k + j ≡ k = omega (arith, le) in ap (λ (n : ℕ). label (labels.instruction n) % 4) z ∙ ap (λ (n : ℕ). n % 4) h.0 ∙ al;
+        low = λ j le. let z : k + j ≡ k = omega (arith, le) in let e = ap (λ (n : ℕ). label (labels.instruction n)) z in omega (arith, e, first, up);
+        epilogue_there = subst (λ (x : ℕ). Lays at label x (plain (epilogue c)) to) (sym (ap (λ (n : ℕ). label (labels.instruction n)) here ∙ h.0)) h.1;
+      }
   body_laid k (i ∷ code) from to al h =
-      let sp = laid_split at label from (instruction_items c labels i) (body_items c labels (k + 1) code) to h.1 in
-      rest sp.middle sp.front sp.back (body_laid (k + 1) code sp.middle to (aligned_end at label from (instruction_items c labels i) sp.middle al sp.front) sp.back)
+      let sp = laid_split at label from (items_at c labels (is_end code) i) (body_items c labels (k + 1) code) to h.1 in
+      rest sp.middle sp.front sp.back (body_laid (k + 1) code sp.middle to (aligned_end at label from (items_at c labels (is_end code) i) sp.middle al sp.front) sp.back)
     where
-      rest : (middle : ℕ) → Lays at label from (instruction_items c labels i) middle → Lays at label middle (body_items c labels (k + 1) code) to → HasBody (k + 1) code middle to → HasBody k (i ∷ code) from to
+      rest : (middle : ℕ) → Lays at label from (items_at c labels (is_end code) i) middle → Lays at label middle (body_items c labels (k + 1) code) to → HasBody (k + 1) code middle to → HasBody k (i ∷ code) from to
       rest middle front back b = record {
         first = h.0;
         stands = stands;
         aligned = aligned;
         low = low;
+        epilogue_there = subst (λ (n : ℕ). Lays at label (label (labels.instruction n)) (plain (epilogue c)) to) (next (length code)) b.epilogue_there;
       }
         where
           next : (j : ℕ) → k + 1 + j ≡ k + suc j
@@ -87,20 +105,31 @@ module _ (at : ℕ → Option Instr) (label : ℕ → ℕ) (c : Context) (labels
           here : k + 0 ≡ k
           here = omega arith
 
-          stands : (j : ℕ) (d : InstructionTree) → slice_get (i ∷ code) j ≡ Some d → Lays at label (label (labels.instruction (k + j))) (instruction_items c labels d) (label (labels.instruction (k + j + 1)))
+          stands : (j : ℕ) (d : InstructionTree) → slice_get (i ∷ code) j ≡ Some d → IsStood at label c labels (label (labels.instruction (k + j))) d (label (labels.instruction (k + j + 1))) (j + 1 ≡ length (i ∷ code))
           stands zero d e =
               let same : i ≡ d = cc in
               let start : label (labels.instruction (k + 0)) ≡ from = ap (λ (n : ℕ). label (labels.instruction n)) here ∙ h.0 in
               let one : k + 1 ≡ k + 0 + 1 = omega arith in
               let end : middle ≡ label (labels.instruction (k + 0 + 1)) = sym b.first ∙ ap (λ (n : ℕ). label (labels.instruction n)) one in
-              subst (λ (x : ℕ). Lays at label x (instruction_items c labels d) (label (labels.instruction (k + 0 + 1)))) (sym start)
-              (subst (λ (x : ℕ). Lays at label from (instruction_items c labels d) x) end
-              (subst (λ (x : InstructionTree). Lays at label from (instruction_items c labels x) middle) same front))
+              record {
+                is_last = is_end code;
+                lays =
+                    subst (λ (x : ℕ). Lays at label x (items_at c labels (is_end code) d) (label (labels.instruction (k + 0 + 1)))) (sym start)
+                    (subst (λ (x : ℕ). Lays at label from (items_at c labels (is_end code) d) x) end
+                    (subst (λ (x : InstructionTree). Lays at label from (items_at c labels (is_end code) x) middle) same front));
+                ends = λ l. let z = end_length code l in omega (arith, z);
+              }
           stands (suc j) d e =
               let n = next j in
               let n1 : k + 1 + j + 1 ≡ k + suc j + 1 = omega arith in
-              subst (λ (x : ℕ). Lays at label (label (labels.instruction x)) (instruction_items c labels d) (label (labels.instruction (k + suc j + 1)))) n
-              (subst (λ (x : ℕ). Lays at label (label (labels.instruction (k + 1 + j))) (instruction_items c labels d) (label (labels.instruction x))) n1 (b.stands j d e))
+              let there = b.stands j d e in
+              record {
+                is_last = there.is_last;
+                lays =
+                    subst (λ (x : ℕ). Lays at label (label (labels.instruction x)) (items_at c labels there.is_last d) (label (labels.instruction (k + suc j + 1)))) n
+                    (subst (λ (x : ℕ). Lays at label (label (labels.instruction (k + 1 + j))) (items_at c labels there.is_last d) (label (labels.instruction x))) n1 there.lays);
+                ends = λ l. let z = there.ends l in omega (arith, z);
+              }
 
           aligned : (j : ℕ) → j ≤ length (i ∷ code) → label (labels.instruction (k + j)) % 4 ≡ 0
           aligned zero le = ap (λ (n : ℕ). label (labels.instruction n) % 4) here ∙ ap (λ (n : ℕ). n % 4) h.0 ∙ al
@@ -109,7 +138,7 @@ module _ (at : ℕ → Option Instr) (label : ℕ → ℕ) (c : Context) (labels
           low : (j : ℕ) → j ≤ length (i ∷ code) → label (labels.instruction (k + j)) ≤ to
           low zero le =
               let e : label (labels.instruction (k + 0)) ≡ from = ap (λ (n : ℕ). label (labels.instruction n)) here ∙ h.0 in
-              let up = goes_up at label from (instruction_items c labels i) middle front in
+              let up = goes_up at label from (items_at c labels (is_end code) i) middle front in
               let more = goes_up at label middle (body_items c labels (k + 1) code) to back in
               omega (arith, e, up, more)
           low (suc j) le = subst (λ (n : ℕ). label (labels.instruction n) ≤ to) (next j) (b.low j (omega (arith, le)))
@@ -210,7 +239,10 @@ module _ (s : Setup) where
   -- the code of a function
   pub record HasFunction (f : ℕ) : Type 0 where
     pub begins : Lays at s.label_at (entry s f) (plain (enter (context s f))) (place s f 0)
-    pub stands : (k : ℕ) (i : InstructionTree) → slice_get (function_at s.unit f).code k ≡ Some i → Lays at s.label_at (place s f k) (instruction_items (context s f) (labels_of s.unit f) i) (place s f (k + 1))
+    pub stands : (k : ℕ) (i : InstructionTree) → slice_get (function_at s.unit f).code k ≡ Some i → IsStood at s.label_at (context s f) (labels_of s.unit f) (place s f k) i (place s f (k + 1)) (k + 1 ≡ length (function_at s.unit f).code)
+    pub body_end : ℕ
+    pub epilogue_there : Lays at s.label_at (place s f (length (function_at s.unit f).code)) (plain (epilogue (context s f))) body_end
+    pub end_low : body_end ≤ s.code_end
     pub entry_aligned : entry s f % 4 ≡ 0
     pub entry_low : entry s f ≤ s.code_end
     pub place_aligned : (k : ℕ) → k ≤ length (function_at s.unit f).code → place s f k % 4 ≡ 0
@@ -231,8 +263,11 @@ module _ (s : Setup) where
       whole from to middle first al low front back b = record {
         begins = subst (λ (x : ℕ). Lays at s.label_at x (plain (enter (context s f))) (place s f 0)) (sym first) (subst (λ (x : ℕ). Lays at s.label_at from (plain (enter (context s f))) x) (sym b.first) front);
         stands = λ k i e.
-            subst (λ (x : ℕ). Lays at s.label_at (place s f x) (instruction_items (context s f) (labels_of s.unit f) i) (place s f (k + 1))) (z k)
-            (subst (λ (x : ℕ). Lays at s.label_at (place s f (0 + k)) (instruction_items (context s f) (labels_of s.unit f) i) (place s f (x + 1))) (z k) (b.stands k i e));
+            subst (λ (x : ℕ). IsStood at s.label_at (context s f) (labels_of s.unit f) (place s f x) i (place s f (k + 1)) (k + 1 ≡ length (function_at s.unit f).code)) (z k)
+            (subst (λ (x : ℕ). IsStood at s.label_at (context s f) (labels_of s.unit f) (place s f (0 + k)) i (place s f (x + 1)) (k + 1 ≡ length (function_at s.unit f).code)) (z k) (b.stands k i e));
+        body_end = to;
+        epilogue_there = subst (λ (x : ℕ). Lays at s.label_at (place s f x) (plain (epilogue (context s f))) to) (z (length (function_at s.unit f).code)) b.epilogue_there;
+        end_low = low;
         entry_aligned = ap (λ (n : ℕ). n % 4) first ∙ al;
         entry_low =
             let up = goes_up at s.label_at from (plain (enter (context s f))) middle front in

@@ -3,7 +3,6 @@ use Rattle.std.proofs.Common.{◌≡◌, ◌⊎◌, inl, inr, ℕ, ◌+◌, ◌-
 use Rattle.std.specs.Prelude.{slice_get, true, ◌||◌, ◌==◌, Bool, false}
 use Rattle.std.proofs.lemmas.Bool.Decides.{nat_tests}
 use Rattle.std.specs.List.{slice_get as slice_got}
-use Rattle.qs_base.specs.Words as words
 use Rattle.qs_memory.specs.Values.{Value}
 use Rattle.qs_memory.specs.Memory.{Memory, block_at, make}
 use Rattle.qs_memory.specs.Soundness.{IsLive}

@@ -1,5 +1,5 @@
 -- A function returns: to its caller, or from the root.
-use Rattle.std.proofs.Common.{◌≡◌, inl, inr, ℕ, ◌+◌, ◌*◌, ◌/◌, ◌%◌, ◌^◌, ◌==◌, ◌<◌, ◌≤◌, true, List, [], ◌∷◌, ◌++◌, length, Option, Some, None, refl, sym, ap, ◌∙◌, subst, arith, append_assoc, length-append}
+use Rattle.std.proofs.Common.{◌≡◌, ◌⊎◌, inl, inr, ℕ, ◌+◌, ◌*◌, ◌/◌, ◌%◌, ◌^◌, ◌==◌, ◌<◌, ◌≤◌, true, List, [], ◌∷◌, ◌++◌, length, Option, Some, None, refl, sym, ap, ◌∙◌, subst, arith, length-append}
 use Rattle.std.specs.Prelude.{if◌then◌else◌}
 use Rattle.std.proofs.lemmas.Bool.Decides.{nat_tests}
 use Rattle.qs_base.specs.Words as words
@@ -9,7 +9,7 @@ use Rattle.qs_memory.specs.Soundness.{IsLive}
 use Rattle.qs_memory.proofs.BlockLaws.{live_known, live_below, blocks_are_released, after_release}
 use Rattle.qs_calls.specs.World.{World}
 use Rattle.qs_isa.specs.declared.instruction.Instr.{Instr}
-use Rattle.qs_asm.specs.Items.{Lays, plain}
+use Rattle.qs_isa.specs.declared.instruction.Instr.TheVariants as instructions
 use Rattle.qs_machine.specs.State.{State}
 use Rattle.qs_machine.specs.Step as machine
 use Rattle.qs_machine.specs.Step.{Next, Traps, act, write_and_go}
@@ -28,12 +28,13 @@ use Rattle.qs_emit.specs.Surroundings.{HasBlocks, Lay, ground}
 use Rattle.qs_emit.specs.Relation.{Setup, context, cost, place, caller_registers, HasStack, IsInRoom, root_block, IsRelated, StandsAt, around}
 use Rattle.qs_emit.specs.Entries.{IsResult}
 use Rattle.qs_emit.proofs.Injection.{Later, cell_kept}
-use Rattle.qs_emit.proofs.Steps.{Takes, takes_on, takes_less, HasAt, has_front, has_back, IsSteady, steady_on, Does, does_is, does_then, same_on}
+use Rattle.qs_emit.proofs.Steps.{Takes, takes_on, takes_less, HasAt, has_front, has_back, IsSteady, steady_on, Done, Does, does_is, same_on}
 use Rattle.qs_emit.proofs.FrameLaws.{is_given, SameGiven, given_none, stored_given, stored_inside, Onward, reach_like, frame_onward, stack_onward}
-use Rattle.qs_emit.proofs.Operands.{given_apart, IsAmid}
+use Rattle.qs_emit.proofs.Operands.{given_apart, IsAmid, amid_on}
 use Rattle.qs_emit.proofs.LoopSteps.{GoesTo, gone, goes}
-use Rattle.qs_emit.proofs.CodePlaces.{IsCode, plain_laid, HasFunction, fits_between}
+use Rattle.qs_emit.proofs.CodePlaces.{IsCode, fits_between}
 use Rattle.qs_emit.proofs.FollowedSteps.{steady_at}
+use Rattle.qs_emit.proofs.Jumps.{jumps}
 use Rattle.qs_emit.proofs.Moves.{StackMoved, stack_moves, restores_do}
 
 -- ---- the memory that is left after a call
@@ -87,6 +88,23 @@ module _ (s : Setup) (a : Activation File) (w : Memory) (stack : List (Waiting F
         blocks = blocks_left;
         root = subst (λ (z : List (Waiting File)). root_block a.first_block z ≡ s.first) e r.root;
       }
+
+-- the epilogue, from somewhere on
+pub record HasEpilogue (s : Setup) (f from : ℕ) : Type 0 where
+  pub to : ℕ
+  pub code : IsCode (instruction_at s.image) from (leave (context s f)) to
+  pub low : to ≤ s.code_end
+
+-- a jump to the epilogue
+pub record JumpsOut (s : Setup) (f from : ℕ) : Type 0 where
+  pub there : ℕ
+  pub jump : instruction_at s.image from ≡ Some (instructions.Jal 0 (words.sub there from))
+  pub aligned : there % 4 ≡ 0
+  pub epilogue : HasEpilogue s f there
+
+-- what follows where the result is in a0
+abbrev pub IsWayOut : Setup → (f from : ℕ) → Type 0
+IsWayOut s f from = HasEpilogue s f from ⊎ JumpsOut s f from
 
 -- where a frame returns to
 return_is : (s : Setup) (w : Memory) (l : Lay) (flat : ℕ → ℕ) (stack : List (Waiting File)) (registers : ℕ → ℕ) (sp : ℕ) → HasStack s (ground w l flat) stack registers sp → (registers 1 % 4 ≡ 0) × (registers 1 < 2 ^ 32)
@@ -200,24 +218,22 @@ module _ (s : Setup) (a : Activation File) (w : World) (stack : List (Waiting Fi
             own_before : (m1 : Watched) → IsReady (m.now.registers 2) result m1 → (at : ℕ) → IsOwn s.room up at → IsOwn s.room (m1.now.registers 2) at
             own_before m1 k at o = subst (λ (p : ℕ). IsOwn s.room p at) (sym k.x2) (own_down at o)
 
-    -- code that brings the result into a0, and what follows it
-    pub leaves : (first : List Instr) → HasFunction s a.function → Lays (instruction_at s.image) s.label_at (place s a.function a.at) (plain (first ++ leave c)) (place s a.function (a.at + 1)) → place s a.function (a.at + 1) ≤ s.code_end → place s a.function a.at % 4 ≡ 0 → Does s m first (λ m1. IsAmid s a w.memory stack l (m.now.registers 2) m1 × IsResult w.memory l result (m1.now.registers 10)) → HasLeft m result
-    leaves first has lays low al does = by (plain_laid (instruction_at s.image) s.label_at (place s a.function a.at) (first ++ leave c) (place s a.function (a.at + 1)) lays)
+    -- the epilogue, from where the result is in a0
+    leaves_from : (m1 : Watched) (n from to : ℕ) → Takes s.image s.room n m m1 → m1.now.pc ≡ from → m1.now.registers 2 ≡ m.now.registers 2 → m1.now.input ≡ m.now.input → m1.now.output ≡ m.now.output → m1.low ≡ m.low → IsSteady s.room m1 → IsAmid s a w.memory stack l (m.now.registers 2) m1 → IsResult w.memory l result (m1.now.registers 10) → IsCode (instruction_at s.image) from (leave c) to → to ≤ s.code_end → from % 4 ≡ 0 → HasLeft m result
+    leaves_from m1 n from to takes pc x2 input output low steady amid value code top al =
+        let end = code.end in
+        let fits = fits_between s from to (length (leave c)) al top (omega (arith, end)) in
+        let fits_low = fits.low in
+        let len : length (leave c) ≡ length backing + (length raise + 1) = length-append backing back ∙ ap (λ (n : ℕ). length backing + n) (length-append raise (jalr 0 1 0 ∷ [])) in
+        let here : HasAt (instruction_at s.image) m1.now.pc (backing ++ back) = subst (λ (p : ℕ). HasAt (instruction_at s.image) p (backing ++ back)) (sym pc) code.has in
+        let d = (backs (m.now.registers 2) result m1 amid value).by (has_front (instruction_at s.image) m1.now.pc backing back here) (record { aligned = omega (arith, pc, al); low = omega (arith, pc, fits_low, len) }) steady in
+        next d.to (n + length backing) (m1.now.pc + 4 * length backing) (takes_on s.image s.room n (length backing) m m1 d.to takes d.takes) d.pc (d.x2 ∙ x2) (◌∙◌ {a = d.to.now.input} d.input input) (◌∙◌ {a = d.to.now.output} d.output output) (◌∙◌ {a = d.to.low} d.low low) (steady_on s m1 d.to d.x2 d.low d.bytes steady) d.is (has_back (instruction_at s.image) m1.now.pc backing back here) (omega (arith, pc, al)) (omega (arith, pc, fits_low, len))
       where
         raise : List Instr
         raise = move_stack (cost s a.function)
 
-        front : List Instr
-        front = first ++ backing
-
         back : List Instr
         back = raise ++ jalr 0 1 0 ∷ []
-
-        whole : front ++ back ≡ first ++ leave c
-        whole = append_assoc first backing back
-
-        ready : Does s m front (IsReady (m.now.registers 2) result)
-        ready = does_then s m first backing _ _ does (λ m1 x2 k. backs (m.now.registers 2) result m1 k.0 k.1)
 
         cost_small : (0 < cost s a.function) × (cost s a.function ≤ 2 ^ 28)
         cost_small = ((is_cost (frame_words c.function c.places) (total c.function.blocks)).positive, s.emittable.cost a.function h.related.known)
@@ -225,9 +241,9 @@ module _ (s : Setup) (a : Activation File) (w : World) (stack : List (Waiting Fi
         cost_aligned : cost s a.function % 16 ≡ 0
         cost_aligned = (is_cost (frame_words c.function c.places) (total c.function.blocks)).multiple
 
-        next : (m1 : Watched) → Takes s.image s.room (length front) m m1 → m1.now.pc ≡ m.now.pc + 4 * length front → m1.now.registers 2 ≡ m.now.registers 2 → m1.now.input ≡ m.now.input → m1.now.output ≡ m.now.output → m1.low ≡ m.low → IsSteady s.room m1 → IsReady (m.now.registers 2) result m1 → HasAt (instruction_at s.image) (m.now.pc + 4 * length front) back → m.now.pc % 4 ≡ 0 → m.now.pc + 4 * (length front + (length raise + 1)) < 2 ^ 31 → HasLeft m result
-        next m1 takes pc x2 input output low steady k tail al lo =
-            let here : HasAt (instruction_at s.image) m1.now.pc back = subst (λ (p : ℕ). HasAt (instruction_at s.image) p back) (sym pc) tail in
+        next : (m2 : Watched) (k p : ℕ) → Takes s.image s.room k m m2 → m2.now.pc ≡ p → m2.now.registers 2 ≡ m.now.registers 2 → m2.now.input ≡ m.now.input → m2.now.output ≡ m.now.output → m2.low ≡ m.low → IsSteady s.room m2 → IsReady (m.now.registers 2) result m2 → HasAt (instruction_at s.image) p back → p % 4 ≡ 0 → p + 4 * (length raise + 1) < 2 ^ 31 → HasLeft m result
+        next m2 k p takes pc x2 input output low steady ready tail al lo =
+            let here : HasAt (instruction_at s.image) m2.now.pc back = subst (λ (q : ℕ). HasAt (instruction_at s.image) q back) (sym pc) tail in
             let small = cost_small in
             let positive = small.0 in
             let most = small.1 in
@@ -237,20 +253,40 @@ module _ (s : Setup) (a : Activation File) (w : World) (stack : List (Waiting Fi
             let sp_al = room.aligned in
             let cost_al = cost_aligned in
             let top = s.ceiling in
-            let up_is : words.add (m1.now.registers 2) (cost s a.function) ≡ up = omega (arith, x2, below, top) in
-            let moved = stack_moves s m1 (cost s a.function) up (has_front (instruction_at s.image) m1.now.pc raise (jalr 0 1 0 ∷ []) here) (record { aligned = omega (arith, pc, al); low = omega (arith, pc, lo) }) (omega (arith, most)) up_is (record { above = omega (arith, above); below = below; aligned = omega (arith, sp_al, cost_al) }) steady in
-            raised m1 moved.0 (length front) (length raise) takes input output low k moved.1
-            (ap (λ (n : ℕ). instruction_at s.image n) moved.1.pc ∙ (has_back (instruction_at s.image) m1.now.pc raise (jalr 0 1 0 ∷ []) here).0)
+            let up_is : words.add (m2.now.registers 2) (cost s a.function) ≡ up = omega (arith, x2, below, top) in
+            let moved = stack_moves s m2 (cost s a.function) up (has_front (instruction_at s.image) m2.now.pc raise (jalr 0 1 0 ∷ []) here) (record { aligned = omega (arith, pc, al); low = omega (arith, pc, lo) }) (omega (arith, most)) up_is (record { above = omega (arith, above); below = below; aligned = omega (arith, sp_al, cost_al) }) steady in
+            raised m2 moved.0 k (length raise) takes input output low ready moved.1
+            (ap (λ (q : ℕ). instruction_at s.image q) moved.1.pc ∙ (has_back (instruction_at s.image) m2.now.pc raise (jalr 0 1 0 ∷ []) here).0)
 
-        by : IsCode (instruction_at s.image) (place s a.function a.at) (first ++ leave c) (place s a.function (a.at + 1)) → HasLeft m result
-        by code =
+    -- code that brings the result into a0, and the epilogue behind it, or a jump there
+    pub leaves : (first : List Instr) (middle : ℕ) → IsCode (instruction_at s.image) (place s a.function a.at) first middle → middle ≤ s.code_end → place s a.function a.at % 4 ≡ 0 → IsWayOut s a.function middle → Does s m first (λ m1. IsAmid s a w.memory stack l (m.now.registers 2) m1 × IsResult w.memory l result (m1.now.registers 10)) → HasLeft m result
+    leaves first middle code low al way does = by way
+      where
+        d : Done s m (length first) (λ m1. IsAmid s a w.memory stack l (m.now.registers 2) m1 × IsResult w.memory l result (m1.now.registers 10))
+        d =
             let end = code.end in
             let pc = h.pc in
-            let fits = fits_between s m.now.pc (place s a.function (a.at + 1)) (length (first ++ leave c)) (omega (arith, pc, al)) low (omega (arith, pc, end)) in
-            let fits_al = fits.aligned in
-            let fits_low = fits.low in
-            let len : length (first ++ leave c) ≡ length front + (length raise + 1) = ap length (sym whole) ∙ length-append front back ∙ ap (λ (n : ℕ). length front + n) (length-append raise (jalr 0 1 0 ∷ [])) in
-            let at_pc : HasAt (instruction_at s.image) m.now.pc (front ++ back) = subst (λ (p : ℕ). HasAt (instruction_at s.image) p (front ++ back)) (sym h.pc) (subst (λ (z : List Instr). HasAt (instruction_at s.image) (place s a.function a.at) z) (sym whole) code.has) in
-            let steady = steady_at s a w stack l m h in
-            let d = ready.by (has_front (instruction_at s.image) m.now.pc front back at_pc) (record { aligned = fits_al; low = omega (arith, fits_low, len) }) steady in
-            next d.to d.takes d.pc d.x2 d.input d.output d.low (steady_on s m d.to d.x2 d.low d.bytes steady) d.is (has_back (instruction_at s.image) m.now.pc front back at_pc) fits_al (omega (arith, fits_low, len))
+            let fits = fits_between s m.now.pc middle (length first) (omega (arith, pc, al)) low (omega (arith, pc, end)) in
+            does.by (subst (λ (p : ℕ). HasAt (instruction_at s.image) p first) (sym h.pc) code.has) fits (steady_at s a w stack l m h)
+
+        steady : IsSteady s.room d.to
+        steady = steady_on s m d.to d.x2 d.low d.bytes (steady_at s a w stack l m h)
+
+        pc_is : d.to.now.pc ≡ middle
+        pc_is = let end = code.end in let pc = h.pc in let there = d.pc in omega (arith, end, pc, there)
+
+        by : IsWayOut s a.function middle → HasLeft m result
+        by (inl out) =
+            let end = code.end in
+            leaves_from d.to (length first) middle out.to d.takes pc_is d.x2 d.input d.output d.low steady d.is.0 d.is.1 out.code out.low (omega (arith, end, al))
+        by (inr out) =
+            let short = s.short in
+            let end = out.epilogue.code.end in
+            let top = out.epilogue.low in
+            let there = out.there in
+            let j = jumps s d.to middle there pc_is out.jump out.aligned (omega (arith, low, short)) (omega (arith, end, top, short)) steady in
+            let m2 = gone s d.to there in
+            let x2 : m2.now.registers 2 ≡ d.to.now.registers 2 = ap (λ (r : ℕ → ℕ). r 2) j.registers in
+            leaves_from m2 (length first + 1) there out.epilogue.to (takes_on s.image s.room (length first) 1 m d.to m2 d.takes j.takes) j.pc (x2 ∙ d.x2) (◌∙◌ {a = m2.now.input} j.input d.input) (◌∙◌ {a = m2.now.output} j.output d.output) (◌∙◌ {a = m2.low} j.low d.low) j.steady
+            (amid_on s a w.memory stack l (m.now.registers 2) d.to m2 d.is.0 x2 (record { same = λ q b. ap (λ (r : ℕ → ℕ). r q) j.registers }) j.own)
+            (result_same result (d.to.now.registers 10) (m2.now.registers 10) (ap (λ (r : ℕ → ℕ). r 10) j.registers) d.is.1) out.epilogue.code top out.aligned

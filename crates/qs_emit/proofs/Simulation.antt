@@ -1,6 +1,6 @@
 -- The machine follows each step of linear code, and so the whole run.
-use Rattle.std.proofs.Common.{◌≡◌, inl, ℕ, zero, suc, ◌+◌, ◌-◌, ◌*◌, ◌%◌, ◌^◌, ◌==◌, ◌<◌, ◌≤◌, Bool, true, false, List, [], ◌∷◌, ◌++◌, length, All, Option, Some, None, refl, sym, ap, ◌∙◌, subst, arith, append-nil}
-use Rattle.std.specs.Prelude.{◌&&◌, nat_lt, if◌then◌else◌, slice_get}
+use Rattle.std.proofs.Common.{◌≡◌, inl, inr, ℕ, zero, suc, ◌+◌, ◌-◌, ◌*◌, ◌%◌, ◌^◌, ◌==◌, ◌<◌, ◌≤◌, Bool, true, false, List, [], ◌∷◌, ◌++◌, length, All, Option, Some, None, refl, sym, ap, ◌∙◌, subst, arith, append-nil}
+use Rattle.std.specs.Prelude.{◌&&◌, nat_lt, if◌then◌else◌, is_some, slice_get}
 use Rattle.std.specs.List.{list_all}
 use Rattle.std.proofs.lemmas.List.Elements.{All-nil, All-head, All-tail}
 use Rattle.std.proofs.lemmas.Option.{slice_get_within, get_or_from_slice_get}
@@ -24,7 +24,9 @@ use Rattle.qs_isa.specs.EnvironmentCalls.{put_byte_call, take_byte_call}
 use Rattle.qs_isa.specs.declared.instruction.Instr.{Instr}
 use Rattle.qs_asm.specs.Items.{Lays, plain}
 use Rattle.qs_isa.specs.declared.instruction.Instr.TheVariants as instructions
+use Rattle.qs_asm.specs.declared.item.Item.{Item}
 use Rattle.qs_asm.specs.declared.item.Item.TheVariants as items
+use Rattle.qs_asm.proofs.LaidLaws.{laid_split}
 use Rattle.qs_emit_selection.specs.Pieces.{addi}
 use Rattle.qs_machine.specs.State.{State, register, with_value}
 use Rattle.qs_machine.specs.Step as machine
@@ -41,11 +43,10 @@ use Rattle.qs_tac.specs.Steps.{Waiting, going_to, onward, written, Next, take_re
 use Rattle.qs_tac.specs.Steps.{instruction_at as linear_at}
 use Rattle.qs_tac.specs.Units.{stopped_steps}
 use Rattle.qs_emit_selection.specs.Operands.{Context}
-use Rattle.qs_emit_selection.specs.Operands.{into as operand_into}
 use Rattle.qs_frames.specs.Layout.{keeps_return_address}
 use Rattle.qs_frames.proofs.FrameLaws.{caller_keeps}
 use Rattle.qs_emit_selection.specs.Emission as emission
-use Rattle.qs_emit_selection.specs.Emission.{Labels, labels_of, first_label, instruction_items}
+use Rattle.qs_emit_selection.specs.Emission.{Labels, labels_of, first_label, instruction_items, items_at, last_items, leave, result_into, ends_from, has_one_epilogue, go_out}
 use Rattle.qs_emit.specs.Machine.{Watched, instruction_at}
 use Rattle.qs_emit.specs.Lies.{AreBytes, StandsFor}
 use Rattle.qs_emit.specs.Surroundings.{HasBlocks, Lay, ground}
@@ -59,11 +60,11 @@ use Rattle.qs_emit.proofs.OperationLaws.{IsOperand}
 use Rattle.qs_emit.proofs.Results.{move_does, unary_does, convert_does, binary_does, address_of_does}
 use Rattle.qs_emit.proofs.Fetches.{load_place_does, store_place_does}
 use Rattle.qs_emit.proofs.Transfers.{fill_object_does, copy_object_does}
-use Rattle.qs_emit.proofs.CodePlaces.{plain_laid, HasFunction, has_function, fits_between, instruction_fits_there, function_there, has_place, some_code}
+use Rattle.qs_emit.proofs.CodePlaces.{IsCode, IsStood, goes_up, plain_laid, HasFunction, has_function, fits_between, instruction_fits_there, function_there, has_place, some_code}
 use Rattle.qs_emit.proofs.FollowedSteps.{Reaches, ComesToStop, FollowsToStop, follows_later, follows_undefined, undefined_behind, follows_stopped, follows_given, amid_at, Onward, plain_follows}
 use Rattle.qs_emit.proofs.Jumps.{jump_follows, branch_follows}
 use Rattle.qs_emit.proofs.Parameters.{Passed, passes, pass_is}
-use Rattle.qs_emit.proofs.Returns.{later_left, blocks_left, related_left, HasLeft}
+use Rattle.qs_emit.proofs.Returns.{later_left, blocks_left, related_left, HasEpilogue, IsWayOut, HasLeft}
 use Rattle.qs_emit.proofs.Returns.{leaves as function_leaves}
 use Rattle.qs_emit.proofs.Calls.{function_called, HasAnswer, IsAsking, environment_called}
 
@@ -74,6 +75,19 @@ and_left false y e = cc
 and_right : (x y : Bool) → x && y ≡ true → y ≡ true
 and_right true y e = e
 and_right false y e = cc
+
+-- code whose last instruction is a return ends with one
+ends_there : (code : List InstructionTree) (k : ℕ) (is_return : Bool) (o : Option Operand) → slice_get code k ≡ Some (return o) → k + 1 ≡ length code → ends_from is_return code ≡ true
+ends_there [] k is_return o e l = cc
+ends_there (i ∷ code) zero is_return o e l = last code l
+  where
+    same : i ≡ return o
+    same = some_same i (return o) e
+
+    last : (code : List InstructionTree) → 0 + 1 ≡ length (i ∷ code) → ends_from (is_some (emission.returned i)) code ≡ true
+    last [] l = ap (λ (d : InstructionTree). is_some (emission.returned d)) same
+    last (d ∷ code) l = absurd (omega (arith, l))
+ends_there (i ∷ code) (suc k) is_return o e l = ends_there code k (is_some (emission.returned i)) o e (omega (arith, l))
 
 module _ (s : Setup) (mark : Option Value) (n : ℕ) (next : Next File) (more : (a : Activation File) (w : World) (stack : List (Waiting File)) (l : Lay) (m : Watched) → StandsAt s a w stack l m → FollowsToStop (around s) mark n m (next a w stack)) where
   -- behind a step without events
@@ -359,67 +373,126 @@ module _ (s : Setup) (mark : Option Value) (n : ℕ) (next : Next File) (more : 
     small_place : (x : ℕ) (rest : Bool) → nat_lt x (function_at s.unit a.function).temporaries && rest ≡ true → HasPlace c (place_of c.places x)
     small_place x rest fits = let t = and_left (nat_lt x (function_at s.unit a.function).temporaries) rest fits in let lt : x < (function_at s.unit a.function).temporaries = grind (arith, nat_tests, t) in there x lt
 
-    instruction_follows : (i : InstructionTree) → Stands i → FitsHere i → slice_get (function_at s.unit a.function).code a.at ≡ Some i → FollowsToStop (around s) mark (suc n) m (step (holder s) s.unit (Some i) next a w stack)
-    instruction_follows (move x o) stands fits is =
+    abbrev Stood : InstructionTree → Type 0
+    Stood i = IsStood (instruction_at s.image) s.label_at c labels (place s a.function a.at) i (place s a.function (a.at + 1)) (a.at + 1 ≡ length (function_at s.unit a.function).code)
+
+    -- an instruction that doesn't return has the same code wherever it stands
+    stands_there : (i : InstructionTree) → emission.returned i ≡ None → Stood i → Stands i
+    stands_there i none stood = subst (λ (z : List Item). Lays (instruction_at s.image) s.label_at (place s a.function a.at) z (place s a.function (a.at + 1))) (same stood.is_last) stood.lays
+      where
+        same : (b : Bool) → items_at c labels b i ≡ instruction_items c labels i
+        same true = ap (last_items c labels i) none
+        same false = refl
+
+    -- where the result is in a0 the epilogue follows, or a jump to it
+    record HasReturn (o : Option Operand) : Type 0 where
+      middle : ℕ
+      code : IsCode (instruction_at s.image) (place s a.function a.at) (result_into c o) middle
+      low : middle ≤ s.code_end
+      way : IsWayOut s a.function middle
+
+    return_there : (o : Option Operand) → slice_get (function_at s.unit a.function).code a.at ≡ Some (return o) → Stood (return o) → HasReturn o
+    return_there o is stood = by stood.is_last stood.lays stood.ends
+      where
+        end : ℕ
+        end = place s a.function (length (function_at s.unit a.function).code)
+
+        epilogue_there : has_one_epilogue c.function ≡ true → HasEpilogue s a.function end
+        epilogue_there e = record {
+          to = has.body_end;
+          code = plain_laid (instruction_at s.image) s.label_at end (leave c) has.body_end
+              (subst (λ (z : List Instr). Lays (instruction_at s.image) s.label_at end (plain z) has.body_end) (ap (λ (b : Bool). if b then leave c else []) e) has.epilogue_there);
+          low = has.end_low;
+        }
+
+        out : (b : Bool) → has_one_epilogue c.function ≡ b → (middle : ℕ) → Lays (instruction_at s.image) s.label_at middle (if b then items.Jump 0 (labels.instruction (length c.function.code)) ∷ [] else plain (leave c)) (place s a.function (a.at + 1)) → IsWayOut s a.function middle
+        out true e middle lays = inr (record { there = end; jump = lays.0; aligned = has.place_aligned (length (function_at s.unit a.function).code) (omega arith); epilogue = epilogue_there e })
+        out false e middle lays = inl (record { to = place s a.function (a.at + 1); code = plain_laid (instruction_at s.image) s.label_at middle (leave c) (place s a.function (a.at + 1)) lays; low = low_next })
+
+        by : (b : Bool) → Lays (instruction_at s.image) s.label_at (place s a.function a.at) (items_at c labels b (return o)) (place s a.function (a.at + 1)) → (b ≡ true → a.at + 1 ≡ length (function_at s.unit a.function).code) → HasReturn o
+        by true lays ends =
+            let last = ends refl in
+            record {
+              middle = place s a.function (a.at + 1);
+              code = plain_laid (instruction_at s.image) s.label_at (place s a.function a.at) (result_into c o) (place s a.function (a.at + 1)) lays;
+              low = low_next;
+              way = inl (subst (λ (k : ℕ). HasEpilogue s a.function (place s a.function k)) (sym last) (epilogue_there (ends_there (function_at s.unit a.function).code a.at false o is last)));
+            }
+        by false lays ends =
+            let sp = laid_split (instruction_at s.image) s.label_at (place s a.function a.at) (plain (result_into c o)) (go_out c labels) (place s a.function (a.at + 1)) lays in
+            let up = goes_up (instruction_at s.image) s.label_at sp.middle (go_out c labels) (place s a.function (a.at + 1)) sp.back in
+            let below = low_next in
+            record {
+              middle = sp.middle;
+              code = plain_laid (instruction_at s.image) s.label_at (place s a.function a.at) (result_into c o) sp.middle sp.front;
+              low = omega (arith, up, below);
+              way = out (has_one_epilogue c.function) refl sp.middle sp.back;
+            }
+
+    left_there : (o : Option Operand) (v : Option Value) → slice_get (function_at s.unit a.function).code a.at ≡ Some (return o) → Stood (return o) → Does s m (result_into c o) (λ m1. IsAmid s a w.memory stack l (m.now.registers 2) m1 × IsResult w.memory l v (m1.now.registers 10)) → HasLeft s a w stack l m v
+    left_there o v is stood does = let r = return_there o is stood in function_leaves s a w stack l m h v (result_into c o) r.middle r.code r.low aligned_here r.way does
+
+    instruction_follows : (i : InstructionTree) → Stood i → FitsHere i → slice_get (function_at s.unit a.function).code a.at ≡ Some i → FollowsToStop (around s) mark (suc n) m (step (holder s) s.unit (Some i) next a w stack)
+    instruction_follows (move x o) stood fits is =
         follows_given s mark (suc n) m (operand (holder s) o a) _ (λ v e.
-        gives_follows (move x o) x v _ refl stands (move_does s a w.memory stack l (m.now.registers 2) m o v (place_of c.places x) amid (operand_of o v (and_right _ _ fits) e) (small_place x _ fits)))
-    instruction_follows (unary op x o) stands fits is =
+        gives_follows (move x o) x v _ refl (stands_there (move x o) refl stood) (move_does s a w.memory stack l (m.now.registers 2) m o v (place_of c.places x) amid (operand_of o v (and_right _ _ fits) e) (small_place x _ fits)))
+    instruction_follows (unary op x o) stood fits is =
         follows_given s mark (suc n) m (operand (holder s) o a >>= λ v. apply_unary op w.memory v) _ (λ u e.
         let f = followed (operand (holder s) o a) (λ v. apply_unary op w.memory v) u e in
-        gives_follows (unary op x o) x u _ refl stands (unary_does s a w.memory stack l (m.now.registers 2) m op o f.value u x amid (operand_of o f.value (and_right _ _ fits) f.first) f.then (small_place x _ fits)))
-    instruction_follows (binary op x o p) stands fits is =
+        gives_follows (unary op x o) x u _ refl (stands_there (unary op x o) refl stood) (unary_does s a w.memory stack l (m.now.registers 2) m op o f.value u x amid (operand_of o f.value (and_right _ _ fits) f.first) f.then (small_place x _ fits)))
+    instruction_follows (binary op x o p) stood fits is =
         follows_given s mark (suc n) m (operand (holder s) o a >>= λ v. operand (holder s) p a >>= λ y. apply_binary op w.memory v y) _ (λ u e.
         let f = followed (operand (holder s) o a) (λ v. operand (holder s) p a >>= λ y. apply_binary op w.memory v y) u e in
         let g = followed (operand (holder s) p a) (λ y. apply_binary op w.memory f.value y) u f.then in
         let fits_three = and_left _ (operation_fits op) fits in
         let fits_two = and_left _ (operand_fits s.unit (function_at s.unit a.function) p) fits_three in
-        gives_follows (binary op x o p) x u _ refl stands (binary_does s a w.memory stack l (m.now.registers 2) m op o p f.value g.value u x amid (and_right _ _ fits)
+        gives_follows (binary op x o p) x u _ refl (stands_there (binary op x o p) refl stood) (binary_does s a w.memory stack l (m.now.registers 2) m op o p f.value g.value u x amid (and_right _ _ fits)
         (operand_of o f.value (and_right _ _ fits_two) f.first) (operand_of p g.value (and_right _ _ fits_three) g.first) g.then (small_place x _ fits_two)))
-    instruction_follows (convert t x o) stands fits is =
+    instruction_follows (convert t x o) stood fits is =
         follows_given s mark (suc n) m (operand (holder s) o a >>= λ v. values.convert t v) _ (λ u e.
         let f = followed (operand (holder s) o a) (λ v. values.convert t v) u e in
-        gives_follows (convert t x o) x u _ refl stands (convert_does s a w.memory stack l (m.now.registers 2) m t o f.value u x amid (operand_of o f.value (and_right _ _ fits) f.first) f.then (small_place x _ fits)))
-    instruction_follows (address_of x p) stands fits is =
+        gives_follows (convert t x o) x u _ refl (stands_there (convert t x o) refl stood) (convert_does s a w.memory stack l (m.now.registers 2) m t o f.value u x amid (operand_of o f.value (and_right _ _ fits) f.first) f.then (small_place x _ fits)))
+    instruction_follows (address_of x p) stood fits is =
         follows_given s mark (suc n) m (pointer (holder s) p a w.memory >>= λ q. Some (address q)) _ (λ u e.
         let f = followed (pointer (holder s) p a w.memory) (λ q. Some (address q)) u e in
         subst (λ (z : Value). FollowsToStop (around s) mark (suc n) m (next (onward (written (holder s) x z a)) w stack)) (some_same _ u f.then)
-        (gives_follows (address_of x p) x (address f.value) _ refl stands (address_of_does s a w.memory stack l (m.now.registers 2) m p f.value x amid (and_right _ _ fits) f.first (small_place x _ fits))))
-    instruction_follows (load t x p) stands fits is =
+        (gives_follows (address_of x p) x (address f.value) _ refl (stands_there (address_of x p) refl stood) (address_of_does s a w.memory stack l (m.now.registers 2) m p f.value x amid (and_right _ _ fits) f.first (small_place x _ fits))))
+    instruction_follows (load t x p) stood fits is =
         follows_given s mark (suc n) m (pointer (holder s) p a w.memory >>= λ q. memory.load t w.memory q) _ (λ u e.
         let f = followed (pointer (holder s) p a w.memory) (λ q. memory.load t w.memory q) u e in
-        gives_follows (load t x p) x u _ refl stands (load_place_does s a w.memory stack l (m.now.registers 2) m t p f.value u x amid (and_right _ _ fits) f.first f.then (small_place x _ fits)))
-    instruction_follows (store t p o) stands fits is =
+        gives_follows (load t x p) x u _ refl (stands_there (load t x p) refl stood) (load_place_does s a w.memory stack l (m.now.registers 2) m t p f.value u x amid (and_right _ _ fits) f.first f.then (small_place x _ fits)))
+    instruction_follows (store t p o) stood fits is =
         follows_given s mark (suc n) m (pointer (holder s) p a w.memory >>= λ q. operand (holder s) o a >>= λ v. memory.store t w.memory q v) _ (λ later e.
         let f = followed (pointer (holder s) p a w.memory) (λ q. operand (holder s) o a >>= λ v. memory.store t w.memory q v) later e in
         let g = followed (operand (holder s) o a) (λ v. memory.store t w.memory f.value v) later f.then in
-        straight_follows (store t p o) a later _ refl refl stands (store_place_does s a w.memory stack l (m.now.registers 2) m t p o f.value g.value later amid (and_left _ _ fits) f.first (operand_of o g.value (and_right _ _ fits) g.first) g.then))
-    instruction_follows (copy size alignment p q) stands fits is =
+        straight_follows (store t p o) a later _ refl refl (stands_there (store t p o) refl stood) (store_place_does s a w.memory stack l (m.now.registers 2) m t p o f.value g.value later amid (and_left _ _ fits) f.first (operand_of o g.value (and_right _ _ fits) g.first) g.then))
+    instruction_follows (copy size alignment p q) stood fits is =
         follows_given s mark (suc n) m (pointer (holder s) p a w.memory >>= λ to. pointer (holder s) q a w.memory >>= λ from. memory.copy size alignment w.memory to from) _ (λ later e.
         let f = followed (pointer (holder s) p a w.memory) (λ to. pointer (holder s) q a w.memory >>= λ from. memory.copy size alignment w.memory to from) later e in
         let g = followed (pointer (holder s) q a w.memory) (λ from. memory.copy size alignment w.memory f.value from) later f.then in
-        straight_follows (copy size alignment p q) a later _ refl refl stands (copy_object_does s a w.memory stack l (m.now.registers 2) m size alignment p q f.value g.value later amid (and_right _ _ (and_left _ (address_fits s.unit (function_at s.unit a.function) q) fits)) (and_right _ _ fits) f.first g.first g.then))
-    instruction_follows (fill blank p) stands fits is =
+        straight_follows (copy size alignment p q) a later _ refl refl (stands_there (copy size alignment p q) refl stood) (copy_object_does s a w.memory stack l (m.now.registers 2) m size alignment p q f.value g.value later amid (and_right _ _ (and_left _ (address_fits s.unit (function_at s.unit a.function) q) fits)) (and_right _ _ fits) f.first g.first g.then))
+    instruction_follows (fill blank p) stood fits is =
         follows_given s mark (suc n) m (pointer (holder s) p a w.memory >>= λ q. memory.fill blank w.memory q) _ (λ later e.
         let f = followed (pointer (holder s) p a w.memory) (λ q. memory.fill blank w.memory q) later e in
-        straight_follows (fill blank p) a later _ refl refl stands (fill_object_does s a w.memory stack l (m.now.registers 2) m blank p f.value later amid (and_right _ _ fits) f.first f.then))
-    instruction_follows (call x f os) stands fits is =
+        straight_follows (fill blank p) a later _ refl refl (stands_there (fill blank p) refl stood) (fill_object_does s a w.memory stack l (m.now.registers 2) m blank p f.value later amid (and_right _ _ fits) f.first f.then))
+    instruction_follows (call x f os) stood fits is =
         follows_given s mark (suc n) m (operands (holder s) os a) _ (λ vs e.
         let fits_two = and_left _ (list_all (operand_fits s.unit (function_at s.unit a.function)) os) fits in
-        invoke_follows x f os vs is (s.emittable.arguments a.function a.at (call x f os) is x f os refl) (and_right _ _ fits_two) (and_right _ _ fits) (and_left _ _ fits_two) e stands)
-    instruction_follows (jump to) stands fits is =
+        invoke_follows x f os vs is (s.emittable.arguments a.function a.at (call x f os) is x f os refl) (and_right _ _ fits_two) (and_right _ _ fits) (and_left _ _ fits_two) e (stands_there (call x f os) refl stood))
+    instruction_follows (jump to) stood fits is =
         let lt : to < length (function_at s.unit a.function).code = grind (arith, nat_tests, fits) in
-        goes_on a (going_to to a) w w stack l m h (jump_follows s a w stack l m to h (let next_low = low_next in let up = stands.1 in omega (arith, next_low, up)) (has.place_low to (omega (arith, lt))) (has.place_aligned to (omega (arith, lt))) stands.0)
-    instruction_follows (branch condition to) stands fits is =
+        goes_on a (going_to to a) w w stack l m h (jump_follows s a w stack l m to h (let next_low = low_next in let up = (stands_there (jump to) refl stood).1 in omega (arith, next_low, up)) (has.place_low to (omega (arith, lt))) (has.place_aligned to (omega (arith, lt))) (stands_there (jump to) refl stood).0)
+    instruction_follows (branch condition to) stood fits is =
         follows_given s mark (suc n) m (holds (holder s) condition a w.memory) _ (λ answer e.
         let t : nat_lt to (length (function_at s.unit a.function).code) ≡ true = and_right (condition_fits s.unit (function_at s.unit a.function) condition) (nat_lt to (length (function_at s.unit a.function).code)) fits in
         let lt : to < length (function_at s.unit a.function).code = grind (arith, nat_tests, t) in
         goes_on a (going_to (if answer then to else (a.at + 1)) a) w w stack l m h
-        (branch_follows s a w stack l m h to low_next (has.place_low to (omega (arith, lt))) aligned_here (has.place_aligned to (omega (arith, lt))) (has.place_aligned (a.at + 1) inside) condition answer (and_left (condition_fits s.unit (function_at s.unit a.function) condition) (nat_lt to (length (function_at s.unit a.function).code)) fits) e stands))
-    instruction_follows (return None) stands fits is =
-        ends_follows a w stack l m h None (function_leaves s a w stack l m h None [] has stands low_next aligned_here (does_none s m _ (amid, tt))) stack refl
-    instruction_follows (return (Some o)) stands fits is =
+        (branch_follows s a w stack l m h to low_next (has.place_low to (omega (arith, lt))) aligned_here (has.place_aligned to (omega (arith, lt))) (has.place_aligned (a.at + 1) inside) condition answer (and_left (condition_fits s.unit (function_at s.unit a.function) condition) (nat_lt to (length (function_at s.unit a.function).code)) fits) e (stands_there (branch condition to) refl stood)))
+    instruction_follows (return None) stood fits is =
+        ends_follows a w stack l m h None (left_there None None is stood (does_none s m _ (amid, tt))) stack refl
+    instruction_follows (return (Some o)) stood fits is =
         follows_given s mark (suc n) m (operand (holder s) o a) _ (λ v e.
-        ends_follows a w stack l m h (Some v) (function_leaves s a w stack l m h (Some v) (operand_into c 10 o) has stands low_next aligned_here
+        ends_follows a w stack l m h (Some v) (left_there (Some o) (Some v) is stood
         (does_is s m _ _ _ (into_does s a w.memory stack l (m.now.registers 2) m 10 o v (argument_scratch 10 (omega arith) (omega arith)) amid fits e) (λ m1 x2 k. (k.amid, subst (λ (z : ℕ). StandsFor w.memory l.address_of v z) (sym k.got) k.stands)))) stack refl)
 
   -- a step

@@ -1,6 +1,6 @@
 -- The labels of a unit count up, and each jump leads to one of them.
-use Rattle.std.proofs.Common.{◌≡◌, ℕ, zero, suc, ◌+◌, ◌<◌, ◌≤◌, true, List, [], ◌∷◌, ◌++◌, length, Some, None, refl, sym, ap, subst, ◌∙◌, arith, ltb-true}
-use Rattle.std.specs.Prelude.{nat_lt, ◌&&◌, slice_index_or}
+use Rattle.std.proofs.Common.{◌≡◌, Bool, false, Option, ℕ, zero, suc, ◌+◌, ◌<◌, ◌≤◌, true, List, [], ◌∷◌, ◌++◌, length, Some, None, refl, sym, ap, subst, ◌∙◌, arith, ltb-true}
+use Rattle.std.specs.Prelude.{nat_lt, ◌&&◌, if◌then◌else◌, slice_index_or}
 use Rattle.std.specs.List.{list_all, slice_get}
 use Rattle.std.specs.Cmp.{first_so, second_so}
 use Rattle.qs_memory.specs.declared.operation.Signedness.{Signedness}
@@ -25,7 +25,7 @@ use Rattle.qs_tac.specs.declared.operands.Operand.{Operand}
 use Rattle.qs_tac.specs.declared.operands.Condition.{Condition}
 use Rattle.qs_tac.specs.declared.operands.Condition.TheVariants.{NotZero, Zero, Compare, ComparePointers}
 use Rattle.qs_emit_selection.specs.Operands.{Context, operand_register}
-use Rattle.qs_emit_selection.specs.Emission.{Labels, goes_to, environment, leave, compare_branch, branch_items, instruction_items, body_items, enter, function_items, first_label, labels_of, functions_items, unit_items}
+use Rattle.qs_emit_selection.specs.Emission.{Labels, result_into, returned, has_one_epilogue, epilogue, go_out, last_items, is_end, items_at, goes_to, environment, leave, compare_branch, branch_items, instruction_items, body_items, enter, function_items, first_label, labels_of, functions_items, unit_items}
 use Rattle.qs_emit_selection.specs.Labels.{label_count, LabelsCountUp, UnitLabelsCountUp}
 
 -- ---- tests
@@ -146,18 +146,29 @@ module _ (u : TacUnitTree) (ps : List PlacesTree) (data_at : ℕ → ℕ) where
     inside first (branch condition to) h =
         inside_branch c first all condition (labels.instruction to)
         (target_below to (second_so (condition_fits u c.function condition) (nat_lt to (length c.function.code)) h))
-    inside first (return None) h = inside_plain first all (leave c)
-    inside first (return (Some o)) h = inside_plain first all _
+    inside first (return o) h = inside_joined first all (plain (result_into c o)) (go_out c labels) (inside_plain first all (result_into c o)) (out (has_one_epilogue c.function))
+      where
+        out : (b : Bool) → Inside first all (if b then items.Jump x0 (labels.instruction (length c.function.code)) ∷ [] else plain (leave c))
+        out true = let there = is (length c.function.code) in record { up = refl; lead = (omega (arith, there, room), tt) }
+        out false = inside_plain first all (leave c)
+
+    inside_last : (first : ℕ) (i : InstructionTree) → instruction_fits u c.function i ≡ true → (o : Option (Option Operand)) → Inside first all (last_items c labels i o)
+    inside_last first i h None = inside first i h
+    inside_last first i h (Some o) = inside_plain first all (result_into c o)
+
+    inside_at : (first : ℕ) (i : InstructionTree) → instruction_fits u c.function i ≡ true → (b : Bool) → Inside first all (items_at c labels b i)
+    inside_at first i h true = inside_last first i h (returned i)
+    inside_at first i h false = inside first i h
 
     body_up : (k : ℕ) (code : List InstructionTree) → list_all (instruction_fits u c.function) code ≡ true
         → CountUp (own + k) (body_items c labels k code) (own + k + length code + 1)
-    body_up k [] h = (is k, omega arith)
+    body_up k [] h = (is k, subst (λ n. CountUp (own + k + 1) (plain (epilogue c)) n) (let e : own + k + 1 ≡ own + k + 0 + 1 = omega arith in e) (up_plain (own + k + 1) (epilogue c)))
     body_up k (i ∷ code) h =
         let next : own + k + 1 ≡ own + (k + 1) = omega arith in
         let end : own + (k + 1) + length code + 1 ≡ own + k + suc (length code) + 1 = omega arith in (
           is k,
-          up_joined (own + k + 1) (own + k + 1) (own + k + suc (length code) + 1) (instruction_items c labels i) (body_items c labels (k + 1) code)
-              ((inside (own + k + 1) i (first_so (instruction_fits u c.function i) (list_all (instruction_fits u c.function) code) h)).up)
+          up_joined (own + k + 1) (own + k + 1) (own + k + suc (length code) + 1) (items_at c labels (is_end code) i) (body_items c labels (k + 1) code)
+              ((inside_at (own + k + 1) i (first_so (instruction_fits u c.function i) (list_all (instruction_fits u c.function) code) h) (is_end code)).up)
               (subst (λ n. CountUp n (body_items c labels (k + 1) code) (own + k + suc (length code) + 1)) (sym next)
               (subst (λ n. CountUp (own + (k + 1)) (body_items c labels (k + 1) code) n) end
               (body_up (k + 1) code (second_so (instruction_fits u c.function i) (list_all (instruction_fits u c.function) code) h)))),
@@ -165,10 +176,10 @@ module _ (u : TacUnitTree) (ps : List PlacesTree) (data_at : ℕ → ℕ) where
 
     body_lead : (k : ℕ) (code : List InstructionTree) → list_all (instruction_fits u c.function) code ≡ true
         → LeadBelow all (body_items c labels k code)
-    body_lead k [] h = tt
+    body_lead k [] h = lead_plain all (epilogue c)
     body_lead k (i ∷ code) h =
-        lead_joined all (instruction_items c labels i) (body_items c labels (k + 1) code)
-        ((inside 0 i (first_so (instruction_fits u c.function i) (list_all (instruction_fits u c.function) code) h)).lead)
+        lead_joined all (items_at c labels (is_end code) i) (body_items c labels (k + 1) code)
+        ((inside_at 0 i (first_so (instruction_fits u c.function i) (list_all (instruction_fits u c.function) code) h) (is_end code)).lead)
         (body_lead (k + 1) code (second_so (instruction_fits u c.function i) (list_all (instruction_fits u c.function) code) h))
 
   -- ---- functions

@@ -49,10 +49,11 @@ use Rattle.qs_emit_selection.specs.Pieces.{is_small, low_part, high_part, consta
 use Rattle.qs_emit_selection.specs.Operands.{Context, stored, frame_of, local_offset, place_into, byte_into, into, register_of, stands_in, unless_there, operand_code, operand_register, put_place, put, result_register, result_code, move_to, Anchor, displacement, behind_frame, behind_pointer, based, add_elements, add_index, anchor_of, address_into, is_word_address}
 use Rattle.qs_emit_selection.specs.Operations.{constant_of, negated, if_small, with_constant, or_code, kind_of, both, on_both, arithmetic, less_than, less_than_constant, less, apart, compare, directed, step, move_by, move_by_elements, moved, elements_between, unary_instruction, conversion}
 use Rattle.qs_emit_selection.specs.Operations as operations
-use Rattle.qs_emit_selection.specs.Emission.{save, restore, take_parameter, take_parameters, enter, leave, copy_code, unless_none, fill_code, pass, take_result, Labels, goes_to, less_branch, not_less_branch, compare_branch, compare_items, branch_items, gives, instruction_items}
+use Rattle.qs_emit_selection.specs.Emission.{save, restore, take_parameter, take_parameters, enter, leave, result_into, has_one_epilogue, go_out, copy_code, unless_none, fill_code, pass, take_result, Labels, goes_to, less_branch, not_less_branch, compare_branch, compare_items, branch_items, gives, instruction_items}
 use Rattle.qs_emit_selection.proofs.Sizes.{few_stored}
 use Rattle.qs_emit_selection.specs.Laws.{IsItem, AreItems, IsPlace, IsContext, HasFewArguments, AreSelectedWords}
 use Rattle.qs_asm.specs.declared.item.Item.{Item}
+use Rattle.qs_asm.specs.declared.item.Item.TheVariants as items
 use Rattle.qs_asm.specs.Items.{plain}
 use Rattle.qs_calls.specs.declared.callee.Callee.{Callee}
 use Rattle.qs_calls.specs.declared.callee.Callee.TheVariants.{Function, PutChar, GetChar}
@@ -609,11 +610,19 @@ module _ (u : TacUnitTree) (c : Context) (labels : Labels) (ok : IsContext c) wh
       then_items (plain (pass c 10 arguments)) _ (plain_items _ (pass_instrs u c ok 10 arguments (omega (arith, n)) t.1)) (then_items (goes_to labels f) _ (goes_items f) (plain_items _ (taken_instrs u c ok x)))
   instruction_are (jump to) h few = (omega arith, tt)
   instruction_are (branch b to) h few = let t = and_parts (condition_fits u c.function b) _ h in condition_items b _ t.0
-  instruction_are (return None) h few = plain_items (leave c) (leave_instrs u c ok)
-  instruction_are (return (Some o)) h few = plain_items _ (then_instrs (into c 10 o) (leave c) (into_instrs u c ok 10 o (omega arith) h) (leave_instrs u c ok))
+  instruction_are (return o) h few = then_items (plain (result_into c o)) (go_out c labels) (result_are o h) (out (has_one_epilogue c.function))
+    where
+      result_are : (o : Option Operand) → instruction_fits u c.function (return o) ≡ true → AreItems (plain (result_into c o))
+      result_are None h = tt
+      result_are (Some o) h = plain_items _ (into_instrs u c ok 10 o (omega arith) h)
+
+      out : (b : Bool) → AreItems (if b then items.Jump 0 (labels.instruction (length c.function.code)) ∷ [] else plain (leave c))
+      out true = (omega arith, tt)
+      out false = plain_items (leave c) (leave_instrs u c ok)
 
 pub what_is_selected : (u : TacUnitTree) (c : Context) (labels : Labels) → IsContext c → AreSelectedWords u c labels
 what_is_selected u c labels ok = record {
   enter = λ few. plain_items _ (enter_instrs u c ok few);
   instruction = instruction_are u c labels ok;
+  leave = plain_items (leave c) (leave_instrs u c ok);
 }

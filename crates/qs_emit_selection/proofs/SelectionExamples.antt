@@ -20,7 +20,7 @@ use Rattle.qs_isa.specs.declared.instruction.OpKind.TheVariants.{Add, Slt}
 use Rattle.qs_asm.specs.declared.item.Item.{Item}
 use Rattle.qs_asm.specs.declared.item.Item.TheVariants.{Label, Jump, Branch}
 use Rattle.qs_asm.specs.Items.{plain}
-use Rattle.qs_tac.specs.Trees.{InstructionTree, move, binary, load, store, fill, call, branch, return, TacFunctionTree, TacUnitTree}
+use Rattle.qs_tac.specs.Trees.{InstructionTree, move, binary, load, store, fill, call, jump, branch, return, TacFunctionTree, TacUnitTree}
 use Rattle.qs_tac.specs.Places.{PlacesTree, all_slots}
 use Rattle.qs_tac.specs.declared.places.Place.TheVariants as places
 use Rattle.qs_tac.specs.declared.operands.Operand.{Operand}
@@ -29,7 +29,7 @@ use Rattle.qs_tac.specs.declared.operands.Condition.TheVariants.{Compare}
 use Rattle.qs_frames.specs.Layout.{rounded, keeps_return_address, frame_cost}
 use Rattle.qs_emit_selection.specs.Pieces.{is_small, low_part, high_part, is_near, shift_of}
 use Rattle.qs_emit_selection.specs.Operands.{Context}
-use Rattle.qs_emit_selection.specs.Emission.{Labels, instruction_items}
+use Rattle.qs_emit_selection.specs.Emission.{Labels, instruction_items, body_items}
 use Rattle.qs_emit_selection.specs.Data.{data_address}
 use Rattle.qs_emit_selection.specs.Limits.{first_fault}
 use Rattle.qs_emit_selection.specs.Units.{selected}
@@ -173,17 +173,42 @@ their_items :
     ≡ Jump 1 4 ∷ plain (OpImm Addi 17 0 0 ∷ Ecall ∷ [])
     ++ (Label 0 ∷ plain (OpImm Addi 2 2 0xfffffff0 ∷ Store Sw 2 10 4 ∷ []))
     ++ (Label 1 ∷ plain (Load Lw 10 2 4 ∷ OpImm Addi 10 10 1 ∷ Store Sw 2 10 0 ∷ []))
-    ++ (Label 2 ∷ plain (Load Lw 10 2 0 ∷ OpImm Addi 2 2 16 ∷ Jalr 0 1 0 ∷ []))
-    ++ (Label 3 ∷ Label 4 ∷ plain (OpImm Addi 2 2 0xfffffff0 ∷ Store Sw 2 1 0 ∷ Store Sw 2 9 4 ∷ []))
+    ++ (Label 2 ∷ plain (Load Lw 10 2 0 ∷ []))
+    ++ (Label 3 ∷ plain (OpImm Addi 2 2 16 ∷ Jalr 0 1 0 ∷ []))
+    ++ (Label 4 ∷ plain (OpImm Addi 2 2 0xfffffff0 ∷ Store Sw 2 1 0 ∷ Store Sw 2 9 4 ∷ []))
     ++ (Label 5 ∷ plain (OpImm Addi 10 0 4 ∷ []) ++ (Jump 1 0 ∷ plain (OpImm Addi 9 10 0 ∷ [])))
-    ++ (Label 6 ∷ plain (OpImm Addi 10 9 0 ∷ Load Lw 9 2 4 ∷ Load Lw 1 2 0 ∷ OpImm Addi 2 2 16 ∷ Jalr 0 1 0 ∷ []))
-    ++ (Label 7 ∷ [])
+    ++ (Label 6 ∷ plain (OpImm Addi 10 9 0 ∷ []))
+    ++ (Label 7 ∷ plain (Load Lw 9 2 4 ∷ Load Lw 1 2 0 ∷ OpImm Addi 2 2 16 ∷ Jalr 0 1 0 ∷ []))
 unfolding is_small is_near frame_cost keeps_return_address
 their_items = refl
 
 they_have_no_fault : first_fault two_functions their_places ≡ None
 unfolding frame_cost keeps_return_address
 they_have_no_fault = refl
+
+-- ---- returns
+
+abbrev code_of : List InstructionTree → TacFunctionTree
+code_of code = record { parameters = []; temporaries = 0; blocks = []; code = code }
+
+abbrev body_of : List InstructionTree → List Item
+body_of code = body_items (record { function = code_of code; places = all_slots (code_of code); data_at = λ block. 0 }) some_labels 0 code
+
+-- the first return goes to the epilogue, and the last one falls into it
+one_epilogue :
+    body_of (return (Some (Constant 1)) ∷ return (Some (Constant 2)) ∷ [])
+    ≡ Label 200 ∷ plain (OpImm Addi 10 0 1 ∷ [])
+    ++ (Jump 0 202 ∷ Label 201 ∷ plain (OpImm Addi 10 0 2 ∷ []))
+    ++ (Label 202 ∷ plain (OpImm Addi 2 2 16 ∷ Jalr 0 1 0 ∷ []))
+unfolding is_small frame_cost keeps_return_address
+one_epilogue = refl
+
+-- code that ends with another instruction has none at its end
+an_epilogue_of_its_own :
+    body_of (return None ∷ jump 0 ∷ [])
+    ≡ Label 200 ∷ plain (OpImm Addi 2 2 16 ∷ Jalr 0 1 0 ∷ []) ++ (Label 201 ∷ Jump 0 200 ∷ Label 202 ∷ [])
+unfolding is_small frame_cost keeps_return_address
+an_epilogue_of_its_own = refl
 
 -- ---- values in registers: x5, which calls change, and x9, which is saved; the slot of the last temporary lies first
 

@@ -1,6 +1,6 @@
 -- How many words the code of each piece takes.
 use Rattle.std.proofs.Common.{◌≡◌, ℕ, zero, suc, ◌+◌, ◌*◌, ◌%◌, ◌/◌, ◌^◌, ◌==◌, ◌≤◌, ◌⊎◌, inl, inr, ⊎_elim, Bool, true, false, List, [], ◌∷◌, ◌++◌, length, Option, Some, None, refl, sym, ap, ◌∙◌, subst, arith, length-append}
-use Rattle.std.specs.Prelude.{◌-◌, nat_lt, ◌&&◌, if◌then◌else◌, sum_by, unwrap_or, slice_get, slice_index_or}
+use Rattle.std.specs.Prelude.{◌-◌, nat_lt, ◌&&◌, if◌then◌else◌, is_some, sum_by, unwrap_or, slice_get, slice_index_or}
 use Rattle.std.proofs.lemmas.Bool.{cases_lt}
 use Rattle.std.proofs.lemmas.Bool.Decides.{nat_tests}
 use Rattle.std.proofs.lemmas.List.Sums.{sum_by-cons, sum_by-append}
@@ -33,7 +33,7 @@ use Rattle.qs_tac.specs.Trees.{copy, fill, call, jump, branch, return, TacFuncti
 use Rattle.qs_tac.specs.Places.{PlacesTree, place_of, no_places, Accepted}
 use Rattle.qs_tac.specs.Laws.{AreAccepted}
 use Rattle.qs_tac.specs.Sizes as sizes
-use Rattle.qs_tac.specs.Sizes.{reach, slot_words, constant_words, operand_words, base_words, offset_words, address_words, operation_words, callee_words, taken_words, condition_words, parameter_words, enter_words, leave_words, instruction_words, words, unit_words}
+use Rattle.qs_tac.specs.Sizes.{reach, slot_words, constant_words, operand_words, base_words, offset_words, address_words, operation_words, callee_words, taken_words, condition_words, parameter_words, enter_words, leave_words, returned_words, instruction_words, words, unit_words}
 use Rattle.qs_tac.specs.Operands.{is_constant}
 use Rattle.qs_tac.specs.declared.places.Place.{Place}
 use Rattle.qs_tac.specs.declared.places.Place.TheVariants.{Slot, Register}
@@ -50,7 +50,7 @@ use Rattle.qs_emit_selection.specs.Pieces.{sltiu, sltu, is_small, low_part, cons
 use Rattle.qs_emit_selection.specs.Operands.{Context, stored, slot_offset, constant_count, place_into, byte_into, into, register_of, stands_in, unless_there, operand_code, operand_register, put_place, put, result_register, result_code, move_to, Anchor, displacement, behind_frame, behind_pointer, based, add_elements, add_index, anchor_of, address_into, is_word_address}
 use Rattle.qs_emit_selection.specs.Operations.{constant_of, or_code, both, on_both, arithmetic, less, apart, compare, move_by, move_by_elements, moved, elements_between}
 use Rattle.qs_emit_selection.specs.Operations as operations
-use Rattle.qs_emit_selection.specs.Emission.{copy_code, unless_none, fill_code, save, restore, take_parameter, take_parameters, enter, leave, pass, take_result, Labels, goes_to, compare_branch, compare_items, branch_items, gives, instruction_items, body_items, function_items, first_label, labels_of, functions_items, environment, start_items, unit_items}
+use Rattle.qs_emit_selection.specs.Emission.{copy_code, unless_none, fill_code, save, restore, take_parameter, take_parameters, enter, leave, result_into, returned, ends_from, has_one_epilogue, epilogue, last_items, pass, take_result, Labels, goes_to, compare_branch, compare_items, branch_items, gives, instruction_items, body_items, function_items, first_label, labels_of, functions_items, environment, start_items, unit_items}
 use Rattle.qs_emit_selection.specs.Laws.{KeepsWords, UnitKeepsWords}
 
 -- from so many to so many instructions
@@ -491,6 +491,10 @@ module _ (c : Context) (accepted : Accepted c.function c.places) where
   leave_long =
       wider (omega arith) (omega arith) (then_long (restore_long c) (then_long (stack_long _) (one _)))
 
+  returned_long : (o : Option Operand) → Long 0 (returned_words c.function o) (result_into c o)
+  returned_long None = record { least = omega arith; most = omega arith }
+  returned_long (Some o) = wider (omega arith) (omega arith) (into_long c accepted a0 o)
+
   -- ---- calls
 
   pass_long : (register : ℕ) (operands : List Operand) → Long 0 (sum_by (operand_words c.function) operands) (pass c register operands)
@@ -591,8 +595,11 @@ module _ (c : Context) (labels : Labels) (accepted : Accepted c.function c.place
       wider_items (omega arith) (omega arith) (then_items (plain_items (pass_long c accepted a0 arguments)) (then_items (goes_items f) (plain_items (taken_long c accepted x))))
   instruction_long (jump to) = one_item _
   instruction_long (branch b to) = branch_items_long b _
-  instruction_long (return None) = plain_items (leave_long c accepted)
-  instruction_long (return (Some o)) = plain_items (wider (omega arith) (omega arith) (then_long (into_long c accepted a0 o) (leave_long c accepted)))
+  instruction_long (return o) = wider_items (omega arith) (omega arith) (then_items (plain_items (returned_long c accepted o)) (out (has_one_epilogue c.function)))
+    where
+      out : (b : Bool) → Items 1 leave_words (if b then items.Jump x0 (labels.instruction (length c.function.code)) ∷ [] else plain (leave c))
+      out true = wider_items (omega arith) (omega arith) (one_item _)
+      out false = plain_items (leave_long c accepted)
 
 pub words_are_kept : (c : Context) (labels : Labels) → Accepted c.function c.places → KeepsWords c labels
 words_are_kept c labels accepted = record {
@@ -603,17 +610,51 @@ words_are_kept c labels accepted = record {
 
 -- ---- functions and units
 
-body_words : (c : Context) (labels : Labels) (k : ℕ) (code : List InstructionTree) → Accepted c.function c.places → sum_by item_words (body_items c labels k code) ≤ sum_by (instruction_words c.function) code
-body_words c labels k [] accepted = omega (arith, sum_by-cons item_words (items.Label (labels.instruction k)) [])
-body_words c labels k (i ∷ code) accepted =
-    let rest = body_items c labels (k + 1) code in
+-- behind code that ends with a return there is room for the epilogue
+abbrev epilogue_words : (is_return : Bool) → ℕ
+epilogue_words is_return = if is_return then leave_words else 0
+
+last_words : (c : Context) (labels : Labels) (i : InstructionTree) → Accepted c.function c.places → length (epilogue c) ≤ epilogue_words (is_some (returned i)) → sum_by item_words (last_items c labels i (returned i)) + length (epilogue c) ≤ instruction_words c.function i
+last_words c labels (return o) accepted room =
+    let result = (returned_long c accepted o).most in
+    let e = plain_sum (result_into c o) in
+    omega (arith, e, result, room)
+last_words c labels (move x o) accepted room = let most = (instruction_long c labels accepted (move x o)).most in omega (arith, most, room)
+last_words c labels (unary op x o) accepted room = let most = (instruction_long c labels accepted (unary op x o)).most in omega (arith, most, room)
+last_words c labels (binary op x o p) accepted room = let most = (instruction_long c labels accepted (binary op x o p)).most in omega (arith, most, room)
+last_words c labels (convert t x o) accepted room = let most = (instruction_long c labels accepted (convert t x o)).most in omega (arith, most, room)
+last_words c labels (address_of x p) accepted room = let most = (instruction_long c labels accepted (address_of x p)).most in omega (arith, most, room)
+last_words c labels (load t x p) accepted room = let most = (instruction_long c labels accepted (load t x p)).most in omega (arith, most, room)
+last_words c labels (store t p o) accepted room = let most = (instruction_long c labels accepted (store t p o)).most in omega (arith, most, room)
+last_words c labels (copy size alignment p q) accepted room = let most = (instruction_long c labels accepted (copy size alignment p q)).most in omega (arith, most, room)
+last_words c labels (fill blank p) accepted room = let most = (instruction_long c labels accepted (fill blank p)).most in omega (arith, most, room)
+last_words c labels (call x f arguments) accepted room = let most = (instruction_long c labels accepted (call x f arguments)).most in omega (arith, most, room)
+last_words c labels (jump to) accepted room = let most = (instruction_long c labels accepted (jump to)).most in omega (arith, most, room)
+last_words c labels (branch b to) accepted room = let most = (instruction_long c labels accepted (branch b to)).most in omega (arith, most, room)
+
+body_words : (c : Context) (labels : Labels) (k : ℕ) (is_return : Bool) (code : List InstructionTree) → Accepted c.function c.places → length (epilogue c) ≤ epilogue_words (ends_from is_return code) → (code ≡ [] → length (epilogue c) ≡ 0) → sum_by item_words (body_items c labels k code) ≤ sum_by (instruction_words c.function) code
+body_words c labels k is_return [] accepted room none =
+    let e = sum_by-cons item_words (items.Label (labels.instruction k)) (plain (epilogue c)) in
+    let f = plain_sum (epilogue c) in
+    let z = none refl in
+    omega (arith, e, f, z)
+body_words c labels k is_return (i ∷ []) accepted room none =
+    let most = last_words c labels i accepted room in
+    let e = sum_by-cons item_words (items.Label (labels.instruction k)) (last_items c labels i (returned i) ++ (items.Label (labels.instruction (k + 1)) ∷ plain (epilogue c))) in
+    let f = sum_by-append item_words (last_items c labels i (returned i)) (items.Label (labels.instruction (k + 1)) ∷ plain (epilogue c)) in
+    let g = sum_by-cons item_words (items.Label (labels.instruction (k + 1))) (plain (epilogue c)) in
+    let j = plain_sum (epilogue c) in
+    let all = sum_by-cons (instruction_words c.function) i [] in
+    omega (arith, most, e, f, g, j, all)
+body_words c labels k is_return (i ∷ d ∷ code) accepted room none =
+    let rest = body_items c labels (k + 1) (d ∷ code) in
     omega (
       arith,
       sum_by-cons item_words (items.Label (labels.instruction k)) (instruction_items c labels i ++ rest),
       sum_by-append item_words (instruction_items c labels i) rest,
-      sum_by-cons (instruction_words c.function) i code,
+      sum_by-cons (instruction_words c.function) i (d ∷ code),
       (instruction_long c labels accepted i).most,
-      body_words c labels (k + 1) code accepted,
+      body_words c labels (k + 1) (is_some (returned i)) (d ∷ code) accepted room (λ e. cc),
     )
 
 pub functions_keep_words : (c : Context) (labels : Labels) (f : ℕ) → Accepted c.function c.places → sum_by item_words (function_items c labels f) ≤ words c.function
@@ -624,8 +665,15 @@ functions_keep_words c labels f accepted =
       sum_by-append item_words (plain (enter c)) (body_items c labels 0 c.function.code),
       plain_sum (enter c),
       (enter_long c accepted).most,
-      body_words c labels 0 c.function.code accepted,
+      body_words c labels 0 false c.function.code accepted (room (has_one_epilogue c.function)) none,
     )
+  where
+    room : (b : Bool) → length (if b then leave c else []) ≤ (if b then leave_words else 0)
+    room true = (leave_long c accepted).most
+    room false = omega arith
+
+    none : c.function.code ≡ [] → length (epilogue c) ≡ 0
+    none e = ap (λ (code : List InstructionTree). length (if ends_from false code then leave c else [])) e
 
 module _ (u : TacUnitTree) (ps : List PlacesTree) (data_at : ℕ → ℕ) where
   -- the places of these functions, the first of which has this number

@@ -19,7 +19,7 @@ use Rattle.qs_emit_selection.specs.Data.{data_address}
 use Rattle.qs_emit_selection.specs.Operands.{Context, Anchor, behind_pointer, based, anchor_of}
 use Rattle.qs_emit_selection.specs.Operations.{moved, constant_of}
 use Rattle.qs_emit_selection.specs.Emission.{Labels, labels_of, take_parameter, take_parameters}
-use Rattle.qs_emit_selection.specs.Emission.{instruction_items, body_items, function_items}
+use Rattle.qs_emit_selection.specs.Emission.{instruction_items, items_at, body_items, function_items}
 
 abbrev pub context_tree : FunctionContext → Context
 context_tree c = record {
@@ -69,6 +69,10 @@ fill_items c blank to = items_of c (fill blank to)
 
 abbrev pub call_items : FunctionContext → Option ℕ → Callee → List Operand → List Item
 call_items c x callee arguments = items_of c (call x callee arguments)
+
+-- of an instruction that is the last one or not
+abbrev pub placed_items : FunctionContext → (is_last : Bool) → InstructionTree → List Item
+placed_items c is_last i = items_at (context_tree c) (labels_tree c) is_last i
 
 -- those of the function, behind its label, and those of its instructions
 abbrev pub whole_items : FunctionContext → List Item

@@ -1,6 +1,6 @@
 -- What each instruction of linear code becomes.
 use Rattle.std.specs.Prelude.{ℕ, zero, suc, ◌+◌, ◌*◌, ◌-◌, ◌/◌, ◌%◌, ◌^◌, ◌==◌, ◌&&◌, Bool, true, false, if◌then◌else◌}
-use Rattle.std.specs.Prelude.{List, [], ◌∷◌, ◌++◌, length, Option, Some, None, slice_index_or}
+use Rattle.std.specs.Prelude.{List, [], ◌∷◌, ◌++◌, length, Option, Some, None, is_some, slice_index_or}
 use Rattle.qs_memory.specs.Sizes.{blank_size}
 use Rattle.qs_memory.specs.declared.operation.Signedness.{Signedness}
 use Rattle.qs_memory.specs.declared.operation.Signedness.TheVariants.{Signed, Unsigned}
@@ -82,6 +82,11 @@ enter c =
 abbrev pub leave : Context → List Instr
 leave c = restore (stored c) 0 ++ (move_stack (frame_of c).cost ++ jalr x0 ra 0 ∷ [])
 
+-- the result of a function into a0
+abbrev pub result_into : Context → Option Operand → List Instr
+result_into c None = []
+result_into c (Some o) = into c a0 o
+
 -- ---- calls
 
 -- arguments into a0 to a7
@@ -137,6 +142,41 @@ branch_items c (Zero o) label = plain (operand_code c a0 o) ++ items.Branch Beq 
 branch_items c (Compare op s x y) label = compare_items c op s x y label
 branch_items c (ComparePointers op x y) label = compare_items c op Unsigned x y label
 
+-- ---- returns
+
+-- the result, or none, that an instruction returns, if it returns
+abbrev pub returned : InstructionTree → Option (Option Operand)
+returned (move x o) = None
+returned (unary op x o) = None
+returned (binary op x o p) = None
+returned (convert s x o) = None
+returned (address_of x p) = None
+returned (load s x p) = None
+returned (store s p o) = None
+returned (copy size alignment p q) = None
+returned (fill b p) = None
+returned (call x f arguments) = None
+returned (jump to) = None
+returned (branch condition to) = None
+returned (return o) = Some o
+
+-- whether code ends with a return, behind an instruction that is one or not
+abbrev pub ends_from : (is_return : Bool) → List InstructionTree → Bool
+ends_from is_return [] = is_return
+ends_from is_return (i ∷ code) = ends_from (is_some (returned i)) code
+
+-- code that ends with a return has one epilogue, behind it: the other returns go there
+abbrev pub has_one_epilogue : TacFunctionTree → Bool
+has_one_epilogue f = ends_from false f.code
+
+abbrev pub epilogue : Context → List Instr
+epilogue c = if has_one_epilogue c.function then leave c else []
+
+-- to the label at the end
+abbrev pub go_out : Context → Labels → List Item
+go_out c labels =
+    if has_one_epilogue c.function then items.Jump x0 (labels.instruction (length c.function.code)) ∷ [] else plain (leave c)
+
 -- ---- the table
 
 -- code that makes a result in a register, and the result into its place
@@ -164,16 +204,28 @@ instruction_items c labels (call x f arguments) =
     plain (pass c a0 arguments) ++ (goes_to labels f ++ plain (take_result c x))
 instruction_items c labels (jump to) = items.Jump x0 (labels.instruction to) ∷ []
 instruction_items c labels (branch condition to) = branch_items c condition (labels.instruction to)
-instruction_items c labels (return None) = plain (leave c)
-instruction_items c labels (return (Some o)) = plain (into c a0 o ++ leave c)
+instruction_items c labels (return o) = plain (result_into c o) ++ go_out c labels
 
 -- ---- functions
 
--- each instruction behind its label, and a label at the end
+-- a return at the end needs no jump
+abbrev pub last_items : Context → Labels → InstructionTree → Option (Option Operand) → List Item
+last_items c labels i None = instruction_items c labels i
+last_items c labels i (Some o) = plain (result_into c o)
+
+-- nothing comes behind
+abbrev pub is_end : List InstructionTree → Bool
+is_end [] = true
+is_end (i ∷ code) = false
+
+abbrev pub items_at : Context → Labels → (is_last : Bool) → InstructionTree → List Item
+items_at c labels is_last i = if is_last then last_items c labels i (returned i) else instruction_items c labels i
+
+-- each instruction behind its label, and the epilogue behind the label at the end
 abbrev pub body_items : Context → Labels → (k : ℕ) → List InstructionTree → List Item
-body_items c labels k [] = items.Label (labels.instruction k) ∷ []
+body_items c labels k [] = items.Label (labels.instruction k) ∷ plain (epilogue c)
 body_items c labels k (i ∷ code) =
-    items.Label (labels.instruction k) ∷ (instruction_items c labels i ++ body_items c labels (k + 1) code)
+    items.Label (labels.instruction k) ∷ (items_at c labels (is_end code) i ++ body_items c labels (k + 1) code)
 
 abbrev pub function_items : Context → Labels → (f : ℕ) → List Item
 function_items c labels f =

@@ -17,7 +17,7 @@ use Rattle.qs_frames.specs.Layout.{largest_frame}
 use Rattle.qs_calls.specs.declared.callee.Callee.{Callee}
 use Rattle.qs_emit_selection.specs.Operands.{Context, frame_of}
 use Rattle.qs_emit_selection.specs.Limits.{most_arguments}
-use Rattle.qs_emit_selection.specs.Emission.{Labels, instruction_items, enter, function_items, unit_items}
+use Rattle.qs_emit_selection.specs.Emission.{Labels, instruction_items, enter, leave, function_items, unit_items}
 
 -- ---- words
 
@@ -50,6 +50,7 @@ pub record AreSelectedWords (u : TacUnitTree) (c : Context) (labels : Labels) : 
   pub instruction :
       (i : InstructionTree) → instruction_fits u c.function i ≡ true → HasFewArguments i
       → AreItems (instruction_items c labels i)
+  pub leave : AreItems (plain (leave c))
 
 abbrev pub WhatIsSelectedAreWords : Type 0
 WhatIsSelectedAreWords = (u : TacUnitTree) (c : Context) (labels : Labels) → IsContext c → AreSelectedWords u c labels

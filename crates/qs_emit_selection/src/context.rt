@@ -5,7 +5,7 @@ ghost use Rattle.qs_tac.specs.Places.{places_tree};
 ghost use Rattle.qs_frames.specs.Layout.{layout, slot_at, block_offset, stored_registers};
 ghost use Rattle.qs_frames.specs.Starts.{BeginAt};
 ghost use Rattle.qs_emit_selection.specs.Data.{data_address};
-ghost use Rattle.qs_emit_selection.specs.Emission.{first_label};
+ghost use Rattle.qs_emit_selection.specs.Emission.{first_label, has_one_epilogue};
 ghost use Rattle.qs_emit_selection.specs.Limits.{places_fit};
 
 use qs_frames::{Frame, Starts};
@@ -27,6 +27,8 @@ pub struct FunctionContext<'a> {
     pub slots: &'a Starts,
     /// the registers that its entry stores
     pub stored: &'a [u32],
+    /// whether it has one epilogue, at its end
+    pub one_epilogue: bool,
     /// the offsets of its blocks from x2
     pub blocks: &'a Starts,
     /// the addresses of the unit's data
@@ -39,6 +41,7 @@ pub struct FunctionContext<'a> {
     ghost framed: { frame ≡ layout (function_tree function.now) (places_tree places.now) },
     ghost slotted: { BeginAt slots.now (slot_at (function_tree function.now) (places_tree places.now)) },
     ghost keeps: { stored.now ≡ stored_registers (function_tree function.now) (places_tree places.now) },
+    ghost returns: { one_epilogue ≡ has_one_epilogue (function_tree function.now) },
     ghost offsets: { BeginAt blocks.now (block_offset (function_tree function.now) frame) },
     ghost addresses: { BeginAt data_starts.now (data_address unit.now.data_blocks.items) },
     ghost labelled: { BeginAt labels.now (first_label (function_trees unit.now.functions.items)) },

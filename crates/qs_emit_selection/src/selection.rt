@@ -15,6 +15,7 @@ use crate::calls::put_environment;
 use crate::context::FunctionContext;
 use crate::fault::SelectionFault;
 use crate::functions::put_function;
+use crate::instructions::ends_with_return;
 use crate::limits::first_fault;
 use crate::pieces::put_item;
 use qs_asm::Item;
@@ -91,6 +92,7 @@ fn put_function_at(
         frame,
         slots: &slots,
         stored: &stored,
+        one_epilogue: ends_with_return(&function.code),
         blocks: &blocks,
         data_starts,
         number,

@@ -14,6 +14,7 @@ invariant-loop-i l = record {
       l.items.items ++ body_items (context_tree l.fn.c) (labels_tree l.fn.c) l.k (map instruction_tree (drop l.i-index l.fn.c.function.now.code.items))
       ≡ l.initial.items.items
       ++ body_items (context_tree l.fn.c) (labels_tree l.fn.c) 0 (map instruction_tree l.fn.c.function.now.code.items);
+  at : l.k ≡ l.i-index;
   few : list_all passes_few (map instruction_tree (drop l.i-index l.fn.c.function.now.code.items)) ≡ true;
   fits :
       list_all (instruction_fits (unit_tree l.fn.c.unit.now) (function_tree l.fn.c.function.now))

@@ -73,8 +73,9 @@ fn real_files(rt: HostRuntime) -> Result<(), Fail> {
     ];
     let statuses = statuses(&rt, builds.as_slice(), out.as_str(), log.as_str())?;
     assert_eq!(rt; statuses.as_slice(), [0, 1, 4, 5, 5, 5, 3].as_slice());
+    // The fifth byte of the image is the count of its words, 10: as text, a line feed.
     let told = format!(in alloc;
-        "{image}:1:6: bad byte\nmissing: /tmp/qsc_test_no_such_file.c\nfailed: /tmp\n\
+        "{image}:2:1: bad byte\nmissing: /tmp/qsc_test_no_such_file.c\nfailed: /tmp\n\
         failed: /tmp\nfailed: /dev/full\nsame name: {source}\n"
     )?;
     for (name, bytes) in [

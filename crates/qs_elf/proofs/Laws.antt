@@ -4,10 +4,10 @@ use Rattle.std.specs.Prelude.{◌==◌, if◌then◌else◌}
 use Rattle.std.proofs.lemmas.Bool.{and_parts, eq-eqb, eqb-true}
 use Rattle.std.proofs.lemmas.Bool.Decides.{nat_tests}
 use Rattle.std.proofs.lemmas.List.{length-append, length-replicate, length-drop, length-take, length-take-le, take_at, drop_at, take-append-drop}
-use Rattle.qs_image.specs.Bytes.{word, entry_word, code_count, byte_count, function_count, names_length, size, behind_names, code_of, image_of}
+use Rattle.qs_image.specs.Bytes.{word, entry_word, code_count, byte_count, function_count, names_length, table_bytes, size, behind_names, code_of, image_of}
 use Rattle.qs_image.specs.Faults.{HasNoFault, is_address}
 use Rattle.qs_image.proofs.Checks.{between-means, address-means}
-use Rattle.qs_image.proofs.Parts.{length-words}
+use Rattle.qs_image.proofs.Parts.{length-words, table_bytes-most}
 use Rattle.qs_image.proofs.Words.{number-word_bytes}
 use Rattle.qs_image.proofs.Wholes.{passes}
 use Rattle.qs_elf.specs.Elf as elf
@@ -106,7 +106,7 @@ pub record Sizes (image : List ℕ) : Type 0 where
   pub whole : length image ≡ size image
   pub code : code_count image ≤ 262144
   pub octets : byte_count image ≤ 16777216
-  pub functions : function_count image ≤ 512
+  pub table : table_bytes image ≤ 8192
   pub names : names_length image ≤ 1048576
   pub entry : word entry_word image < 2 ^ 32
 
@@ -117,13 +117,14 @@ sizes image none =
     let no_more : length image ≤ size image = let h = p.no_more in grind (arith, nat_tests) in
     let code = between-means 1 262144 (code_count image) p.code in
     let functions = between-means 1 512 (function_count image) p.functions in
+    let table = table_bytes-most image in
     let names = between-means 1 1048576 (names_length image) p.joined in
     let octets : byte_count image ≤ 16777216 = let h = p.octets in grind (arith, nat_tests) in
     let count = length (image_of image).code in
     let count_is = length-words (length (code_of image) / 4) (code_of image) in
     let taken = length-take (4 * code_count image) (behind_names image) in
     let entry = address-means count (word 5 image) (and_parts (is_address count (word 5 image)) _ p.addresses).0 in
-    record { whole = omega arith; code = code.1; octets = octets; functions = functions.1; names = names.1; entry = omega arith }
+    record { whole = omega arith; code = code.1; octets = octets; table = omega (arith, functions, table); names = names.1; entry = omega arith }
 
 -- what the code and the data of an image take of it
 pub room : (image : List ℕ) → HasNoFault image → (32 ≤ length image) × (4 * code_count image + byte_count image ≤ length image)
@@ -172,7 +173,7 @@ fit image none =
     let k = head_bytes image in
     record {
       entry = s.entry;
-      head = omega (arith, length-take k image, s.whole, s.code, s.octets, s.functions, s.names);
+      head = omega (arith, length-take k image, s.whole, s.code, s.octets, s.table, s.names);
       code = omega (arith, length-take (4 * code_count image) (drop k image), s.code);
       data_bytes = omega (arith, s.whole, length-drop (4 * code_count image) (drop k image), length-drop k image, s.octets);
     }
@@ -188,7 +189,7 @@ within image none =
     let rest = length-drop (4 * code_count image) (drop k image) in
     let behind = length-drop k image in
     let whole = s.whole in
-    omega (arith, s.code, s.octets, s.functions, s.names)
+    omega (arith, s.code, s.octets, s.table, s.names)
 
 pub small : (image : List ℕ) → HasNoFault image → IsSmall (parts_of image)
 small image none = omega (arith, length-elf (parts_of image), within image none)

@@ -1,17 +1,21 @@
 -- What the tests of reading test.
-use Rattle.std.proofs.Common.{◌≡◌, inl, inr, cond, ℕ, zero, suc, ◌+◌, ◌-◌, ◌*◌, ◌/◌, ◌%◌, ◌^◌, ◌<◌, ◌≤◌, Bool, true, false, not, List, [], ◌∷◌, length, get_or, map, All, Option, Some, None, refl, sym, arith}
-use Rattle.std.specs.Prelude.{◌≢◌, ◌&&◌, ◌==◌, nat_le, nat_lt, bytes_eq, AllPairs, Contains}
+use Rattle.std.proofs.Common.{◌≡◌, inl, inr, cond, ℕ, zero, suc, ◌+◌, ◌-◌, ◌*◌, ◌/◌, ◌%◌, ◌^◌, ◌<◌, ◌≤◌, Bool, true, false, not, List, [], ◌∷◌, length, get_or, map, All, Option, Some, None, refl, sym, arith, le-leb}
+use Rattle.std.specs.Prelude.{◌≢◌, ◌&&◌, ◌||◌, ◌==◌, nat_le, nat_lt, bytes_eq, codes, AllPairs, Contains}
 use Rattle.std.specs.List.{list_any, position_from}
-use Rattle.std.proofs.lemmas.Bool.{and_parts, and_from, or_cases, cases_Bool, not-true}
+use Rattle.std.proofs.lemmas.Bool.{and_parts, and_from, or_cases, cases_Bool, not-true, eq-eqb, eqb-true}
 use Rattle.std.proofs.Math.Bool.{or-true}
 use Rattle.std.proofs.lemmas.Bool.Decides.{nat_tests}
 use Rattle.std.proofs.lemmas.Slice.Eq.{bytes_eq-Decides}
-use Rattle.std.proofs.lemmas.List.Elements.{All-head, All-tail, All-cons, All-nil}
+use Rattle.std.proofs.lemmas.List.Elements.{All-head, All-tail, All-cons, All-nil, All-weaker}
 use Rattle.std.proofs.lemmas.List.Folds.{list_any_none, list_any_at}
 use Rattle.qs_base.specs.Bytes.{is_between}
 use Rattle.qs_isa.specs.Addresses.{code_start}
-use Rattle.qs_image.specs.Image.{FunctionRecord, IsBetween, IsAddress, IsCost}
-use Rattle.qs_image.specs.Faults.{all_differ, is_address, is_cost}
+use Rattle.qs_base.specs.Parameters.{most_parameters}
+use Rattle.qs_image.specs.declared.version.Version.{Version}
+use Rattle.qs_image.specs.declared.version.Version.TheVariants.{First, Second}
+use Rattle.qs_image.specs.Image.{FunctionRecord, IsBetween, IsAddress, IsCost, HasCount, HasParameters}
+use Rattle.qs_image.specs.Faults.{all_differ, is_address, is_cost, has_parameters}
+use Rattle.qs_image.proofs.Tables.{Says}
 
 -- ---- numbers
 
@@ -50,22 +54,67 @@ cost-holds cost h =
     let whole : (cost % 16 == 0) ≡ true = let e : cost % 16 ≡ 0 = omega arith in grind (arith, nat_tests) in
     and_from _ _ ends whole
 
--- ---- costs
+-- ---- each record
 
 skipped : (b : Bool) (i : ℕ) (rest : Option ℕ) → cond (not b) (Some i) rest ≡ None → (b ≡ true) × (rest ≡ None)
 skipped true i rest e = (refl, e)
 skipped false i rest e = absurd cc
 
+-- none fails a test: each passes it
+none-fails : (test : FunctionRecord → Bool) (i : ℕ) (fs : List FunctionRecord) → position_from (λ f. not (test f)) i fs ≡ None → All (λ f. test f ≡ true) fs
+none-fails test i [] e = All-nil (λ f. test f ≡ true)
+none-fails test i (f ∷ fs) e =
+    let both = skipped (test f) i (position_from (λ f. not (test f)) (i + 1) fs) e in
+    All-cons (λ f. test f ≡ true) f fs both.0 (none-fails test (i + 1) fs both.1)
+
+each-passes : (test : FunctionRecord → Bool) (i : ℕ) (fs : List FunctionRecord) → All (λ f. test f ≡ true) fs → position_from (λ f. not (test f)) i fs ≡ None
+each-passes test i [] h = refl
+each-passes test i (f ∷ fs) h =
+    rw (All-head (λ f. test f ≡ true) f fs h) (each-passes test (i + 1) fs (All-tail (λ f. test f ≡ true) f fs h))
+
 pub costs-mean : (i : ℕ) (fs : List FunctionRecord) → position_from (λ f. not (is_cost f.cost)) i fs ≡ None → All (λ f. IsCost f.cost) fs
-costs-mean i [] e = All-nil (λ f. IsCost f.cost)
-costs-mean i (f ∷ fs) e =
-    let both = skipped (is_cost f.cost) i (position_from (λ f. not (is_cost f.cost)) (i + 1) fs) e in
-    All-cons (λ f. IsCost f.cost) f fs (cost-means f.cost both.0) (costs-mean (i + 1) fs both.1)
+costs-mean i fs e = All-weaker (λ f. is_cost f.cost ≡ true) (λ f. IsCost f.cost) (λ f h. cost-means f.cost h) fs (none-fails (λ f. is_cost f.cost) i fs e)
 
 pub costs-hold : (i : ℕ) (fs : List FunctionRecord) → All (λ f. IsCost f.cost) fs → position_from (λ f. not (is_cost f.cost)) i fs ≡ None
-costs-hold i [] h = refl
-costs-hold i (f ∷ fs) h =
-    rw (cost-holds f.cost (All-head (λ f. IsCost f.cost) f fs h)) (costs-hold (i + 1) fs (All-tail (λ f. IsCost f.cost) f fs h))
+costs-hold i fs h = each-passes (λ f. is_cost f.cost) i fs (All-weaker (λ f. IsCost f.cost) (λ f. is_cost f.cost ≡ true) (λ f h. cost-holds f.cost h) fs h)
+
+-- ---- counts of parameters
+
+main-has : (main_parameters : ℕ) (name main : List ℕ) (count : ℕ) → (not (bytes_eq name main) || count == main_parameters) ≡ true → name ≡ main → count ≡ main_parameters
+main-has main_parameters name main count test named =
+    let is : bytes_eq name main ≡ true = (bytes_eq-Decides name main).1 named in
+    eqb-true count main_parameters (rw is at test)
+
+main-test : (main_parameters : ℕ) (name main : List ℕ) (count : ℕ) → (name ≡ main → count ≡ main_parameters) → (not (bytes_eq name main) || count == main_parameters) ≡ true
+main-test main_parameters name main count has =
+    elim (cases_Bool (bytes_eq name main)) [
+      | inl is ↦ rw is (eq-eqb count main_parameters (has ((bytes_eq-Decides name main).0 is)))
+      | inr other ↦ rw other refl
+    ]
+
+count-means : (main_parameters : ℕ) (f : FunctionRecord) (count : ℕ) → f.parameters ≡ Some count → has_parameters main_parameters f ≡ true → HasCount main_parameters f
+count-means main_parameters f count is e =
+    let both = and_parts (nat_le count most_parameters) (not (bytes_eq f.name (codes "main")) || count == main_parameters) (rw is at e) in
+    record { count = count; is = is; most = (let h = both.0 in grind (arith, nat_tests)); main = main-has main_parameters f.name (codes "main") count both.1 }
+
+parameters-mean : (v : Version) (main_parameters : ℕ) (f : FunctionRecord) → Says v f.parameters → has_parameters main_parameters f ≡ true → HasParameters v main_parameters f
+parameters-mean First main_parameters f said e = said
+parameters-mean Second main_parameters f said e = count-means main_parameters f said.count said.is e
+
+parameters-test : (v : Version) (main_parameters : ℕ) (f : FunctionRecord) → HasParameters v main_parameters f → has_parameters main_parameters f ≡ true
+parameters-test First main_parameters f none = rw none refl
+parameters-test Second main_parameters f has =
+    rw has.is (and_from _ _ (le-leb has.count most_parameters has.most) (main-test main_parameters f.name (codes "main") has.count has.main))
+
+pub counts-mean :
+    (v : Version) (main_parameters i : ℕ) (fs : List FunctionRecord) → All (λ f. Says v f.parameters) fs → position_from (λ f. not (has_parameters main_parameters f)) i fs ≡ None
+    → All (λ f. HasParameters v main_parameters f) fs
+counts-mean v main_parameters i fs say e k d lt =
+    parameters-mean v main_parameters (get_or fs k d) (say k d lt) (none-fails (λ f. has_parameters main_parameters f) i fs e k d lt)
+
+pub counts-hold : (v : Version) (main_parameters i : ℕ) (fs : List FunctionRecord) → All (λ f. HasParameters v main_parameters f) fs → position_from (λ f. not (has_parameters main_parameters f)) i fs ≡ None
+counts-hold v main_parameters i fs h =
+    each-passes (λ f. has_parameters main_parameters f) i fs (All-weaker (λ f. HasParameters v main_parameters f) (λ f. has_parameters main_parameters f ≡ true) (λ f h. parameters-test v main_parameters f h) fs h)
 
 -- ---- names
 

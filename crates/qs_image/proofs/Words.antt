@@ -1,6 +1,6 @@
 -- Words that are written are read again, and words that are read are what was written.
 use Rattle.std.proofs.Common.{◌≡◌, inl, inr, ℕ, zero, suc, ◌+◌, ◌*◌, ◌/◌, ◌%◌, ◌^◌, ◌<◌, ◌≤◌, List, [], ◌∷◌, ◌++◌, length, take, drop, slice_index, All, refl, sym, ap, ◌∙◌, arith}
-use Rattle.std.proofs.lemmas.List.{length-drop, drop-drop, get_or-drop, get_or-take, get_or_past, length-take}
+use Rattle.std.proofs.lemmas.List.{length-drop, drop-drop, get_or-drop, get_or-take, get_or_past, length-take, take-append-drop}
 use Rattle.std.proofs.lemmas.List.Elements.{All-head, All-tail, All-nil, All-cons, All-from_get_or}
 use Rattle.std.proofs.lemmas.Bool.{cases_lt}
 use Rattle.std.proofs.Math.Seq.{take-add}
@@ -57,6 +57,15 @@ words_bytes-words (suc n) bytes long fits =
     let front = word_bytes-number bytes (omega arith) fits in
     let split : take (4 * suc n) bytes ≡ take 4 bytes ++ take (4 * n) (drop 4 bytes) = let e : 4 * suc n ≡ 4 + 4 * n = omega arith in rw e (take-add 4 (4 * n) bytes) in
     ap (λ (x : List ℕ). x ++ words_bytes (words n (drop 4 bytes))) front ∙ ap (λ (x : List ℕ). take 4 bytes ++ x) rest ∙ sym split
+
+pub words_bytes-append : (ws vs : List ℕ) → words_bytes (ws ++ vs) ≡ words_bytes ws ++ words_bytes vs
+words_bytes-append [] vs = refl
+words_bytes-append (w ∷ ws) vs = ap (λ (x : List ℕ). word_bytes w ++ x) (words_bytes-append ws vs)
+
+-- so many words at the front, and what is behind them
+pub front_words : (n : ℕ) (bytes : List ℕ) → 4 * n ≤ length bytes → IsBytes bytes → words_bytes (words n bytes) ++ drop (4 * n) bytes ≡ bytes
+front_words n bytes long fits =
+    ap (λ (x : List ℕ). x ++ drop (4 * n) bytes) (words_bytes-words n bytes long fits) ∙ take-append-drop (4 * n) bytes
 
 -- the words from number i on
 pub words-at : (n i : ℕ) (bytes : List ℕ) → words (suc n) (drop (4 * i) bytes) ≡ word i bytes ∷ words n (drop (4 * suc i) bytes)

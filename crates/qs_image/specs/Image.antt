@@ -1,9 +1,17 @@
 -- The image as a pure value, and its bytes.
-use Rattle.std.specs.Prelude.{◌≡◌, ℕ, ◌+◌, ◌*◌, ◌/◌, ◌%◌, ◌^◌, ◌<◌, ◌≤◌, ◌≢◌, List, [], ◌∷◌, ◌++◌, length, map, codes, All, AllPairs, Contains, IsTrue}
+use Rattle.std.specs.Prelude.{◌≡◌, ℕ, ◌+◌, ◌*◌, ◌/◌, ◌%◌, ◌^◌, ◌<◌, ◌≤◌, ◌≢◌, List, [], ◌∷◌, ◌++◌, length, map, codes, All, AllPairs, Contains, IsTrue, Option, Some, None}
+use Rattle.std.specs.Option.{option_to_list}
 use Rattle.qs_base.specs.Names.{is_name}
 use Rattle.qs_isa.specs.Addresses.{code_start}
-use Rattle.qs_base.specs.Parameters.{most_main_parameters}
+use Rattle.qs_base.specs.Parameters.{most_main_parameters, most_parameters}
+use Rattle.qs_image.specs.declared.version.Version.{Version}
+use Rattle.qs_image.specs.declared.version.Version.TheVariants.{First, Second}
 use Rattle.qs_image.specs.Limits.{most_code_words, most_data_bytes, most_functions, most_name_bytes, largest_cost}
+
+-- the four bytes that an image of a version begins with
+abbrev pub magic : Version → List ℕ
+magic First = codes "QSI1"
+magic Second = codes "QSI2"
 
 -- a function with a body
 pub record FunctionRecord : Type 0 where
@@ -12,8 +20,12 @@ pub record FunctionRecord : Type 0 where
   pub address : ℕ
   -- the bytes of stack that a call of it costs
   pub cost : ℕ
+  -- the count of its parameters, which a record of version 1 doesn't say
+  pub parameters : Option ℕ
 
 pub record Image : Type 0 where
+  -- the version of its bytes
+  pub version : Version
   -- the address of the first instruction to run
   pub entry : ℕ
   -- the count of main's parameters, and those of them that are `unsigned`, as bits from the lowest on
@@ -43,10 +55,10 @@ abbrev pub joined_names : List FunctionRecord → List ℕ
 joined_names [] = []
 joined_names (f ∷ fs) = f.name ++ joined_names fs
 
--- a record is three words: length of name, address, cost
+-- a record is three words, in version 2 four: length of name, address, cost, count of parameters
 abbrev pub record_words : List FunctionRecord → List ℕ
 record_words [] = []
-record_words (f ∷ fs) = length f.name ∷ f.address ∷ f.cost ∷ record_words fs
+record_words (f ∷ fs) = (length f.name ∷ f.address ∷ f.cost ∷ option_to_list f.parameters) ++ record_words fs
 
 -- the words behind the first four bytes, up to the records
 abbrev pub header_words : Image → List ℕ
@@ -60,10 +72,10 @@ header_words image =
     ∷ image.unsigned_set
     ∷ []
 
--- The bytes of an image: `QSI1`, the header, the records, the names, the code, the data.
+-- The bytes of an image: those that its version begins with, the header, the records, the names, the code, the data.
 abbrev pub image_bytes : Image → List ℕ
 image_bytes image =
-    codes "QSI1"
+    magic image.version
     ++ words_bytes (header_words image)
     ++ words_bytes (record_words image.functions)
     ++ joined_names image.functions
@@ -86,6 +98,18 @@ pub record IsCost (cost : ℕ) : Type 0 where
   pub positive : 0 < cost
   pub most : cost ≤ largest_cost
 
+-- the record says a count of parameters, at most 16; main's is the one that the image says
+pub record HasCount (main_parameters : ℕ) (f : FunctionRecord) : Type 0 where
+  pub count : ℕ
+  pub is : f.parameters ≡ Some count
+  pub most : count ≤ most_parameters
+  pub main : f.name ≡ codes "main" → count ≡ main_parameters
+
+-- A record of version 1 says no count of parameters, one of version 2 does.
+abbrev pub HasParameters : Version → (main_parameters : ℕ) → FunctionRecord → Type 0
+HasParameters First main_parameters f = f.parameters ≡ None
+HasParameters Second main_parameters f = HasCount main_parameters f
+
 -- What an image keeps to.
 pub record IsWellFormed (image : Image) : Type 0 where
   pub code_count : IsBetween 1 most_code_words (length image.code)
@@ -100,6 +124,7 @@ pub record IsWellFormed (image : Image) : Type 0 where
   pub entry : IsAddress (length image.code) image.entry
   pub addresses : All (λ f. IsAddress (length image.code) f.address) image.functions
   pub costs : All (λ f. IsCost f.cost) image.functions
+  pub counts : All (λ f. HasParameters image.version image.parameters f) image.functions
   pub words : All (λ word. word < 2 ^ 32) image.code
   pub octets : All (λ byte. byte < 256) image.bytes
 

@@ -38,13 +38,14 @@ impl HeaderWord {
 }
 
 /// Why bytes are no image: the first test that they fail. The tests come in this order: `Short` for
-/// the header, `Magic`, `Count`, `Short` for the rest, `Trailing`, `Names`, `Entry`, `Cost`.
+/// the header, `Magic`, `Count`, `Short` for the rest, `Trailing`, `Names`, `Entry`, `Cost`,
+/// `Params`.
 #[derive(Clone, Copy, Debug, Error)]
 pub enum ImageFault {
     /// There are fewer than 32 bytes, or fewer than the counts ask for.
     #[error("short")]
     Short,
-    /// The bytes do not begin with `QSI1`.
+    /// The bytes begin with neither `QSI1` nor `QSI2`.
     #[error("magic")]
     Magic,
     /// This word of the header is out of its range; the first such.
@@ -64,4 +65,8 @@ pub enum ImageFault {
     /// not add up to the count of the bytes of names.
     #[error("names")]
     Names,
+    /// The count of parameters of the record of this number, from 0, is above `MOST_PARAMETERS` of
+    /// qs_base, or is main's and not the image's; the least such.
+    #[error("params {0}")]
+    Params(u32),
 }

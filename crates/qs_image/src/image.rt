@@ -11,17 +11,26 @@ pub struct FunctionRecord {
     pub address: u32,
     /// The bytes of stack that a call costs, the saved return address included.
     pub cost: u32,
+    /// The count of parameters, 0 to 16; of main that of the image.
+    pub parameters: u32,
 }
 
 impl Model for FunctionRecord {
+    ghost use Rattle.std.specs.Prelude.{Some};
     ghost use Rattle.qs_image.specs.Image.{FunctionRecord as Pure};
 
     ghost Value = { Pure };
 
-    ghost view = { λ f. record { name = f.name; address = f.address; cost = f.cost } };
+    ghost view = { λ f. record {
+      name = f.name;
+      address = f.address;
+      cost = f.cost;
+      parameters = Some f.parameters;
+    } };
 }
 
-/// A compiled program. Contracts see it as a pure image that keeps to its form: `IsWellFormed`.
+/// A compiled program. Contracts see it as a pure image of version 2 that keeps to its form:
+/// `IsWellFormed`.
 #[derive(Debug, Drop)]
 pub struct Image {
     /// The address of the first instruction to run.

@@ -7,6 +7,7 @@ mod limits;
 mod reading;
 mod records;
 mod sections;
+mod version;
 mod view;
 mod word;
 mod writing;

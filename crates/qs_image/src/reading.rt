@@ -9,8 +9,8 @@ ghost use Rattle.qs_image.specs.View.{image_in, have_names, section_tests, AreSe
 
 use crate::fault::{HeaderWord, ImageFault};
 use crate::limits::{MOST_CODE_WORDS, MOST_DATA_BYTES, MOST_FUNCTIONS, MOST_NAME_BYTES};
-use crate::records::{RECORD_BYTES, is_address};
-use crate::sections::{HEADER_BYTES, Sections};
+use crate::records::is_address;
+use crate::sections::{HEADER_BYTES, Sections, table_bytes};
 use crate::view::ImageView;
 use crate::word::header_word;
 use qs_base::MOST_MAIN_PARAMETERS;
@@ -47,7 +47,7 @@ fn header_fault(bytes: &[u8]) -> Option<ImageFault>
 {
     if bytes.len() < HEADER_BYTES {
         Some(ImageFault::Short)
-    } else if !bytes.starts_with(b"QSI1") {
+    } else if !bytes.starts_with(b"QSI1") && !bytes.starts_with(b"QSI2") {
         Some(ImageFault::Magic)
     } else {
         count_fault(bytes)
@@ -59,7 +59,7 @@ fn size_fault(bytes: &[u8]) -> Option<ImageFault>
     ensures { result ≡ first_of (size_tests bytes.now) }
 {
     let size = HEADER_BYTES
-        + RECORD_BYTES * header_word(bytes, HeaderWord::FunctionCount) as usize
+        + table_bytes(bytes)
         + header_word(bytes, HeaderWord::NamesLength) as usize
         + 4 * header_word(bytes, HeaderWord::CodeCount) as usize
         + header_word(bytes, HeaderWord::ByteCount) as usize;
@@ -97,7 +97,11 @@ fn part_fault(sections: &Sections<'_>) -> Option<ImageFault>
     } else if !are_addresses(sections) {
         Some(ImageFault::Entry)
     } else {
-        sections.records().cost_fault()
+        let records = sections.records();
+        match records.cost_fault() {
+            Some(fault) => Some(fault),
+            None => records.parameters_fault(sections.parameters),
+        }
     }
 }
 

@@ -27,7 +27,15 @@ impl<'a> Model for ImageView<'a> {
 }
 
 impl<'a> ImageView<'a> {
+    ghost use Rattle.qs_image.specs.Bytes.{version_number};
     ghost use Rattle.qs_image.specs.View.{record_of};
+
+    /// The version of the bytes, 1 or 2.
+    pub fn version(&self) -> u32
+        ensures { result ≡ version_number self.now.version }
+    {
+        self.sections.version.number()
+    }
 
     /// The address of the first instruction to run.
     pub fn entry(&self) -> u32

@@ -46,7 +46,7 @@ fn put_record(bytes: &mut Vec<u8>, f: &FunctionRecord) -> Result<(), NoMemory>
     requires { length f.now.name < 2 ^ 32 }
     ensures { OnOk result (Writes bytes.old.items bytes.new.items (record_words (f.now ∷ []))) }
 {
-    let words = [f.name.bytes().len() as u32, f.address, f.cost];
+    let words = [f.name.bytes().len() as u32, f.address, f.cost, f.parameters];
     put_words(bytes, &words)
 }
 
@@ -69,12 +69,12 @@ fn put_names(bytes: &mut Vec<u8>, functions: &[FunctionRecord]) -> Result<(), No
     Ok(())
 }
 
-/// The bytes of an image, as `read` reads them.
+/// The bytes of an image in version 2, as `read` reads them.
 pub fn write(alloc: Global, image: &Image) -> Result<Vec<u8>, NoMemory>
     ensures { IfOk result (λ bytes. IsImage bytes.items image.now) }
 {
     let mut bytes = Vec::new(alloc);
-    bytes.extend_from_slice(b"QSI1")?;
+    bytes.extend_from_slice(b"QSI2")?;
     put_header(&mut bytes, image)?;
     put_records(&mut bytes, &image.functions)?;
     put_names(&mut bytes, &image.functions)?;

@@ -1,16 +1,18 @@
 -- How low the stack pointer goes, computed from the definitions.
-use Rattle.std.specs.Prelude.{◌≡◌, [], ◌∷◌, codes, refl}
+use Rattle.std.specs.Prelude.{◌≡◌, [], ◌∷◌, codes, Some, refl}
 use Rattle.qs_isa.specs.Table.{decode_of}
 use Rattle.qs_image.specs.Image.{Image}
+use Rattle.qs_image.specs.declared.version.Version.TheVariants.{Second}
 use Rattle.qs_machine.specs.Run.{least_stack_pointer}
 
 -- addi sp, sp, -16; addi sp, sp, 16
 abbrev image : Image
 image = record {
+  version = Second;
   entry = 65536;
   parameters = 0;
   unsigned_set = 0;
-  functions = record { name = codes "main"; address = 65536; cost = 16 } ∷ [];
+  functions = record { name = codes "main"; address = 65536; cost = 16; parameters = Some 0 } ∷ [];
   code = 0xff010113 ∷ 0x01010113 ∷ [];
   bytes = [];
 }

@@ -21,6 +21,6 @@ pub use keyword::Keyword;
 pub use memory::NoMemory;
 pub use name::Name;
 pub use names::is_name;
-pub use parameters::{MOST_MAIN_PARAMETERS, MOST_PARAMETERS};
+pub use parameters::{MOST_MAIN_PARAMETERS, MOST_PARAMETERS, MOST_REGISTER_ARGUMENTS};
 pub use places::{Pos, position};
 pub use words::{add32, divs32, divu32, mul32, rems32, remu32, sll32, sra32, srl32, sub32};

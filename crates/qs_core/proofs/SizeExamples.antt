@@ -1,5 +1,6 @@
 -- How many values and words the forms of core need, computed from the definition; names as in int x, y; int *p.
 use Rattle.std.proofs.Common.{◌≡◌, ◌+◌, ◌*◌, [], ◌∷◌, codes, Some, None, refl}
+use Rattle.std.specs.Prelude.{replicate}
 use Rattle.qs_memory.specs.Memory.{zeros}
 use Rattle.qs_memory.specs.declared.scalar.Scalar.TheVariants.{Char, Int, Pointer}
 use Rattle.qs_memory.specs.declared.operation.Signedness.TheVariants.{Signed}
@@ -7,14 +8,15 @@ use Rattle.qs_memory.specs.declared.operation.Direction.TheVariants.{Up}
 use Rattle.qs_memory.specs.declared.operation.Arithmetic.TheVariants.{Add}
 use Rattle.qs_memory.specs.declared.operation.Comparison.TheVariants.{Less}
 use Rattle.qs_memory.specs.declared.operation.BinaryOperation.TheVariants.{Arithmetic, Compare, Move}
+use Rattle.qs_calls.specs.declared.callee.Callee.{Callee}
 use Rattle.qs_calls.specs.declared.callee.Callee.TheVariants.{Function, PutChar}
 use Rattle.qs_calls.specs.declared.parameter.Parameter.TheVariants.{Placed}
 use Rattle.qs_core.specs.declared.labels.CoreLabel.TheVariants.{Case, Default}
 use Rattle.qs_core.specs.declared.numbers.BlockId.TheVariants.{Local, Data}
 use Rattle.qs_core.specs.declared.numbers.Target.TheVariants.{Variable}
 use Rattle.qs_core.specs.Trees.{CoreExprTree, literal, null_pointer, variable, temporary, address_of, load, member, binary, conversion, logical_and, conditional}
-use Rattle.qs_core.specs.Trees.{skip, assign, store, copy, fill, call, branch, loop, switch, break, return, CoreStmts, stmts_of, CoreFunctionTree}
-use Rattle.qs_core.specs.Sizes.{parts_held, held, held_in, values, taken_words, address_words, stmt_words, words, unit_words}
+use Rattle.qs_core.specs.Trees.{skip, seq, assign, store, copy, fill, call, branch, loop, switch, break, return, CoreStmts, stmts_of, CoreFunctionTree}
+use Rattle.qs_core.specs.Sizes.{parts_held, held, held_in, values, most_arguments, most_passed, taken_words, address_words, stmt_words, words, unit_words}
 
 abbrev x : CoreExprTree
 x = variable Int 0
@@ -24,6 +26,9 @@ y = variable Int 1
 
 abbrev p : CoreExprTree
 p = variable Pointer 2
+
+abbrev g : Callee
+g = Function (record { 0 = 1 })
 
 abbrev sum : CoreExprTree → CoreExprTree → CoreExprTree
 sum a b = binary (Arithmetic Add Signed) a b
@@ -122,6 +127,18 @@ a_placed_parameter :
     ≡ 1
 a_placed_parameter = refl
 
+-- ---- arguments
+
+-- f(x, .., x), of nine: of a conditional the most that a call has in one of its parts
+of_a_branch : most_arguments (branch x (call None PutChar (x ∷ [])) (seq (stmts_of (skip ∷ call None g (replicate 9 x) ∷ [])))) ≡ 9
+of_a_branch = refl
+
+one_on_the_stack : most_passed (function (stmts_of (call None g (replicate 9 x) ∷ call None g (replicate 2 x) ∷ []))) ≡ 1
+one_on_the_stack = refl
+
+none_on_the_stack : most_passed empty_main ≡ 0
+none_on_the_stack = refl
+
 -- ---- words
 
 -- three to read x, three to read y, the sum, and one to keep it as a part; then one to read the part
@@ -175,8 +192,12 @@ of_a_copy = refl
 of_a_fill : stmt_words (fill (zeros 8) (address_of (Local 0))) ≡ (3 + 1) + 2 + 4 + 3
 of_a_fill = refl
 
-of_a_call : stmt_words (call (Some 0) (Function (record { 0 = 1 })) (x ∷ y ∷ [])) ≡ 3 + (3 + 0) + 2 + 3
+of_a_call : stmt_words (call (Some 0) g (x ∷ y ∷ [])) ≡ 3 + (3 + 0) + 2 + 3
 of_a_call = refl
+
+-- each of nine is read, and the last one is stored
+of_nine_arguments : stmt_words (call None g (replicate 9 x)) ≡ 9 * 3 + 1 + 2
+of_nine_arguments = refl
 
 of_main : words empty_main ≡ 16 + (2 + 17) + 17
 of_main = refl

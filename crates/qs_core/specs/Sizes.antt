@@ -1,5 +1,7 @@
--- How many values a function needs, and a bound on the words of its machine code.
+-- How many values a function needs, how many words of arguments its calls pass on the stack, and a bound on the words of its
+-- machine code.
 use Rattle.std.specs.Prelude.{ℕ, ◌+◌, ◌*◌, max, min, Bool, true, false, List, [], ◌∷◌, length, sum_by, Option, Some, None, if◌then◌else◌}
+use Rattle.qs_base.specs.Parameters.{stack_arguments}
 use Rattle.qs_memory.specs.declared.operation.BinaryOperation.{BinaryOperation}
 use Rattle.qs_memory.specs.declared.operation.BinaryOperation.TheVariants as binaries
 use Rattle.qs_core.specs.Trees.{CoreExprTree, literal, null_pointer, variable, temporary, address_of, load, member}
@@ -93,6 +95,33 @@ abbrev mutual
 -- the values of a function: its variables, parameters among them, its temporaries, and those that hold parts of expressions
 abbrev pub values : CoreFunctionTree → ℕ
 values f = length f.variables + length f.temporaries + held_in_all f.body
+
+-- ---- arguments
+
+-- the most arguments of one call
+abbrev mutual
+  pub most_arguments : CoreStmtTree → ℕ
+  most_arguments skip = 0
+  most_arguments (seq ss) = most_arguments_in ss
+  most_arguments (assign x e) = 0
+  most_arguments (store s a b) = 0
+  most_arguments (copy size alignment a b) = 0
+  most_arguments (fill blank a) = 0
+  most_arguments (call x f arguments) = length arguments
+  most_arguments (branch e a b) = max (most_arguments a) (most_arguments b)
+  most_arguments (loop body step) = max (most_arguments body) (most_arguments step)
+  most_arguments (switch e labels ss) = most_arguments_in ss
+  most_arguments break = 0
+  most_arguments continue = 0
+  most_arguments (return e) = 0
+
+  pub most_arguments_in : CoreStmts → ℕ
+  most_arguments_in no_stmts = 0
+  most_arguments_in (stmt_and s ss) = max (most_arguments s) (most_arguments_in ss)
+
+-- the most words of arguments that one call passes on the stack
+abbrev pub most_passed : CoreFunctionTree → ℕ
+most_passed f = stack_arguments (most_arguments_in f.body)
 
 -- ---- words: a variable or a temporary may lie out of the reach of an immediate; a value that holds a part of an expression lies nearest to x2
 
@@ -240,6 +269,10 @@ abbrev pub result_words : Option ℕ → ℕ
 result_words None = 0
 result_words (Some k) = kept_words
 
+-- SW stores an argument that is passed on the stack
+abbrev pub arguments_words : List CoreExprTree → ℕ
+arguments_words es = all_taken_words es + stack_arguments (length es)
+
 -- AUIPC and JALR; the number of a call of the environment, and ECALL
 abbrev pub call_words : ℕ
 call_words = 2
@@ -267,7 +300,7 @@ abbrev mutual
   stmt_words (store s a b) = address_words a + taken_words b + 1
   stmt_words (copy size alignment a b) = (address_words a + 1) + (address_words b + 1) + 2 + 6
   stmt_words (fill blank a) = (address_words a + 1) + 2 + 4 + 3
-  stmt_words (call x f arguments) = all_taken_words arguments + call_words + result_words x
+  stmt_words (call x f arguments) = arguments_words arguments + call_words + result_words x
   stmt_words (branch e a b) = use_of e as_condition + stmt_words a + stmt_words b + 2
   stmt_words (loop body step) = stmt_words body + stmt_words step + 3
   stmt_words (switch e labels ss) = taken_words e + label_words * max 1 (length labels) + 1 + stmts_words ss
@@ -279,9 +312,12 @@ abbrev mutual
   stmts_words no_stmts = 0
   stmts_words (stmt_and s ss) = stmt_words s + stmts_words ss
 
--- parameters are put where they are kept
+-- parameters are put where they are kept; LUI, ADD and LW for each that is passed on the stack
+abbrev pub parameter_words : (parameters : ℕ) → ℕ
+parameter_words parameters = kept_words * parameters + 3 * stack_arguments parameters
+
 abbrev pub words : CoreFunctionTree → ℕ
-words f = enter_words + kept_words * length f.parameters + stmts_words f.body + leave_words
+words f = enter_words + parameter_words (length f.parameters) + stmts_words f.body + leave_words
 
 -- the call of main, and behind it the number of a call of the environment, and ECALL
 abbrev pub start_words : ℕ

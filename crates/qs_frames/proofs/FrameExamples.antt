@@ -1,12 +1,14 @@
 -- Frames: with what lies in them, and where.
-use Rattle.std.proofs.Common.{◌≡◌, ℕ, None, List, [], ◌∷◌, refl}
+use Rattle.std.proofs.Common.{◌≡◌, ℕ, None, List, [], ◌∷◌, map, refl}
+use Rattle.std.specs.Prelude.{replicate}
 use Rattle.qs_calls.specs.declared.callee.Callee.{Callee}
 use Rattle.qs_calls.specs.declared.callee.Callee.TheVariants.{Function, PutChar}
 use Rattle.qs_tac.specs.Trees.{call, TacFunctionTree}
+use Rattle.qs_tac.specs.declared.operands.Operand.TheVariants.{Constant}
 use Rattle.qs_tac.specs.Places.{PlacesTree, all_slots, slot_count}
 use Rattle.qs_tac.specs.declared.places.Place.TheVariants.{Slot, Register}
 use Rattle.qs_frames.specs.declared.frame.Frame.{Frame}
-use Rattle.qs_frames.specs.Layout.{rounded, frame_cost, total, offset, used_registers, kept, keeps_return_address, stored_registers, layout, register_at, slot_at, block_offset}
+use Rattle.qs_frames.specs.Layout.{rounded, frame_cost, total, offset, outgoing, used_registers, kept, keeps_return_address, stored_registers, layout, argument_at, register_at, slot_at, block_offset}
 
 -- it calls no function
 abbrev function_of : (temporaries : ℕ) → (blocks : List ℕ) → TacFunctionTree
@@ -45,39 +47,39 @@ the_fourth_block = refl
 -- ---- frames
 
 -- nothing is in it, and it has 16 bytes
-an_empty_frame : frame_of 0 [] ≡ record { cost = 16; slots = 0; placed = 0 }
+an_empty_frame : frame_of 0 [] ≡ record { cost = 16; outgoing = 0; slots = 0; placed = 0 }
 unfolding frame_cost keeps_return_address
 an_empty_frame = refl
 
 -- four slots are 16 bytes, a fifth makes them 32
-a_full_frame : frame_of 4 [] ≡ record { cost = 16; slots = 12; placed = 16 }
+a_full_frame : frame_of 4 [] ≡ record { cost = 16; outgoing = 0; slots = 12; placed = 16 }
 unfolding frame_cost keeps_return_address
 a_full_frame = refl
 
-another_slot : frame_of 5 [] ≡ record { cost = 32; slots = 16; placed = 20 }
+another_slot : frame_of 5 [] ≡ record { cost = 32; outgoing = 0; slots = 16; placed = 20 }
 unfolding frame_cost keeps_return_address
 another_slot = refl
 
 -- where a function is called, the return address and three slots are 16 bytes
-a_full_frame_of_a_caller : frame_with another 3 ≡ record { cost = 16; slots = 12; placed = 16 }
+a_full_frame_of_a_caller : frame_with another 3 ≡ record { cost = 16; outgoing = 0; slots = 12; placed = 16 }
 unfolding frame_cost keeps_return_address
 a_full_frame_of_a_caller = refl
 
-a_fourth_slot_of_a_caller : frame_with another 4 ≡ record { cost = 32; slots = 16; placed = 20 }
+a_fourth_slot_of_a_caller : frame_with another 4 ≡ record { cost = 32; outgoing = 0; slots = 16; placed = 20 }
 unfolding frame_cost keeps_return_address
 a_fourth_slot_of_a_caller = refl
 
 -- putchar is no function of the program
-a_full_frame_with_putchar : frame_with PutChar 4 ≡ record { cost = 16; slots = 12; placed = 16 }
+a_full_frame_with_putchar : frame_with PutChar 4 ≡ record { cost = 16; outgoing = 0; slots = 12; placed = 16 }
 unfolding frame_cost keeps_return_address
 a_full_frame_with_putchar = refl
 
 -- 511 slots are in the reach of an immediate; with 512 the return address is kept, and the first slot is out of reach
-slots_in_reach : frame_of 511 [] ≡ record { cost = 2048; slots = 2040; placed = 2044 }
+slots_in_reach : frame_of 511 [] ≡ record { cost = 2048; outgoing = 0; slots = 2040; placed = 2044 }
 unfolding frame_cost keeps_return_address
 slots_in_reach = refl
 
-many_slots : frame_of 512 (5 ∷ 4 ∷ []) ≡ record { cost = 2064; slots = 2048; placed = 2052 }
+many_slots : frame_of 512 (5 ∷ 4 ∷ []) ≡ record { cost = 2064; outgoing = 0; slots = 2048; placed = 2052 }
 unfolding frame_cost rounded keeps_return_address
 many_slots = refl
 
@@ -108,7 +110,7 @@ one_slot = refl
 three_words : kept some_places ≡ 3
 three_words = refl
 
-their_frame : layout (function_of 5 (1 ∷ [])) some_places ≡ record { cost = 16; slots = 8; placed = 12 }
+their_frame : layout (function_of 5 (1 ∷ [])) some_places ≡ record { cost = 16; outgoing = 0; slots = 8; placed = 12 }
 unfolding frame_cost rounded keeps_return_address
 their_frame = refl
 
@@ -129,9 +131,28 @@ the_slot_behind : slot_at (function_of 4 []) shared_slots 0 ≡ 8
 unfolding keeps_return_address
 the_slot_behind = refl
 
-a_word_is_left : layout (function_of 4 []) shared_slots ≡ record { cost = 16; slots = 8; placed = 16 }
+a_word_is_left : layout (function_of 4 []) shared_slots ≡ record { cost = 16; outgoing = 0; slots = 8; placed = 16 }
 unfolding frame_cost keeps_return_address
 a_word_is_left = refl
 
-the_second_register : register_at 1 ≡ 4
-the_second_register = refl
+-- ---- arguments
+
+-- it calls a function with nine arguments, and with so many
+abbrev passing : (count : ℕ) → TacFunctionTree
+passing count = record { parameters = []; temporaries = 5; blocks = 5 ∷ []; code = call None another (replicate 9 (Constant 0)) ∷ call None another (replicate count (Constant 0)) ∷ [] }
+
+-- from x2 on the ninth argument, the return address, x8 and x9, the slot and the block
+nine_arguments : layout (passing 8) some_places ≡ record { cost = 32; outgoing = 4; slots = 16; placed = 20 }
+unfolding frame_cost rounded keeps_return_address
+nine_arguments = refl
+
+-- eight words for the arguments of the second call, of which the first uses one
+sixteen_arguments : layout (passing 16) some_places ≡ record { cost = 64; outgoing = 32; slots = 44; placed = 48 }
+unfolding frame_cost rounded keeps_return_address
+sixteen_arguments = refl
+
+its_arguments : map argument_at (0 ∷ 7 ∷ []) ≡ 0 ∷ 28 ∷ []
+its_arguments = refl
+
+its_registers : map (register_at (outgoing (passing 16))) (0 ∷ 1 ∷ 2 ∷ []) ≡ 32 ∷ 36 ∷ 40 ∷ []
+its_registers = refl

@@ -13,8 +13,8 @@ use Rattle.qs_tac.specs.Sizes.{values, reach}
 use Rattle.qs_tac.specs.Holders.{same_place}
 use Rattle.qs_tac.specs.declared.places.Place.{Place}
 use Rattle.qs_tac.specs.declared.places.Place.TheVariants.{Slot, Register}
-use Rattle.qs_frames.specs.Layout.{rounded, total, offset, is_among, used_among, saved_registers, used_registers, kept, calls_function, keeps_return_address, return_words, return_register, stored_registers, behind_last, words_before_slots, slot_at, HasSlot, frame_words, frame_cost, layout}
-use Rattle.qs_frames.specs.Laws.{Part, register, slot, block, HasPart, part_from, part_end, CallsFunction, IsLaidOut}
+use Rattle.qs_frames.specs.Layout.{rounded, total, offset, outgoing_words, is_among, used_among, saved_registers, used_registers, kept, calls_function, keeps_return_address, return_words, return_register, stored_registers, behind_last, words_before_slots, slot_at, HasSlot, frame_words, frame_cost, layout}
+use Rattle.qs_frames.specs.Laws.{Part, argument, register, slot, block, HasPart, part_from, part_end, CallsFunction, IsLaidOut}
 
 -- ---- blocks
 
@@ -77,14 +77,14 @@ few_return_words f p = by (keeps_return_address f p)
     by true = omega arith
     by false = omega arith
 
-pub few_words : (f : TacFunctionTree) (p : PlacesTree) → frame_words f p ≤ 1 + kept p
+pub few_words : (f : TacFunctionTree) (p : PlacesTree) → frame_words f p ≤ 1 + (kept p + outgoing_words f)
 few_words f p = let few = few_return_words f p in omega (arith, few)
 
--- the return address' word, and one for each register that is given back
-pub stored_words : (f : TacFunctionTree) (p : PlacesTree) → length (stored_registers f p) ≡ words_before_slots f p
+-- behind the arguments the return address' word, and one for each register that is given back
+pub stored_words : (f : TacFunctionTree) (p : PlacesTree) → outgoing_words f + length (stored_registers f p) ≡ words_before_slots f p
 stored_words f p = by (keeps_return_address f p)
   where
-    by : (b : Bool) → length (return_register b ++ used_registers p) ≡ (if b then 1 else 0) + length (used_registers p)
+    by : (b : Bool) → outgoing_words f + length (return_register b ++ used_registers p) ≡ outgoing_words f + (if b then 1 else 0) + length (used_registers p)
     by true = omega arith
     by false = omega arith
 
@@ -110,11 +110,11 @@ caller_keeps f p h = either (list_any calls_function f.code) _ (found f.code h.a
     found (i ∷ code) (suc k) e = more (calls_function i) (list_any calls_function code) (found code k e)
 
 -- in a frame without the return address each word before the blocks, and each block, begins in the reach of an immediate
-pub in_reach : (f : TacFunctionTree) (p : PlacesTree) → keeps_return_address f p ≡ false → (return_words f p ≡ 0) × (4 * kept p + total f.blocks < reach)
+pub in_reach : (f : TacFunctionTree) (p : PlacesTree) → keeps_return_address f p ≡ false → (return_words f p ≡ 0) × (4 * (outgoing_words f + kept p) + total f.blocks < reach)
 unfolding keeps_return_address
 in_reach f p h =
-    let parts = or_parts (list_any calls_function f.code) (nat_le reach (4 * kept p + total f.blocks)) h in
-    let far : nat_le reach (4 * kept p + total f.blocks) ≡ false = parts.1 in
+    let parts = or_parts (list_any calls_function f.code) (nat_le reach (4 * (outgoing_words f + kept p) + total f.blocks)) h in
+    let far : nat_le reach (4 * (outgoing_words f + kept p) + total f.blocks) ≡ false = parts.1 in
     (ap (λ (b : Bool). if b then 1 else 0) h, grind (arith, nat_tests, far))
   where
     or_parts : (a b : Bool) → (a || b) ≡ false → (a ≡ false) × (b ≡ false)
@@ -332,6 +332,7 @@ fewer_slots p = few_slots p.at
 
 module _ (f : TacFunctionTree) (p : PlacesTree) where
   part_aligned : (a : Part) → HasPart f p a → part_from f p a % 4 ≡ 0
+  part_aligned (argument i) h = omega arith
   part_aligned (register i) h = omega arith
   part_aligned (slot k) h = slot_aligned f p k
   part_aligned (block i) h =
@@ -346,6 +347,7 @@ module _ (f : TacFunctionTree) (p : PlacesTree) where
   register_before i h = let w = stored_words f p in omega (arith, w, h)
 
   part_inside : (a : Part) → HasPart f p a → part_end f p a ≤ (layout f p).cost
+  part_inside (argument i) h = let e = enough in omega (arith, e, h)
   part_inside (register i) h = let e = enough in let b = register_before i h in omega (arith, e, b)
   part_inside (slot k) h = let e = enough in let inside = slot_inside f p k h in omega (arith, e, inside)
   part_inside (block i) h =
@@ -357,6 +359,14 @@ module _ (f : TacFunctionTree) (p : PlacesTree) where
   AreApart a b = (part_end f p a ≤ part_from f p b) ⊎ (part_end f p b ≤ part_from f p a)
 
   parts_apart : (a b : Part) → HasPart f p a → HasPart f p b → a ≢ b → AreApart a b
+  parts_apart (argument i) (argument j) h k n =
+      by_order i j (AreApart (argument i) (argument j)) (λ e. n (ap argument e)) (λ l. inl (omega (arith, l))) (λ l. inr (omega (arith, l)))
+  parts_apart (argument i) (register j) h k n = inl (omega (arith, h))
+  parts_apart (argument i) (slot j) h k n = inl (let b = slot_behind f p j in omega (arith, b, h))
+  parts_apart (argument i) (block j) h k n = inl (omega (arith, h))
+  parts_apart (register i) (argument j) h k n = inr (omega (arith, k))
+  parts_apart (slot i) (argument j) h k n = inr (let b = slot_behind f p i in omega (arith, b, k))
+  parts_apart (block i) (argument j) h k n = inr (omega (arith, k))
   parts_apart (register i) (register j) h k n =
       by_order i j (AreApart (register i) (register j)) (λ e. n (ap register e)) (λ l. inl (omega (arith, l))) (λ l. inr (omega (arith, l)))
   parts_apart (register i) (slot j) h k n = inl (let b = slot_behind f p j in let e = register_before i h in omega (arith, b, e))
@@ -372,6 +382,7 @@ module _ (f : TacFunctionTree) (p : PlacesTree) where
       (λ l. inr (let o = offset_before f.blocks j i l h in omega (arith, o)))
 
   part_near : keeps_return_address f p ≡ false → (a : Part) → HasPart f p a → part_from f p a < reach
+  part_near e (argument i) h = let r = in_reach f p e in let below = r.1 in omega (arith, h, below)
   part_near e (register i) h = let w = stored_words f p in let r = in_reach f p e in let none = r.0 in let below = r.1 in omega (arith, w, h, none, below)
   part_near e (slot k) h = let inside = slot_inside f p k h in let r = in_reach f p e in let none = r.0 in let below = r.1 in omega (arith, inside, none, below)
   part_near e (block i) h = let inside = offset_inside f.blocks i h in let r = in_reach f p e in let none = r.0 in let below = r.1 in omega (arith, inside, none, below)
@@ -380,7 +391,7 @@ module _ (f : TacFunctionTree) (p : PlacesTree) where
   frames_are_laid_out = record {
     positive = (is_cost (frame_words f p) (total f.blocks)).positive;
     multiple = (is_cost (frame_words f p) (total f.blocks)).multiple;
-    bound = (is_cost (frame_words f p) (total f.blocks)).bound (kept p) (few_words f p);
+    bound = (is_cost (frame_words f p) (total f.blocks)).bound (kept p + outgoing_words f) (few_words f p);
     aligned = part_aligned;
     inside = part_inside;
     apart = parts_apart;

@@ -1,9 +1,10 @@
 -- The frame of a function: what a call takes of the stack, and where its parts lie.
 --
---   x2 on           the registers that the entry stores: first the return address, where the function keeps it here, and
---                   then those that the function gives back to its caller as they were
---   up to placed    the slots, in falling order of the last temporary that stands in each
---   x2 + placed on  the placed blocks in order, each at a multiple of 4
+--   x2 on             the arguments past the eighth of the calls that it makes, in the order of the arguments
+--   x2 + outgoing on  the registers that the entry stores: first the return address, where the function keeps it here, and
+--                     then those that the function gives back to its caller as they were
+--   up to placed      the slots, in falling order of the last temporary that stands in each
+--   x2 + placed on    the placed blocks in order, each at a multiple of 4
 --
 -- What holds parts of expressions has the last numbers among the temporaries; so it lies nearest to x2, in the
 -- reach of an immediate, whichever number its slot has.
@@ -15,7 +16,7 @@ use Rattle.qs_calls.specs.declared.callee.Callee.{Callee}
 use Rattle.qs_calls.specs.declared.callee.Callee.TheVariants.{Function, PutChar, GetChar}
 use Rattle.qs_tac.specs.Trees.{InstructionTree, move, unary, binary, convert, address_of, load, store}
 use Rattle.qs_tac.specs.Trees.{copy, fill, call, jump, branch, return, TacFunctionTree}
-use Rattle.qs_tac.specs.Sizes.{reach}
+use Rattle.qs_tac.specs.Sizes.{most_passed, reach}
 use Rattle.qs_tac.specs.Places.{PlacesTree, slots_among, slot_count}
 use Rattle.qs_tac.specs.Holders.{same_place}
 use Rattle.qs_tac.specs.declared.places.Place.{Place}
@@ -45,6 +46,16 @@ offset [] i = 0
 offset (size ∷ sizes) zero = 0
 offset (size ∷ sizes) (suc i) = rounded size + offset sizes i
 
+-- ---- arguments
+
+-- how many words the frame has for the arguments that one call passes on the stack
+abbrev pub outgoing_words : TacFunctionTree → ℕ
+outgoing_words f = most_passed f.code
+
+-- their bytes, from x2 on
+abbrev pub outgoing : TacFunctionTree → ℕ
+outgoing f = 4 * outgoing_words f
+
 -- ---- values
 
 abbrev pub is_among : List Place → (register : ℕ) → Bool
@@ -64,7 +75,7 @@ saved_registers = 8 ∷ 9 ∷ 18 ∷ 19 ∷ 20 ∷ 21 ∷ 22 ∷ 23 ∷ 24 ∷ 2
 abbrev pub used_registers : PlacesTree → List ℕ
 used_registers p = used_among p.at saved_registers
 
--- how many words a frame keeps beside the return address: a register or a slot each
+-- how many words a frame keeps beside the return address and the arguments: a register or a slot each
 abbrev pub kept : PlacesTree → ℕ
 kept p = length (used_registers p) + slot_count p
 
@@ -94,7 +105,7 @@ calls_function (return o) = false
 -- A leaf function calls none, and leaves the return address in x1. Where x1 is for something else, for a call of a function
 -- or for a word that is out of the reach of an immediate and is written through x1, the frame keeps it.
 unfoldable pub keeps_return_address : TacFunctionTree → PlacesTree → Bool
-keeps_return_address f p = list_any calls_function f.code || nat_le reach (4 * kept p + total f.blocks)
+keeps_return_address f p = list_any calls_function f.code || nat_le reach (4 * (outgoing_words f + kept p) + total f.blocks)
 
 abbrev pub return_words : TacFunctionTree → PlacesTree → ℕ
 return_words f p = if keeps_return_address f p then 1 else 0
@@ -114,7 +125,7 @@ behind_last [] k = None
 behind_last (p ∷ places) k = option_or (behind_last places k) (if same_place p (Slot k) then Some (slots_among places) else None)
 
 abbrev pub words_before_slots : TacFunctionTree → PlacesTree → ℕ
-words_before_slots f p = return_words f p + length (used_registers p)
+words_before_slots f p = outgoing_words f + return_words f p + length (used_registers p)
 
 -- a slot lies by the last temporary that stands in it: the frame has a word for each temporary in a slot, the last one's
 -- first. Slots have numbers below the count of these temporaries.
@@ -131,7 +142,7 @@ pub record HasSlot (p : PlacesTree) (k : ℕ) : Type 0 where
 
 -- its words before the blocks
 abbrev pub frame_words : TacFunctionTree → PlacesTree → ℕ
-frame_words f p = return_words f p + kept p
+frame_words f p = outgoing_words f + return_words f p + kept p
 
 -- the least multiple of 16 that has room for so many words and for the blocks, and isn't 0
 unfoldable pub frame_cost : (words blocks : ℕ) → ℕ
@@ -140,6 +151,7 @@ frame_cost words blocks = (4 * words + blocks - 1) / 16 * 16 + 16
 abbrev pub layout : TacFunctionTree → PlacesTree → Frame
 layout f p = record {
   cost = frame_cost (frame_words f p) (total f.blocks);
+  outgoing = outgoing f;
   slots = slot_at f p 0;
   placed = 4 * frame_words f p;
 }
@@ -153,9 +165,13 @@ FrameFits f p = (layout f p).cost ≤ largest_frame
 
 -- ---- its parts
 
--- the register with this number among those that are stored
-abbrev pub register_at : (i : ℕ) → ℕ
-register_at i = 4 * i
+-- argument 8 + i of a call
+abbrev pub argument_at : (i : ℕ) → ℕ
+argument_at i = 4 * i
+
+-- the register with this number among those that are stored, behind so many bytes of arguments
+abbrev pub register_at : (outgoing i : ℕ) → ℕ
+register_at outgoing i = outgoing + 4 * i
 
 abbrev pub block_offset : TacFunctionTree → Frame → (i : ℕ) → ℕ
 block_offset f frame i = frame.placed + offset f.blocks i

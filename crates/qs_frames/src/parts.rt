@@ -4,18 +4,19 @@ ghost use Rattle.std.specs.Prelude.{IfOk, OnOk, IsSome, IfSome, length, map, unw
 ghost use Rattle.std.specs.List.{list_any};
 ghost use Rattle.qs_tac.specs.TreeOf.{function_tree, instruction_tree};
 ghost use Rattle.qs_tac.specs.Places.{places_tree, slots_among};
+ghost use Rattle.qs_tac.specs.Sizes.{arguments_of, most_passed};
 ghost use Rattle.qs_frames.specs.Layout as spec;
 ghost use Rattle.qs_frames.specs.Starts.{BeginAt};
 
 use crate::blocks::{LARGEST_FRAME, Starts, total, total_within};
 use crate::frame::Frame;
-use qs_base::NoMemory;
+use qs_base::{MOST_REGISTER_ARGUMENTS, NoMemory};
 use qs_calls::Callee;
 use qs_tac::{Instruction, Place, Places, TacFunction};
 use std::alloc::Global;
 
 // as many words as the largest frame has
-const MOST_SLOTS: usize = LARGEST_FRAME as usize / 4;
+const MOST_WORDS: usize = LARGEST_FRAME as usize / 4;
 
 // words below this offset from x2 are in the reach of an immediate
 const REACH: u32 = 2048;
@@ -23,6 +24,46 @@ const REACH: u32 = 2048;
 const RETURN_ADDRESS: u32 = 1;
 
 const SAVED_REGISTERS: [u32; 12] = [8, 9, 18, 19, 20, 21, 22, 23, 24, 25, 26, 27];
+
+// ---- arguments
+
+fn arguments_of(i: &Instruction) -> usize
+    ensures { result ≡ arguments_of (instruction_tree i.now) }
+{
+    match i {
+        Instruction::Move(_, _) => 0,
+        Instruction::Unary(_, _, _) => 0,
+        Instruction::Binary(_, _, _, _) => 0,
+        Instruction::Convert(_, _, _) => 0,
+        Instruction::AddressOf(_, _) => 0,
+        Instruction::Load(_, _, _) => 0,
+        Instruction::Store(_, _, _) => 0,
+        Instruction::Copy { .. } => 0,
+        Instruction::Fill(_, _) => 0,
+        Instruction::Call(_, _, arguments) => arguments.len(),
+        Instruction::Jump(_) => 0,
+        Instruction::Branch(_, _) => 0,
+        Instruction::Return(_) => 0,
+    }
+}
+
+/// The most words of arguments that one instruction passes on the stack.
+fn most_passed(code: &[Instruction]) -> usize
+    ensures { result ≡ most_passed (map instruction_tree code.now) }
+{
+    let mut most = 0;
+    for i in code {
+        most = most.max(arguments_of(i).saturating_sub(MOST_REGISTER_ARGUMENTS as usize));
+    }
+    most
+}
+
+fn outgoing_words(f: &TacFunction) -> u32
+    requires { spec.outgoing_words (function_tree f.now) < 2 ^ 32 }
+    ensures { result ≡ spec.outgoing_words (function_tree f.now) }
+{
+    most_passed(&f.code) as u32
+}
 
 // ---- what is kept
 
@@ -124,15 +165,15 @@ fn any_calls_function(code: &[Instruction]) -> bool
 /// Whether the frame of a function with so many bytes of blocks keeps the return address.
 #[tactic(auto, unfolding(crate::specs::Layout::keeps_return_address))]
 fn keeps_return_address(f: &TacFunction, places: &Places, blocks: u32) -> bool
-    requires kept { 4 * spec.kept (places_tree places.now) + blocks < 2 ^ 32 }
+    requires words { 4 * (spec.outgoing_words (function_tree f.now) + spec.kept (places_tree places.now)) + blocks < 2 ^ 32 }
     requires blocks { blocks ≡ spec.total (function_tree f.now).blocks }
     ensures { result ≡ spec.keeps_return_address (function_tree f.now) (places_tree places.now) }
 {
-    any_calls_function(&f.code) || 4 * kept(places) + blocks >= REACH
+    any_calls_function(&f.code) || 4 * (outgoing_words(f) + kept(places)) + blocks >= REACH
 }
 
 fn return_words(f: &TacFunction, places: &Places, blocks: u32) -> u32
-    requires kept { 4 * spec.kept (places_tree places.now) + blocks < 2 ^ 32 }
+    requires words { 4 * (spec.outgoing_words (function_tree f.now) + spec.kept (places_tree places.now)) + blocks < 2 ^ 32 }
     requires blocks { blocks ≡ spec.total (function_tree f.now).blocks }
     ensures words { result ≡ spec.return_words (function_tree f.now) (places_tree places.now) }
     ensures few { result ≤ 1 }
@@ -186,6 +227,15 @@ pub fn stored_registers(
 
 // ---- slots
 
+fn words_before_slots(f: &TacFunction, places: &Places, blocks: u32) -> u32
+    requires words { 4 * (spec.outgoing_words (function_tree f.now) + spec.kept (places_tree places.now)) + blocks ≤ 2 ^ 30 }
+    requires blocks { blocks ≡ spec.total (function_tree f.now).blocks }
+    ensures { result ≡ spec.words_before_slots (function_tree f.now) (places_tree places.now) }
+{
+    let used = used_count(&places.at, &SAVED_REGISTERS) as u32;
+    outgoing_words(f) + return_words(f, places, blocks) + used
+}
+
 /// How many temporaries in slots come behind the last one in this slot, where the slot has one.
 fn behind_last(places: &[Place], slot: u32) -> usize
     ensures { result ≡ unwrap_or (spec.behind_last places.now slot) 0 }
@@ -208,12 +258,11 @@ fn behind_last(places: &[Place], slot: u32) -> usize
 
 #[tactic(auto, using(crate::proofs::OffsetLaws::behind_most))]
 fn slot_0(f: &TacFunction, places: &Places, blocks: u32) -> u32
-    requires kept { 4 * spec.kept (places_tree places.now) + blocks ≤ 2 ^ 30 }
+    requires words { 4 * (spec.outgoing_words (function_tree f.now) + spec.kept (places_tree places.now)) + blocks ≤ 2 ^ 30 }
     requires blocks { blocks ≡ spec.total (function_tree f.now).blocks }
     ensures { result ≡ spec.slot_at (function_tree f.now) (places_tree places.now) 0 }
 {
-    let before = return_words(f, places, blocks) + used_count(&places.at, &SAVED_REGISTERS) as u32;
-    4 * (before + behind_last(&places.at, 0) as u32)
+    4 * (words_before_slots(f, places, blocks) + behind_last(&places.at, 0) as u32)
 }
 
 /// Where the slots lie, from x2 on, by their numbers.
@@ -223,8 +272,7 @@ pub fn slot_starts(alloc: Global, f: &TacFunction, places: &Places) -> Result<St
     ensures { IfOk result (λ slots. BeginAt slots (spec.slot_at (function_tree f.now) (places_tree places.now))) }
 {
     let mut left = slots_among(&places.at);
-    let address = return_words(f, places, total(&f.blocks));
-    let before = 4 * (address + used_count(&places.at, &SAVED_REGISTERS) as u32);
+    let before = 4 * words_before_slots(f, places, total(&f.blocks));
     let mut at = vec![in alloc; before; left]?;
     for place in &places.at {
         match place {
@@ -254,17 +302,27 @@ fn frame_cost(words: u32, blocks: u32) -> u32
     }
 }
 
-/// The frame of a function whose temporaries stand in these places: with room for the return
-/// address, where it is kept, the registers that are given back, the slots, and the blocks.
+fn frame_words(f: &TacFunction, places: &Places, blocks: u32) -> u32
+    requires words { 4 * (spec.outgoing_words (function_tree f.now) + spec.kept (places_tree places.now)) + blocks ≤ 2 ^ 30 }
+    requires blocks { blocks ≡ spec.total (function_tree f.now).blocks }
+    ensures { result ≡ spec.frame_words (function_tree f.now) (places_tree places.now) }
+{
+    outgoing_words(f) + return_words(f, places, blocks) + kept(places)
+}
+
+/// The frame of a function whose temporaries stand in these places: with room for the arguments
+/// past the eighth of its calls, the return address, where it is kept, the registers that are given
+/// back, the slots, and the blocks.
 #[tactic(auto, using(crate::proofs::OffsetLaws::frame_has_room))]
 pub fn layout(f: &TacFunction, places: &Places) -> Frame
     requires { spec.FrameFits (function_tree f.now) (places_tree places.now) }
     ensures { result ≡ spec.layout (function_tree f.now) (places_tree places.now) }
 {
     let blocks = total(&f.blocks);
-    let words = return_words(f, places, blocks) + kept(places);
+    let words = frame_words(f, places, blocks);
     Frame {
         cost: frame_cost(words, blocks),
+        outgoing: 4 * outgoing_words(f),
         slots: slot_0(f, places, blocks),
         placed: 4 * words,
     }
@@ -276,11 +334,14 @@ pub fn try_layout(f: &TacFunction, places: &Places) -> Option<Frame>
     ensures fits { IsSome result ↔ spec.FrameFits (function_tree f.now) (places_tree places.now) }
     ensures frame { IfSome result (spec.IsFrame (function_tree f.now) (places_tree places.now)) }
 {
-    if slots_among(&places.at) > MOST_SLOTS {
+    if slots_among(&places.at) > MOST_WORDS {
+        return None;
+    }
+    if most_passed(&f.code) > MOST_WORDS {
         return None;
     }
     let blocks = total_within(&f.blocks)?;
-    let words = return_words(f, places, blocks) + kept(places);
+    let words = frame_words(f, places, blocks);
     if frame_cost(words, blocks) <= LARGEST_FRAME {
         Some(layout(f, places))
     } else {

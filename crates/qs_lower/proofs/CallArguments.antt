@@ -11,6 +11,7 @@ use Rattle.qs_memory.specs.declared.operation.BinaryOperation.{BinaryOperation}
 use Rattle.qs_memory.specs.declared.operation.BinaryOperation.TheVariants as binaries
 use Rattle.qs_core.specs.Trees as core
 use Rattle.qs_core.specs.Trees.{CoreExprTree, CoreStmtTree, CoreStmts, no_stmts, stmt_and}
+use Rattle.qs_core.specs.Sizes.{most_arguments, most_arguments_in}
 use Rattle.qs_core.specs.declared.labels.CoreLabel.{CoreLabel}
 use Rattle.qs_core.specs.declared.labels.CoreLabel.TheVariants.{Case, Default}
 use Rattle.qs_tac.specs.Trees.{InstructionTree, move, unary, binary, convert, address_of, load, store}
@@ -19,6 +20,7 @@ use Rattle.qs_tac.specs.declared.operands.Operand.{Operand}
 use Rattle.qs_tac.specs.declared.operands.Condition.{Condition}
 use Rattle.qs_tac.specs.declared.operands.Condition.TheVariants as conditions
 use Rattle.qs_tac.specs.Fits.{is_word}
+use Rattle.qs_tac.specs.Sizes.{arguments_of}
 use Rattle.qs_lower_expressions.specs.Exits.{Exit, falls, goes, exit_code, branch_code}
 use Rattle.qs_lower_expressions.specs.Operands.{converted, truth_of, truth_operand, unary_of, folded, gives_integer, gives_truth, is_idle, constant_step, swaps}
 use Rattle.qs_lower_expressions.specs.Expressions.{IndexCode, ExprCode, simple_code, code_of, own, based, known_code, tested, no_code, by_operand, by_value, number_of, by_test, further, behind_parts, unindexed, indexed_by, by_address, of_element, of_unary_value, with_test, of_truth, of_plus, of_compound, simple_or, converting, of_conversion, pair_code, of_binary_value, with_condition, of_operation, stepped_or, of_choice, of_and, of_or, of_conditional, lowered, all_code, all_operands}
@@ -26,7 +28,8 @@ use Rattle.qs_lower.specs.Choices.{case_code, is_asked, asked_code, choice_code}
 use Rattle.qs_lower.specs.Statements.{Exits, Way, to_next, to_break, to_continue, Part, Tested, StmtCode, going, joined, redirected, straight, target_of, tested_behind, of_before, of_ways, branch_part, test_of, is_next, of_branch, test_last, body_first, body_alone, loop_part, in_switch, stmt_code, stmts_code}
 use Rattle.qs_lower_expressions.specs.Threads.{retargeted}
 use Rattle.qs_lower.proofs.StmtSizeLaws.{row}
-use Rattle.qs_lower.specs.WordLaws.{arguments_of, FewArguments, most_arguments, most_arguments_in}
+use Rattle.qs_lower.specs.WordLaws.{FewArguments}
+use Rattle.qs_lower.proofs.LoweredWords.{operand_count}
 
 module _ (n : ℕ) where
   abbrev pub Few : List InstructionTree → Type 0
@@ -317,10 +320,6 @@ module _ (n : ℕ) where
   choice_few : (t : ℕ) (e : ExprCode) (labels : List CoreLabel) (places : List ℕ) (other at : ℕ) → Quiet e → Few (choice_code t e labels places other at)
   choice_few t e labels places other at h =
       both _ _ (code_few e h.into t at) (both _ _ (cases_few _ labels places) (one_more _ _ (asked_few (is_asked labels) _ other) (omega arith)))
-
-  operand_count : (v : ℕ) (es : List CoreExprTree) (t : ℕ) → length (all_operands (map (lowered v) es) t) ≡ length es
-  operand_count v [] t = refl
-  operand_count v (e ∷ es) t = let r = operand_count v es (t + own (lowered v e)) in omega (arith, r)
 
   mutual
     pub stmt_few : (v t : ℕ) (s : CoreStmtTree) → most_arguments s ≤ n → StmtFew (stmt_code v t s)

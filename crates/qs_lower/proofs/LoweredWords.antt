@@ -1,5 +1,5 @@
 -- Each expression takes at most its words.
-use Rattle.std.proofs.Common.{◌≡◌, ℕ, ◌+◌, ◌%◌, ◌^◌, ◌≤◌, Bool, true, false, List, [], ◌∷◌, map, Option, Some, None, refl, sym, ap, ◌∙◌, subst, arith}
+use Rattle.std.proofs.Common.{◌≡◌, ℕ, ◌+◌, ◌%◌, ◌^◌, ◌≤◌, Bool, true, false, List, [], ◌∷◌, length, map, Option, Some, None, refl, sym, ap, ◌∙◌, subst, arith}
 use Rattle.std.specs.Prelude.{nat_lt, nat_le, if◌then◌else◌, sum_by}
 use Rattle.std.proofs.lemmas.Bool.Decides.{nat_tests}
 use Rattle.std.proofs.lemmas.List.Sums.{sum_by-cons}
@@ -89,6 +89,11 @@ module _ (f : TacFunctionTree) where
 blocks_are : (e : CoreExprTree) → is_block e ≡ true → (b : BlockId) × (e ≡ core.address_of b)
 blocks_are (core.address_of b) h = (b, refl)
 blocks_are _ h = absurd (cc)
+
+-- each argument is an operand
+pub operand_count : (v : ℕ) (es : List CoreExprTree) (t : ℕ) → length (all_operands (map (lowered v) es) t) ≡ length es
+operand_count v [] t = refl
+operand_count v (e ∷ es) t = let r = operand_count v es (t + own (lowered v e)) in omega (arith, r)
 
 exit_swap : (x y : Exit) → jumps y x ≡ jumps x y
 exit_swap (falls p) (falls q) = refl

@@ -27,7 +27,7 @@ use Rattle.qs_lower.specs.Statements.{Exits, next_falls, none_falls, before, els
 use Rattle.qs_lower.proofs.CoreWords.{tested_words}
 use Rattle.qs_lower.proofs.StmtSizeLaws.{row}
 use Rattle.qs_lower_expressions.proofs.ExprWords.{jumps, code_words, words_both, words_cons, words_last, slot_small, constant_small, operand_small, exit_small}
-use Rattle.qs_lower.proofs.LoweredWords.{Good, expr_words, arguments_words}
+use Rattle.qs_lower.proofs.LoweredWords.{operand_count, Good, expr_words, arguments_words}
 
 -- a jump to what is next, where it doesn't fall
 abbrev pub jump_to : Exit → ℕ
@@ -378,6 +378,7 @@ module _ (c : CoreUnitTree) (g : CoreFunctionTree) (v : ℕ) (f : TacFunctionTre
       (λ at.
       let j = words_last f free near (all_code (map (lowered v) es) t at) (call (taken_by v x) to (all_operands (map (lowered v) es) t)) in
       let m = arguments_words c g v f free near es h t at le in
+      let k = operand_count v es t in
       let n = callee_small to in
       let r = result_small x in
       omega arith)

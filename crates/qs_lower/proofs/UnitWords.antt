@@ -7,11 +7,12 @@ use Rattle.std.proofs.lemmas.Bool.Decides.{nat_tests}
 use Rattle.std.proofs.lemmas.List.{length-map}
 use Rattle.std.proofs.lemmas.List.Sums.{sum_by-cons}
 use Rattle.std.proofs.lemmas.Bool.{and_parts}
+use Rattle.qs_base.specs.Parameters.{stack_arguments, most_stack_arguments}
 use Rattle.qs_calls.specs.declared.parameter.Parameter.{Parameter}
 use Rattle.qs_calls.specs.declared.parameter.Parameter.TheVariants.{Plain, Placed}
 use Rattle.qs_core.specs.Trees.{CoreParameterTree, CoreFunctionTree, CoreUnitTree}
 use Rattle.qs_core.specs.Sizes as counts
-use Rattle.qs_core.specs.Sizes.{held_in_all}
+use Rattle.qs_core.specs.Sizes.{held_in_all, most_arguments_in}
 use Rattle.qs_core.specs.Fits.{function_fits, unit_fits}
 use Rattle.qs_core.proofs.FitLaws.{FunctionFits, function_parts, function_at_fits, unit_parts}
 use Rattle.qs_tac.specs.Trees.{InstructionTree, move, unary, binary, convert, address_of, load, store}
@@ -22,7 +23,7 @@ use Rattle.qs_lower_expressions.specs.Exits.{falls, goes}
 use Rattle.qs_lower.specs.Statements.{Exits, next_falls}
 use Rattle.qs_lower_expressions.specs.Threads.{follow, retargeted, threaded_function}
 use Rattle.qs_lower.specs.Units.{free_from, body_code, end_code, function_code, straight_function}
-use Rattle.qs_lower.specs.WordLaws.{lowered_function, IsInReach, FewArguments, most_arguments_in, KeepsSizes, UnitKeepsSizes}
+use Rattle.qs_lower.specs.WordLaws.{lowered_function, IsInReach, FewArguments, KeepsSizes, UnitKeepsSizes}
 use Rattle.qs_lower.proofs.UnitFits.{function_there}
 use Rattle.qs_lower_expressions.proofs.ExprWords.{slot_small, words_both, words_cons}
 use Rattle.qs_lower.proofs.StmtWords.{all_stmts_words}
@@ -56,8 +57,13 @@ threaded_words f k (i ∷ code) =
     omega arith
 
 -- the last temporaries are in reach
-last_near : (free used t : ℕ) → used ≤ near_values → free ≤ t → nat_lt (4 * (sizes.saved_registers + (free + used - t))) sizes.reach ≡ true
+last_near : (free used t : ℕ) → used ≤ near_values → free ≤ t → nat_lt (4 * (most_stack_arguments + sizes.saved_registers + (free + used - t))) sizes.reach ≡ true
 last_near free used t h k = grind (arith, nat_tests, h, k)
+
+-- few arguments are few on the stack
+all_passed : (n : ℕ) (code : List InstructionTree) → FewArguments n code → sizes.most_passed code ≤ stack_arguments n
+all_passed n [] h = omega arith
+all_passed n (i ∷ code) h = let a = h.0 in let b = all_passed n code h.1 in omega (arith, a, b)
 
 module _ (c : CoreUnitTree) (g : CoreFunctionTree) (h : FunctionFits c g) where
   abbrev f : TacFunctionTree
@@ -120,6 +126,7 @@ module _ (c : CoreUnitTree) (g : CoreFunctionTree) (h : FunctionFits c g) where
     parameters = refl;
     blocks = refl;
     values = let u = used_held in omega arith;
+    passed = all_passed (most_arguments_in g.body) f.code few_arguments;
     words = function_words;
     arguments = few_arguments;
   }

@@ -1,5 +1,6 @@
 -- Which units fit, what their instructions read and write, and how many values and words functions have.
 use Rattle.std.proofs.Common.{◌≡◌, ℕ, Bool, true, false, List, [], ◌∷◌, map, Some, None, refl}
+use Rattle.std.specs.Prelude.{◌+◌, replicate}
 use Rattle.qs_memory.specs.Memory.{zeros, repeated}
 use Rattle.qs_memory.specs.declared.scalar.Scalar.TheVariants as scalars
 use Rattle.qs_memory.specs.declared.operation.Signedness.TheVariants.{Signed}
@@ -24,7 +25,7 @@ use Rattle.qs_tac.specs.Places.{slots_from, all_slots, Accepted, own_slots, is_f
 use Rattle.qs_tac.specs.Liveness.{nexts}
 use Rattle.qs_tac.specs.Fits.{unit_fits}
 use Rattle.qs_tac.specs.Uses.{reads, writes}
-use Rattle.qs_tac.specs.Sizes.{values, is_near, words, instruction_words}
+use Rattle.qs_tac.specs.Sizes.{values, most_passed, is_near, words, instruction_words}
 use Rattle.qs_tac.proofs.StepExamples.{function_of, unit_of, result_of, at_local, behind, returns}
 
 -- an element of what begins at the base, and there the byte at the offset
@@ -158,6 +159,21 @@ writes_of_instructions = refl
 its_values : values (function_of []) ≡ 4
 its_values = refl
 
+-- a call with so many arguments
+abbrev calling : (count : ℕ) → InstructionTree
+calling count = call None (Function (record { 0 = 0 })) (replicate count (Constant 0))
+
+-- eight go in registers, and the others on the stack
+passed_on_the_stack : map (λ i. most_passed (i ∷ [])) (calling 8 ∷ calling 9 ∷ calling 16 ∷ jump 0 ∷ []) ≡ 0 ∷ 1 ∷ 8 ∷ 0 ∷ []
+passed_on_the_stack = refl
+
+the_most_of_calls : most_passed (calling 2 ∷ calling 11 ∷ jump 0 ∷ calling 9 ∷ []) ≡ 3
+the_most_of_calls = refl
+
+-- a store for each that goes on the stack
+words_of_arguments : map (instruction_words (function_of [])) (calling 8 ∷ calling 9 ∷ calling 16 ∷ []) ≡ 9 ∷ 11 ∷ 25 ∷ []
+words_of_arguments = refl
+
 words_of_instructions :
     map (instruction_words (function_of [])) (
     move 0 (Constant 1)
@@ -188,19 +204,23 @@ words_of_instructions = refl
 its_words : words (function_of (return None ∷ [])) ≡ 34
 its_words = refl
 
--- of 500 temporaries the first one is out of reach
+-- 3 more for the ninth parameter, which is in the frame of the caller
+words_of_nine_parameters : words (record (function_of []) { parameters = replicate 9 (Plain 0) }) ≡ 16 + 9 + 3
+words_of_nine_parameters = refl
+
+-- of 500 temporaries the first nine are out of reach
 abbrev large : TacFunctionTree
 large = record { parameters = Plain 0 ∷ Placed 0 scalars.Int ∷ []; temporaries = 500; blocks = 8 ∷ []; code = [] }
 
-slots_in_reach : map (is_near large) (0 ∷ 1 ∷ 499 ∷ []) ≡ false ∷ true ∷ true ∷ []
+slots_in_reach : map (is_near large) (0 ∷ 8 ∷ 9 ∷ 499 ∷ []) ≡ false ∷ false ∷ true ∷ true ∷ []
 slots_in_reach = refl
 
 words_out_of_reach :
     map (instruction_words large) (
     move 0 (Temporary 0)
-    ∷ move 1 (Byte 0)
-    ∷ move 1 (Constant 2048)
-    ∷ store scalars.Int (behind 0 0) (Integer 1)
+    ∷ move 9 (Byte 0)
+    ∷ move 9 (Constant 2048)
+    ∷ store scalars.Int (behind 0 0) (Integer 9)
     ∷ fill (zeros 11) (at_local 0)
     ∷ call (Some 0) GetChar []
     ∷ [])

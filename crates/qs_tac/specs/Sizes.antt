@@ -1,7 +1,8 @@
--- How many values a function has, and a bound on the words of its machine code: what each instruction is
--- made of, where slots with low numbers are out of the reach of an immediate. Registers that a function saves
--- are in reach.
-use Rattle.std.specs.Prelude.{ℕ, ◌+◌, ◌-◌, ◌*◌, ◌%◌, nat_lt, Bool, if◌then◌else◌, sum_by, Option, Some, None, unwrap_or}
+-- How many values a function has, how many words of arguments its calls pass on the stack, and a bound on the words of its
+-- machine code: what each instruction is made of, where slots with low numbers are out of the reach of an immediate.
+-- Registers that a function saves are in reach.
+use Rattle.std.specs.Prelude.{ℕ, ◌+◌, ◌-◌, ◌*◌, ◌%◌, max, nat_lt, Bool, if◌then◌else◌, List, [], ◌∷◌, length, sum_by, Option, Some, None, unwrap_or}
+use Rattle.qs_base.specs.Parameters.{stack_arguments, most_stack_arguments}
 use Rattle.qs_memory.specs.Sizes.{blank_size}
 use Rattle.qs_memory.specs.declared.operation.BinaryOperation.{BinaryOperation}
 use Rattle.qs_memory.specs.declared.operation.BinaryOperation.TheVariants as binaries
@@ -22,6 +23,28 @@ use Rattle.qs_tac.specs.declared.operands.Condition.TheVariants.{NotZero, Zero, 
 abbrev pub values : TacFunctionTree → ℕ
 values f = f.temporaries
 
+-- ---- arguments
+
+abbrev pub arguments_of : InstructionTree → ℕ
+arguments_of (move x o) = 0
+arguments_of (unary op x o) = 0
+arguments_of (binary op x o p) = 0
+arguments_of (convert s x o) = 0
+arguments_of (address_of x p) = 0
+arguments_of (load s x p) = 0
+arguments_of (store s p o) = 0
+arguments_of (copy size alignment p q) = 0
+arguments_of (fill blank p) = 0
+arguments_of (call x g arguments) = length arguments
+arguments_of (jump to) = 0
+arguments_of (branch c to) = 0
+arguments_of (return o) = 0
+
+-- the most words of arguments that one instruction passes on the stack
+abbrev pub most_passed : List InstructionTree → ℕ
+most_passed [] = 0
+most_passed (i ∷ code) = max (stack_arguments (arguments_of i)) (most_passed code)
+
 -- ---- slots
 
 -- the registers that a function gives back to its caller
@@ -32,14 +55,14 @@ saved_registers = 12
 abbrev pub reach : ℕ
 reach = 2048
 
--- behind the return address and the registers lie the slots, the last one first: so the last ones are in reach
--- even where all the registers are saved
+-- behind the arguments that are passed on the stack, the return address and the registers lie the slots, the last one
+-- first: so the last ones are in reach even where all the registers are saved and a call has the most arguments
 abbrev pub is_near : TacFunctionTree → (temporary : ℕ) → Bool
-is_near f t = nat_lt (4 * (saved_registers + (f.temporaries - t))) reach
+is_near f t = nat_lt (4 * (most_stack_arguments + saved_registers + (f.temporaries - t))) reach
 
 -- so many
 abbrev pub near_values : ℕ
-near_values = 499
+near_values = 491
 
 -- ---- words
 
@@ -128,16 +151,18 @@ abbrev pub parameter_words : TacFunctionTree → Parameter → ℕ
 parameter_words f (Plain x) = slot_words f x
 parameter_words f (Placed i s) = 3
 
--- LUI, ADDI and ADD on x2, the return address, the saved registers, the parameters
+-- LUI, ADDI and ADD on x2, the return address, the saved registers, the parameters; LUI, ADD and LW for each that is passed
+-- on the stack
 abbrev pub enter_words : TacFunctionTree → ℕ
-enter_words f = 3 + 1 + saved_registers + sum_by (parameter_words f) f.parameters
+enter_words f = 3 + 1 + saved_registers + sum_by (parameter_words f) f.parameters + 3 * stack_arguments (length f.parameters)
 
 abbrev pub returned_words : TacFunctionTree → Option Operand → ℕ
 returned_words f None = 0
 returned_words f (Some o) = operand_words f o
 
 -- an access is one word behind its address. A copy's and a fill's count is LUI and ADDI; the loop of a copy
--- has six instructions, that of a fill four, and behind it stand the stores of the bytes that make no word
+-- has six instructions, that of a fill four, and behind it stand the stores of the bytes that make no word. SW stores an
+-- argument that is passed on the stack
 abbrev pub instruction_words : TacFunctionTree → InstructionTree → ℕ
 instruction_words f (move x o) = operand_words f o + slot_words f x
 instruction_words f (unary op x o) = operand_words f o + 1 + slot_words f x
@@ -148,7 +173,8 @@ instruction_words f (load s x p) = address_words f p + 1 + slot_words f x
 instruction_words f (store s p o) = address_words f p + 1 + operand_words f o
 instruction_words f (copy size alignment p q) = (address_words f p + 1) + (address_words f q + 1) + 2 + 6
 instruction_words f (fill blank p) = address_words f p + 1 + 2 + 4 + blank_size blank % 4
-instruction_words f (call x g arguments) = sum_by (operand_words f) arguments + callee_words g + taken_words f x
+instruction_words f (call x g arguments) =
+    sum_by (operand_words f) arguments + stack_arguments (length arguments) + callee_words g + taken_words f x
 instruction_words f (jump to) = 1
 instruction_words f (branch c to) = condition_words f c
 instruction_words f (return o) = returned_words f o + leave_words

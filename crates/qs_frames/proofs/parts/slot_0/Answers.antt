@@ -7,4 +7,4 @@ use Rattle.qs_frames.proofs.parts.slot_0.Goals as goal
 pub returns : goal.returns
 returns c =
     let first = first_slot (function_tree c.args.f.now) (places_tree c.args.places.now) in
-    grind (arith, first, c.return_words.ensures.words, c.used_count.ensures.count, c.deref.ensures.value, c.behind_last.ensures, c.deref-2.ensures.value)
+    grind (arith, first, c.words_before_slots.ensures, c.behind_last.ensures, c.deref.ensures.value)

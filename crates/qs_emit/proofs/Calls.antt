@@ -1,7 +1,9 @@
 -- Calls of functions, and of the environment.
-use Rattle.std.proofs.Common.{◌≡◌, ℕ, ◌+◌, ◌*◌, ◌%◌, ◌^◌, ◌<◌, ◌≤◌, Bool, true, false, List, [], ◌∷◌, ◌++◌, length, All, Option, Some, None, refl, sym, ap, ◌∙◌, subst, arith, min, length-append}
-use Rattle.std.specs.Prelude.{if◌then◌else◌, slice_get}
+use Rattle.std.proofs.Common.{◌≡◌, inl, ℕ, ◌+◌, ◌*◌, ◌%◌, ◌^◌, ◌<◌, ◌≤◌, Bool, true, false, List, [], ◌∷◌, ◌++◌, length, All, Option, Some, None, refl, sym, ap, ◌∙◌, subst, arith, min, length-append}
+use Rattle.std.specs.Prelude.{nat_lt, if◌then◌else◌, slice_get}
+use Rattle.std.proofs.lemmas.Bool.Decides.{nat_tests}
 use Rattle.std.specs.List.{list_all}
+use Rattle.qs_base.specs.Parameters.{stack_arguments}
 use Rattle.qs_base.specs.Words as words
 use Rattle.qs_memory.specs.Values.{Value}
 use Rattle.qs_memory.specs.Memory.{make}
@@ -21,7 +23,7 @@ use Rattle.qs_tac.specs.Places.{place_of}
 use Rattle.qs_tac.specs.Fits.{operand_fits}
 use Rattle.qs_tac.specs.Values.{Activation, operands}
 use Rattle.qs_tac.specs.Steps.{Waiting, waits}
-use Rattle.qs_frames.specs.Layout.{keeps_return_address}
+use Rattle.qs_frames.specs.Layout.{outgoing_words, keeps_return_address}
 use Rattle.qs_emit_selection.specs.Pieces.{addi}
 use Rattle.qs_emit_selection.specs.Operands.{Context}
 use Rattle.qs_emit_selection.specs.Emission as emission
@@ -32,13 +34,13 @@ use Rattle.qs_emit.specs.Surroundings.{HasBlocks, Lay, ground}
 use Rattle.qs_emit.specs.Relation.{Setup, context, cost, entry, place, function_at, HasPlace, IsWaiting, HasStack, IsRelated, StandsAt, around}
 use Rattle.qs_emit.proofs.Injection.{value_here, value_there}
 use Rattle.qs_emit.proofs.Steps.{Takes, takes_on, takes_less, HasAt, straight, IsSteady, steady_on, Does, does_is, does_then, does_none, op_imm_does, stepped, takes_step, stirred_bytes, same_stirred}
-use Rattle.qs_emit.proofs.FrameLaws.{value_link, related_own, related_holding, related_to, related_fewer}
+use Rattle.qs_emit.proofs.FrameLaws.{value_link, placed_inside, related_own, related_holding, related_to, related_fewer}
 use Rattle.qs_emit.proofs.Operands.{holder, argument_scratch, value_apart, IsAmid, amid_gets, put_does}
 use Rattle.qs_emit.proofs.LoopSteps.{link_acts}
 use Rattle.qs_emit.proofs.CodePlaces.{IsCode, plain_laid, HasFunction, has_function, fits_between}
 use Rattle.qs_emit.proofs.FollowedSteps.{Reaches, Moved, steady_at, amid_at}
 use Rattle.qs_emit.proofs.Jumps.{distance_back}
-use Rattle.qs_emit.proofs.Parameters.{InRegisters, pass_does, operands_count, Passed, passes}
+use Rattle.qs_emit.proofs.Parameters.{argument_in, in_register, argument_same, ArePassed, pass_does, operands_count, Passed, passes}
 use Rattle.qs_emit.proofs.EntryLaws.{IsEntered, enters}
 
 -- what a call leaves of a file is in the file
@@ -90,8 +92,8 @@ module _ (s : Setup) (a : Activation File) (w : World) (stack : List (Waiting Fi
       low : m2.low ≡ m.low
       entered : IsEntered s f vs w (waiting ∷ stack) l m2
 
-    jumped : (m1 : Watched) (n p : ℕ) → IsBehind n m1 → InRegisters s a w.memory stack l sp m 10 vs m1 → m1.now.pc ≡ p → f < length s.unit.functions → length vs ≡ length (function_at s.unit f).parameters → instruction_at s.image p ≡ Some (instructions.Jal 1 (words.sub (entry s f) p)) → keeps_return_address c.function c.places ≡ true → Lays (instruction_at s.image) s.label_at (p + 4) (plain (take_result c x)) (place s a.function (a.at + 1)) → p % 4 ≡ 0 → p + 4 ≤ s.code_end → IsCalled (called m1 (entry s f)) (n + 1)
-    jumped m1 n p b args pc known count has keeps tail al low =
+    jumped : (m1 : Watched) (n p : ℕ) → IsBehind n m1 → ArePassed s a w.memory stack l sp vs m1 → stack_arguments (length vs) ≤ outgoing_words c.function → m1.now.pc ≡ p → f < length s.unit.functions → length vs ≡ length (function_at s.unit f).parameters → instruction_at s.image p ≡ Some (instructions.Jal 1 (words.sub (entry s f) p)) → keeps_return_address c.function c.places ≡ true → Lays (instruction_at s.image) s.label_at (p + 4) (plain (take_result c x)) (place s a.function (a.at + 1)) → p % 4 ≡ 0 → p + 4 ≤ s.code_end → IsCalled (called m1 (entry s f)) (n + 1)
+    jumped m1 n p b args few pc known count has keeps tail al low =
         let g = has_function s f known in
         let limit = s.short in
         let entry_low = g.entry_low in
@@ -121,7 +123,11 @@ module _ (s : Setup) (a : Activation File) (w : World) (stack : List (Waiting Fi
             blocks = subst (λ (q : ℕ). HasBlocks (around s) (ground w.memory l m2.now.memory) q) (sym x2) r.blocks;
             above = subst (λ (q : ℕ). HasStack s (ground w.memory l m2.now.memory) (waiting ∷ stack) m2.now.registers q) (sym x2) (wait, r.above);
             count = count;
-            arguments = λ i v e. subst (λ (q : ℕ). StandsFor w.memory l.address_of v q) (sym (other (10 + i) (λ z. absurd (omega (arith, z))))) (args.values i v e);
+            arguments = λ i v e.
+                let there : argument_in m2.now.registers m2.now.memory (m2.now.registers 2) i ≡ argument_in m1.now.registers m1.now.memory sp i =
+                ap (λ (q : ℕ). argument_in m2.now.registers m2.now.memory q i) x2 ∙ argument_same m1.now.registers m2.now.registers m1.now.memory m2.now.memory sp i (λ lt. other (10 + i) (λ z. absurd (omega (arith, z)))) (λ y le. own.same y (inl le)) in
+                subst (λ (q : ℕ). StandsFor w.memory l.address_of v q) (sym there) (args.values i v e);
+            arguments_below = let whole = placed_inside c in let top = s.ceiling in omega (arith, x2, few, whole, room_below, top);
             words = r.frame.words;
             return_low = omega (arith, ra, low, limit);
             aligned = omega (arith, x2, room_al);
@@ -171,19 +177,20 @@ module _ (s : Setup) (a : Activation File) (w : World) (stack : List (Waiting Fi
           stands = e.stands;
         }
 
-    pub function_called : (os : List Operand) (result : Passed) → HasFunction s a.function → keeps_return_address c.function c.places ≡ true → f < length s.unit.functions → length os ≡ length (function_at s.unit f).parameters → length os ≤ 8 → list_all (operand_fits s.unit (function_at s.unit a.function)) os ≡ true → operands (holder s) os a ≡ Some vs → Lays (instruction_at s.image) s.label_at (place s a.function a.at) (plain (emission.pass c 10 os) ++ (items.Jump 1 (first_label s.unit.functions f) ∷ plain (take_result c x))) (place s a.function (a.at + 1)) → place s a.function (a.at + 1) ≤ s.code_end → place s a.function a.at % 4 ≡ 0 → base s.room + cost s f ≤ m.now.registers 2 → passes (function_at s.unit f).parameters vs (length w.memory) no_values (make (function_at s.unit f).blocks w.memory) ≡ Some result → HasBegun result
+    pub function_called : (os : List Operand) (result : Passed) → HasFunction s a.function → keeps_return_address c.function c.places ≡ true → f < length s.unit.functions → length os ≡ length (function_at s.unit f).parameters → stack_arguments (length os) ≤ outgoing_words c.function → list_all (operand_fits s.unit (function_at s.unit a.function)) os ≡ true → operands (holder s) os a ≡ Some vs → Lays (instruction_at s.image) s.label_at (place s a.function a.at) (plain (emission.pass c os) ++ (items.Jump 1 (first_label s.unit.functions f) ∷ plain (take_result c x))) (place s a.function (a.at + 1)) → place s a.function (a.at + 1) ≤ s.code_end → place s a.function a.at % 4 ≡ 0 → base s.room + cost s f ≤ m.now.registers 2 → passes (function_at s.unit f).parameters vs (length w.memory) no_values (make (function_at s.unit f).blocks w.memory) ≡ Some result → HasBegun result
     function_called os result has keeps known count few fits e lays low al room passed =
-        let code = emission.pass c 10 os in
+        let code = emission.pass c os in
         let st = straight (instruction_at s.image) s.label_at (place s a.function a.at) code (items.Jump 1 (first_label s.unit.functions f) ∷ plain (take_result c x)) (place s a.function (a.at + 1)) lays in
         let tail = plain_laid (instruction_at s.image) s.label_at (place s a.function a.at + 4 * length code + 4) (take_result c x) (place s a.function (a.at + 1)) st.rest_at.1 in
         let end = tail.end in
         let pc = h.pc in
         let fits_code = fits_between s m.now.pc (place s a.function (a.at + 1)) (length code) (omega (arith, pc, al)) low (omega (arith, pc, end)) in
         let steady = steady_at s a w stack l m h in
-        let d = (pass_does s a w.memory stack l sp os vs m 10 (amid_at s a w stack l m h) fits e (omega arith) (omega (arith, few))).by (subst (λ (p : ℕ). HasAt (instruction_at s.image) p code) (sym h.pc) st.code_at) fits_code steady in
-        let counted : length vs ≡ length (function_at s.unit f).parameters = operands_count s a w.memory stack l sp os vs e ∙ count in
+        let d = (pass_does s a w.memory stack l sp os vs m (amid_at s a w stack l m h) fits e few).by (subst (λ (p : ℕ). HasAt (instruction_at s.image) p code) (sym h.pc) st.code_at) fits_code steady in
+        let same_count = operands_count s a w.memory stack l sp os vs e in
+        let counted : length vs ≡ length (function_at s.unit f).parameters = same_count ∙ count in
         begins _ (length code + 1) result
-        (jumped d.to (length code) (place s a.function a.at + 4 * length code) (record { takes = d.takes; x2 = d.x2; input = d.input; output = d.output; low = d.low; steady = steady_on s m d.to d.x2 d.low d.bytes steady }) d.is (d.pc ∙ ap (λ (p : ℕ). p + 4 * length code) h.pc) known counted st.rest_at.0 keeps st.rest_at.1 (omega (arith, al)) (omega (arith, end, low)))
+        (jumped d.to (length code) (place s a.function a.at + 4 * length code) (record { takes = d.takes; x2 = d.x2; input = d.input; output = d.output; low = d.low; steady = steady_on s m d.to d.x2 d.low d.bytes steady }) d.is (omega (arith, few, same_count)) (d.pc ∙ ap (λ (p : ℕ). p + 4 * length code) h.pc) known counted st.rest_at.0 keeps st.rest_at.1 (omega (arith, al)) (omega (arith, end, low)))
         room passed
 
   -- ---- calls of the environment
@@ -280,23 +287,26 @@ module _ (s : Setup) (a : Activation File) (w : World) (stack : List (Waiting Fi
     pub values : (i : ℕ) (v : Value) → slice_get vs i ≡ Some v → i < 7 → StandsFor w.memory l.address_of v (m1.now.registers (10 + i))
     pub a7 : register m1.now 17 ≡ number
 
-  asks : (os : List Operand) (vs : List Value) (number : ℕ) → number < 2 ^ 32 → list_all (operand_fits s.unit (function_at s.unit a.function)) os ≡ true → operands (holder s) os a ≡ Some vs → length os ≤ 8 → Does s m (emission.pass c 10 os ++ addi 17 0 number ∷ []) (IsAsking vs number)
+  asks : (os : List Operand) (vs : List Value) (number : ℕ) → number < 2 ^ 32 → list_all (operand_fits s.unit (function_at s.unit a.function)) os ≡ true → operands (holder s) os a ≡ Some vs → stack_arguments (length os) ≤ outgoing_words c.function → Does s m (emission.pass c os ++ addi 17 0 number ∷ []) (IsAsking vs number)
   asks os vs number small fits e few =
       let a7 = argument_scratch 17 (omega arith) (omega arith) in
-      does_then s m (emission.pass c 10 os) (addi 17 0 number ∷ []) _ _ (pass_does s a w.memory stack l sp os vs m 10 (amid_at s a w stack l m h) fits e (omega arith) (omega (arith, few))) (λ m1 x2 k.
+      does_then s m (emission.pass c os) (addi 17 0 number ∷ []) _ _ (pass_does s a w.memory stack l sp os vs m (amid_at s a w stack l m h) fits e few) (λ m1 x2 k.
       does_is s m1 _ _ _ (op_imm_does s m1 Addi 17 0 number a7.free) (λ m2 y2 g. record {
         amid = amid_gets s a w.memory stack l sp m1 m2 17 _ a7 k.amid y2 g;
-        values = λ i v f lt. subst (λ (q : ℕ). StandsFor w.memory l.address_of v q) (sym (g.others (10 + i) (λ z. absurd (omega (arith, z, lt))))) (k.values i v f);
+        values = λ i v f lt.
+            let less : nat_lt i 8 ≡ true = grind (arith, nat_tests, lt) in
+            let there : argument_in m1.now.registers m1.now.memory sp i ≡ m1.now.registers (10 + i) = in_register m1.now.registers m1.now.memory sp i less in
+            subst (λ (q : ℕ). StandsFor w.memory l.address_of v q) (sym (g.others (10 + i) (λ z. absurd (omega (arith, z, lt))) ∙ sym there)) (k.values i v f);
         a7 = g.got ∙ omega (arith, small);
       }))
 
   -- the code of a call of the environment, up to ECALL
-  pub environment_called : (os : List Operand) (vs : List Value) (number : ℕ) (e : Event) (x : Option ℕ) (v : Value) (input : List ℕ) → number < 2 ^ 32 → Moved (cost s) (Some e) sp sp m.low m.low → list_all (operand_fits s.unit (function_at s.unit a.function)) os ≡ true → operands (holder s) os a ≡ Some vs → length os ≤ 8
+  pub environment_called : (os : List Operand) (vs : List Value) (number : ℕ) (e : Event) (x : Option ℕ) (v : Value) (input : List ℕ) → number < 2 ^ 32 → Moved (cost s) (Some e) sp sp m.low m.low → list_all (operand_fits s.unit (function_at s.unit a.function)) os ≡ true → operands (holder s) os a ≡ Some vs → stack_arguments (length os) ≤ outgoing_words c.function
       → ((m1 : Watched) → IsAsking vs number m1 → m1.now.input ≡ w.input → m1.now.output ≡ m.now.output → (answer : ℕ) × ((act s.image s.room.size m1.now instructions.Ecall ≡ Next (record m1.now { pc = m1.now.pc + 4; registers = with_value m1.now.registers 10 answer; input = input; output = m.now.output ++ output_of (e ∷ []) })) × StandsFor w.memory l.address_of v answer))
       → All (λ byte. byte < 256) input → ((t : ℕ) → x ≡ Some t → HasPlace c (place_of c.places t))
-      → Lays (instruction_at s.image) s.label_at (place s a.function a.at) (plain (emission.pass c 10 os) ++ (plain (addi 17 0 number ∷ instructions.Ecall ∷ []) ++ plain (take_result c x))) (place s a.function (a.at + 1)) → place s a.function (a.at + 1) ≤ s.code_end → place s a.function a.at % 4 ≡ 0 → HasAnswer e x v input
+      → Lays (instruction_at s.image) s.label_at (place s a.function a.at) (plain (emission.pass c os) ++ (plain (addi 17 0 number ∷ instructions.Ecall ∷ []) ++ plain (take_result c x))) (place s a.function (a.at + 1)) → place s a.function (a.at + 1) ≤ s.code_end → place s a.function a.at % 4 ≡ 0 → HasAnswer e x v input
   environment_called os vs number e x v input small moved fits ev few asked input_bytes has lays low al =
-      let code = emission.pass c 10 os in
+      let code = emission.pass c os in
       let st = straight (instruction_at s.image) s.label_at (place s a.function a.at) code (plain (addi 17 0 number ∷ instructions.Ecall ∷ []) ++ plain (take_result c x)) (place s a.function (a.at + 1)) lays in
       let p0 = place s a.function a.at + 4 * length code in
       let tail = plain_laid (instruction_at s.image) s.label_at (p0 + 4 + 4) (take_result c x) (place s a.function (a.at + 1)) st.rest_at.1.1 in

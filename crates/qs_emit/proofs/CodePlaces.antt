@@ -29,6 +29,7 @@ use Rattle.qs_emit.specs.Machine.{instruction_at}
 use Rattle.qs_emit.specs.Relation.{no_function, function_at, context, Setup, entry, place, IsAmong, HasPlace}
 use Rattle.qs_emit.proofs.FrameLaws.{saved_cases, used_stored}
 use Rattle.qs_emit.proofs.Steps.{HasAt, Fits}
+use Rattle.qs_emit.proofs.Passes.{few_there}
 
 -- ---- items
 
@@ -361,7 +362,7 @@ module _ (s : Setup) where
   pub some_code : (f : ℕ) → f < length s.unit.functions → (code : List Instr) (i : InstructionTree) → instruction_items (context s f) (labels_of s.unit f) i ≡ plain code → 1 ≤ length code
   some_code f lt code i e =
       let accepted = s.emittable.places f (function_at s.unit f) (function_there f lt) in
-      let k = (words_are_kept (context s f) (labels_of s.unit f) accepted).some i in
+      let k = (words_are_kept (context s f) (labels_of s.unit f) accepted (few_there s.unit s.places s.emittable f)).some i in
       let l : length (plain code) ≡ length code = length-map code Plain in
       let m : length (instruction_items (context s f) (labels_of s.unit f) i) ≡ length (plain code) = ap length e in
       omega (arith, k, l, m)

@@ -1,19 +1,17 @@
 -- For which units and places code is selected and emitted, and what their images do.
 use Rattle.std.proofs.Common.{◌≡◌, ◌⊎◌, inl, inr, ℕ, zero, suc, ◌+◌, ◌<◌, ◌≤◌, Bool, true, false, List, [], ◌∷◌, length, Option, Some, None, refl, sym, ap, ◌∙◌, subst, arith}
-use Rattle.std.specs.Prelude.{◌&&◌, nat_le, if◌then◌else◌, sum_by, slice_get, slice_index_or}
+use Rattle.std.specs.Prelude.{nat_le, if◌then◌else◌, sum_by, slice_get, slice_index_or}
 use Rattle.std.specs.declared.alloc.Global.{Global}
 use Rattle.std.specs.declared.vec.Vec.{Vec}
 use Rattle.std.specs.List.{list_all}
 use Rattle.std.specs.Option.{option_or}
 use Rattle.std.proofs.lemmas.Bool.Decides.{nat_tests}
 use Rattle.std.proofs.lemmas.Option.{get_or_from_slice_get, slice_get_within}
-use Rattle.std.proofs.lemmas.Bool.{and_parts}
 use Rattle.qs_asm.specs.declared.item.Item.{Item}
 use Rattle.qs_asm.specs.Items.{item_words}
 use Rattle.qs_asm.specs.Counting.{HasAssembly}
 use Rattle.qs_asm.proofs.CountingLaws.{counted_items_are_assembled}
-use Rattle.qs_tac.specs.Trees.{InstructionTree, move, unary, binary, convert, address_of, load, store}
-use Rattle.qs_tac.specs.Trees.{copy, fill, call, jump, branch, return, TacFunctionTree, TacUnitTree}
+use Rattle.qs_tac.specs.Trees.{InstructionTree, TacFunctionTree, TacUnitTree}
 use Rattle.qs_tac.specs.Fits.{unit_fits}
 use Rattle.qs_tac.specs.Laws.{AreAccepted}
 use Rattle.qs_tac.specs.Places.{PlacesTree, slots_from, no_places, place_of, slot_count, may_stand, Accepted, own_slots, keep_values}
@@ -27,7 +25,7 @@ use Rattle.qs_emit_selection.specs.Data.{data_sizes, data_address}
 use Rattle.qs_emit_selection.specs.Emission.{labels_of}
 use Rattle.qs_emit_selection.specs.Labels.{label_count}
 use Rattle.qs_emit_selection.specs.Laws.{HasFewArguments}
-use Rattle.qs_emit_selection.specs.Limits.{most_arguments, passes_few, has_few, place_fits, places_fit, frame_fits, data_fit, function_fault, functions_fault, first_fault}
+use Rattle.qs_emit_selection.specs.Limits.{most_arguments, passes_few, has_few, starts_with_few, main_has_few, place_fits, places_fit, frame_fits, data_fit, function_fault, functions_fault, first_fault}
 use Rattle.qs_emit_selection.specs.Units.{selected}
 use Rattle.qs_emit_selection.specs.declared.fault.SelectionFault.{SelectionFault}
 use Rattle.qs_emit_selection.specs.declared.fault.SelectionFault.TheVariants as faults
@@ -37,45 +35,11 @@ use Rattle.qs_emit_selection.proofs.Sizes.{functions_keep_words, units_keep_word
 use Rattle.qs_emit.specs.Relation.{no_function, function_at, IsEmittable, data_end}
 use Rattle.qs_emit.specs.Emission.{HasFewWords, AllReachWhereFew, ImagesAreEmitted}
 use Rattle.qs_emit.proofs.DataBytes.{data_length}
+use Rattle.qs_emit.proofs.Passes.{both_true, all_pass, all_short, all_few}
 use Rattle.qs_emit.proofs.ImageLaws.{images_follow}
-
-both_true : (a b : Bool) → a ≡ true → b ≡ true → (a && b) ≡ true
-both_true a b h k = cc
 
 pub within : (n m : ℕ) → n ≤ m → nat_le n m ≡ true
 within n m h = grind (arith, nat_tests, h)
-
--- ---- calls
-
-short_passes : (i : InstructionTree) → HasFewArguments i → passes_few i ≡ true
-short_passes (move x o) h = refl
-short_passes (unary op x o) h = refl
-short_passes (binary op x o p) h = refl
-short_passes (convert s x o) h = refl
-short_passes (address_of x p) h = refl
-short_passes (load s x p) h = refl
-short_passes (store s p o) h = refl
-short_passes (copy size alignment p q) h = refl
-short_passes (fill b p) h = refl
-short_passes (call x f arguments) h = within (length arguments) most_arguments (h x f arguments refl)
-short_passes (jump to) h = refl
-short_passes (branch c to) h = refl
-short_passes (return o) h = refl
-
-all_pass : (code : List InstructionTree) → ((k : ℕ) (i : InstructionTree) → slice_get code k ≡ Some i → HasFewArguments i) → list_all passes_few code ≡ true
-all_pass [] h = refl
-all_pass (i ∷ code) h =
-    both_true (passes_few i) (list_all passes_few code) (short_passes i (h 0 i refl)) (all_pass code (λ k j is. h (suc k) j is))
-
-passes_short : (i : InstructionTree) → passes_few i ≡ true → HasFewArguments i
-passes_short i passes x f arguments is = let few : passes_few (call x f arguments) ≡ true = ap passes_few (sym is) ∙ passes in grind (arith, nat_tests, few)
-
-all_short : (code : List InstructionTree) → list_all passes_few code ≡ true → (k : ℕ) (i : InstructionTree) → slice_get code k ≡ Some i → HasFewArguments i
-all_short [] all k i at = absurd cc
-all_short (j ∷ code) all zero i at =
-    let same : j ≡ i = cc in
-    subst HasFewArguments same (passes_short j (and_parts (passes_few j) (list_all passes_few code) all).0)
-all_short (j ∷ code) all (suc k) i at = all_short code (and_parts (passes_few j) (list_all passes_few code) all).1 k i at
 
 -- ---- places
 
@@ -131,9 +95,9 @@ functions_free ps first (g ∷ gs) (suc f) none lt =
     subst (λ (n : ℕ). IsFree (slice_index_or gs f no_function) (slice_index_or ps n no_places)) same
     (functions_free ps (first + 1) gs f others (omega (arith, lt)))
 
-parts : (b : Bool) (o : Option SelectionFault) → (if b then o else Some faults.DataTooLarge) ≡ None → (b ≡ true) × (o ≡ None)
-parts true o h = (refl, h)
-parts false o h = cc
+parts : (b : Bool) (o : Option SelectionFault) (fault : SelectionFault) → (if b then o else Some fault) ≡ None → (b ≡ true) × (o ≡ None)
+parts true o fault h = (refl, h)
+parts false o fault h = cc
 
 fault_by : (a b c : Bool) → a ≡ true → b ≡ true → c ≡ true
     → (if a then (if b then (if c then None else Some faults.FrameTooLarge) else Some faults.NoRegister) else Some faults.TooManyArguments) ≡ None
@@ -162,14 +126,26 @@ functions_none ps f (g ∷ gs) h =
 -- ---- units for which code is selected
 
 module _ (u : TacUnitTree) (ps : List PlacesTree) (none : first_fault u ps ≡ None) where
+  abbrev behind_data : Option SelectionFault
+  behind_data = if main_has_few u then functions_fault ps 0 u.functions else Some faults.TooManyArguments
+
   pub data_fits : data_fit u ≡ true
-  data_fits = (parts (data_fit u) (functions_fault ps 0 u.functions) none).0
+  data_fits = (parts (data_fit u) behind_data faults.DataTooLarge none).0
+
+  main_fits : (main_has_few u ≡ true) × (functions_fault ps 0 u.functions ≡ None)
+  main_fits = parts (main_has_few u) (functions_fault ps 0 u.functions) faults.TooManyArguments (parts (data_fit u) behind_data faults.DataTooLarge none).1
+
+  main_few : length (function_at u u.main).parameters ≤ 8
+  main_few = elim (found_or_none u.functions u.main) [
+    | inl is ↦ let few : nat_le (length (function_at u u.main).parameters) 8 ≡ true = ap starts_with_few (sym is) ∙ main_fits.0 in grind (arith, nat_tests, few)
+    | inr missing ↦ let nothing = ap (λ (g : TacFunctionTree). length g.parameters) missing in omega (arith, nothing)
+  ]
 
   pub free : (f : ℕ) → f < length u.functions → IsFree (function_at u f) (slice_index_or ps f no_places)
   free f lt =
       let same : 0 + f ≡ f = omega arith in
       subst (λ (n : ℕ). IsFree (function_at u f) (slice_index_or ps n no_places)) same
-      (functions_free ps 0 u.functions f (parts (data_fit u) (functions_fault ps 0 u.functions) none).1 lt)
+      (functions_free ps 0 u.functions f main_fits.1 lt)
 
   -- a function that is there has no fault; one that isn't has nothing
   parameters_few : (f : ℕ) → length (function_at u f).parameters ≤ most_arguments
@@ -193,6 +169,7 @@ module _ (u : TacUnitTree) (ps : List PlacesTree) (none : first_fault u ps ≡ N
     places = accepted;
     cost = λ f lt. (free f lt).cost;
     parameters = parameters_few;
+    main_parameters = main_few;
     arguments = arguments_few;
   }
 
@@ -213,21 +190,28 @@ module _ (u : TacUnitTree) (ps : List PlacesTree) (h : IsEmittable u ps) where
       slots
       (within (layout g (slice_index_or ps i no_places)).cost largest_frame cost)
 
+  main_starts : (o : Option TacFunctionTree) → slice_get u.functions u.main ≡ o → starts_with_few o ≡ true
+  main_starts None e = refl
+  main_starts (Some g) e =
+      let same : function_at u u.main ≡ g = get_or_from_slice_get u.functions u.main g no_function e in
+      within (length g.parameters) 8 (subst (λ (x : TacFunctionTree). length x.parameters ≤ 8) same h.main_parameters)
+
   pub emittable_is_selected : data_fit u ≡ true → first_fault u ps ≡ None
   emittable_is_selected room =
-      ap (λ (b : Bool). if b then functions_fault ps 0 u.functions else Some faults.DataTooLarge) room
-      ∙ functions_none ps 0 u.functions function_none
+      ap (λ (b : Bool). if b then (if main_has_few u then functions_fault ps 0 u.functions else Some faults.TooManyArguments) else Some faults.DataTooLarge) room
+      ∙ (ap (λ (b : Bool). if b then functions_fault ps 0 u.functions else Some faults.TooManyArguments) (main_starts (slice_get u.functions u.main) refl)
+      ∙ functions_none ps 0 u.functions function_none)
 
   pub few_words : (items : Vec Item Global) → items.items ≡ selected u ps → HasFewWords u ps items
   few_words items is = record {
-    each = λ f g at. functions_keep_words (record { function = g; places = slice_index_or ps f no_places; data_at = data_address u.data_blocks }) (labels_of u f) f (h.places f g at);
-    all = let all = (units_keep_words u ps (data_address u.data_blocks) h.places).items in subst (λ (l : List Item). sum_by item_words l ≤ unit_words u) (sym is) all;
+    each = λ f g at. functions_keep_words (record { function = g; places = slice_index_or ps f no_places; data_at = data_address u.data_blocks }) (labels_of u f) f (h.places f g at) (all_few u ps h f g at);
+    all = let all = (units_keep_words u ps (data_address u.data_blocks) h.places (all_few u ps h)).items in subst (λ (l : List Item). sum_by item_words l ≤ unit_words u) (sym is) all;
   }
 
   pub all_reach : (items : Vec Item Global) → items.items ≡ selected u ps → AllReachWhereFew u items
   all_reach items is few =
       let up = unit_labels_count_up u ps (data_address u.data_blocks) h.fits in
-      let all = (units_keep_words u ps (data_address u.data_blocks) h.places).items in
+      let all = (units_keep_words u ps (data_address u.data_blocks) h.places (all_few u ps h)).items in
       subst HasAssembly (sym is) (counted_items_are_assembled (selected u ps) (label_count u) up.up up.lead (omega (arith, all, few)))
 
   pub images_are_emitted : data_fit u ≡ true → ImagesAreEmitted u ps

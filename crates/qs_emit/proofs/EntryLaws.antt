@@ -1,11 +1,14 @@
 -- A function is entered, with its blocks and its parameters.
 use Rattle.std.proofs.Common.{◌≡◌, ◌⊎◌, inl, inr, ℕ, ◌+◌, ◌-◌, ◌*◌, ◌%◌, ◌^◌, ◌<◌, ◌≤◌, List, ◌++◌, length, All, Some, None, refl, sym, ap, ◌∙◌, subst, arith, min, append-nil, length-append}
-use Rattle.std.specs.Prelude.{slice_get, true, ◌||◌, ◌==◌, Bool, false}
+use Rattle.std.specs.Prelude.{slice_get, slice_index_or, true, ◌||◌, ◌==◌, Bool, false}
 use Rattle.std.proofs.lemmas.Bool.Decides.{nat_tests}
 use Rattle.std.specs.List.{slice_get as slice_got}
+use Rattle.qs_base.specs.Parameters.{stack_arguments}
 use Rattle.qs_memory.specs.Values.{Value}
-use Rattle.qs_memory.specs.Memory.{Memory, block_at, make}
+use Rattle.qs_memory.specs.Memory.{Block, Memory, block_at, make}
 use Rattle.qs_memory.specs.Soundness.{IsLive}
+use Rattle.qs_memory.proofs.BlockLaws.{blocks_are_fresh}
+use Rattle.qs_machine.specs.State.{stack_top}
 use Rattle.qs_events.specs.Events.{Calls}
 use Rattle.qs_calls.specs.World.{World, with_memory, no_values}
 use Rattle.qs_isa.specs.declared.instruction.Instr.{Instr}
@@ -17,7 +20,7 @@ use Rattle.qs_tac.specs.Steps.{Waiting}
 use Rattle.qs_frames.specs.Layout.{total, frame_words, register_at}
 use Rattle.qs_frames.proofs.FrameLaws.{is_cost}
 use Rattle.qs_emit_selection.specs.Pieces.{move_stack}
-use Rattle.qs_emit_selection.specs.Operands.{Context, stored}
+use Rattle.qs_emit_selection.specs.Operands.{Context, frame_of, stored}
 use Rattle.qs_emit_selection.specs.Emission.{enter, save, take_parameters}
 use Rattle.qs_emit.specs.Machine.{Watched, base, instruction_at}
 use Rattle.qs_emit.specs.Lies.{AreBytes, StandsFor, IsInReach, IsOwn}
@@ -31,7 +34,7 @@ use Rattle.qs_emit.proofs.CodePlaces.{plain_laid, has_function, fits_between, pa
 use Rattle.qs_emit.proofs.FollowedSteps.{Reaches}
 use Rattle.qs_emit.proofs.NewFrame.{new_lay, later_new, blocks_new, frame_new, stack_new}
 use Rattle.qs_emit.proofs.Moves.{moved_by_some, StackMoved, stack_moves, AreSaved, saves_do}
-use Rattle.qs_emit.proofs.Parameters.{Passed, passes, begun, TakesAll, parameters_do, placed_is}
+use Rattle.qs_emit.proofs.Parameters.{argument_in, argument_same, Passed, passes, begun, TakesAll, parameters_do, placed_is}
 
 -- what lies outside a new frame: from x2 on, or data that are kept
 abbrev IsOuter : Setup → (sp at : ℕ) → Type 0
@@ -46,7 +49,7 @@ record IsFramed (s : Setup) (f low : ℕ) (m to : Watched) : Type 0 where
 
 -- registers are stored
 abbrev saving : Context → List Instr
-saving c = save (stored c) 0
+saving c = save (frame_of c).outgoing (stored c) 0
 
 module _ (s : Setup) (f : ℕ) (m m1 : Watched) (low : ℕ) (len : ℕ) (k : StackMoved s m low len m1) (sum : low + cost s f ≡ m.now.registers 2) (above : base s.room ≤ low) (aligned : low % 16 ≡ 0) (ceiling : m.now.registers 2 ≤ s.room.ceiling) where
   abbrev c : Context
@@ -56,12 +59,12 @@ module _ (s : Setup) (f : ℕ) (m m1 : Watched) (low : ℕ) (len : ℕ) (k : Sta
   frames =
       let x2 = k.x2 in
       let inside = stored_inside c in
-      does_is s m1 _ _ _ (saves_do s m1 (stored c) 0 low x2 (omega (arith, aligned)) above (omega (arith, sum, ceiling, inside)) (stored_given c)) (λ m2 z2 j. record {
+      does_is s m1 _ _ _ (saves_do s m1 (frame_of c).outgoing (stored c) 0 low x2 (omega (arith, aligned)) above (omega (arith, sum, ceiling, inside)) (stored_given c)) (λ m2 z2 j. record {
         others = λ q n2 n5. j.registers q ∙ k.others q n2 n5;
         outer = λ at o. outer_bytes m2 at o j;
         given = λ q h lt.
             let first : m1.now.registers q ≡ m.now.registers q = k.others q (given_apart q 2 h refl) (given_apart q 5 h refl) in
-            saved_in_kept (stored c) m1.now.registers m2.now.registers m2.now.memory m2.now.memory low 0 q (inr (j.registers q)) (λ i lo hi. refl) ∙ j.given q h (omega (arith, first, lt)) ∙ first;
+            saved_in_kept (frame_of c).outgoing (stored c) m1.now.registers m2.now.registers m2.now.memory m2.now.memory low 0 q (inr (j.registers q)) (λ i lo hi. refl) ∙ j.given q h (omega (arith, first, lt)) ∙ first;
         x2 = z2 ∙ x2;
       })
     where
@@ -73,11 +76,11 @@ module _ (s : Setup) (f : ℕ) (m m1 : Watched) (low : ℕ) (len : ℕ) (k : Sta
       held_low at (inl h) = inl (omega (arith, h, sum))
       held_low at (inr h) = inr h.1
 
-      beside : (at : ℕ) → IsOuter s (m.now.registers 2) at → (at < low + register_at 0) ⊎ (low + register_at (0 + length (stored c)) ≤ at)
+      beside : (at : ℕ) → IsOuter s (m.now.registers 2) at → (at < low + register_at (frame_of c).outgoing 0) ⊎ (low + register_at (frame_of c).outgoing (0 + length (stored c)) ≤ at)
       beside at (inl h) = let inside = stored_inside c in inr (omega (arith, h, inside, sum))
       beside at (inr h) = let b = h.0 in inl (omega (arith, b, above))
 
-      outer_bytes : (m2 : Watched) (at : ℕ) → IsOuter s (m.now.registers 2) at → AreSaved s m1 low (stored c) 0 m2 → m2.now.memory at ≡ m.now.memory at
+      outer_bytes : (m2 : Watched) (at : ℕ) → IsOuter s (m.now.registers 2) at → AreSaved s m1 low (frame_of c).outgoing (stored c) 0 m2 → m2.now.memory at ≡ m.now.memory at
       outer_bytes m2 at o j = j.outside at (held_low at o) (beside at o) ∙ k.own at (held at o) (held_low at o)
 
 -- bytes of blocks are outside a new frame
@@ -88,14 +91,15 @@ block_outer s m l flat sp b o k live lt = by (k.in_reach b live)
     by (inl h) = let a = h.above in inl (omega (arith, a))
     by (inr h) = let a = h.below in let d = data_below s in inr (omega (arith, a, d, lt), h.kept (l.address_of b + o) (omega arith) (omega (arith, lt)))
 
--- where a function is entered: arguments in a0 and the next registers, blocks and frames above x2, and room for the frame
+-- where a function is entered: arguments in registers and from x2 on, blocks and frames above x2, and room for the frame
 pub record IsEntered (s : Setup) (f : ℕ) (vs : List Value) (w : World) (stack : List (Waiting File)) (l : Lay) (m : Watched) : Type 0 where
   pub known : f < length s.unit.functions
   pub pc : m.now.pc ≡ entry s f
   pub blocks : HasBlocks (around s) (ground w.memory l m.now.memory) (m.now.registers 2)
   pub above : HasStack s (ground w.memory l m.now.memory) stack m.now.registers (m.now.registers 2)
   pub count : length vs ≡ length (function_at s.unit f).parameters
-  pub arguments : (i : ℕ) (v : Value) → slice_get vs i ≡ Some v → StandsFor w.memory l.address_of v (m.now.registers (10 + i))
+  pub arguments : (i : ℕ) (v : Value) → slice_get vs i ≡ Some v → StandsFor w.memory l.address_of v (argument_in m.now.registers m.now.memory (m.now.registers 2) i)
+  pub arguments_below : m.now.registers 2 + 4 * stack_arguments (length vs) ≤ stack_top
   pub words : (q : ℕ) → is_saved_register q ≡ true → m.now.registers q < 2 ^ 32
   pub return_low : m.now.registers 1 < 2 ^ 32
   pub aligned : m.now.registers 2 % 16 ≡ 0
@@ -161,15 +165,28 @@ module _ (s : Setup) (f : ℕ) (vs : List Value) (w : World) (stack : List (Wait
       }
 
   -- the parameters go into their places
-  filled : (to : Watched) → IsFramed s f low m to → Does s to (take_parameters (context s f) 10 (function_at s.unit f).parameters) (TakesAll s f h.known number stack lay low result)
+  filled : (to : Watched) → IsFramed s f low m to → Does s to (take_parameters (context s f) 0 (function_at s.unit f).parameters) (TakesAll s f h.known number stack lay low result)
   filled to k =
-      let same = same_cells to k in
-      let later = later_new s w.memory l m.now.memory to.now.memory f (m.now.registers 2) low sum low_above low_aligned h.ceiling h.blocks same in
-      let few = s.emittable.parameters f in
-      parameters_do s f h.known number stack lay low (function_at s.unit f).parameters vs to 10 no_values made (λ p. None) result (opened to k) (parameters_fit_there s f h.known) passed h.count (omega arith) (omega (arith, few))
-      (λ i v e. subst (λ (x : ℕ). StandsFor made lay.address_of v x) (sym (k.others (10 + i) (λ z. absurd (omega (arith, z))) (λ z. absurd (omega (arith, z)))))
-      (value_kept w.memory made l.address_of lay.address_of v (m.now.registers (10 + i)) later (h.arguments i v e)))
-      (λ q c. c) (λ t v e. cc) (λ t v e. cc)
+      let count = h.count in
+      let below = h.arguments_below in
+      let whole = sum in
+      parameters_do s f h.known number stack lay low (function_at s.unit f).parameters vs to 0 no_values made (λ p. None) result (opened to k) (parameters_fit_there s f h.known) passed h.count (omega (arith, below, count, whole)) sizes
+      (λ i v e. there i v (h.arguments i v e)) (λ q c. c) (λ t v e. cc) (λ t v e. cc)
+    where
+      sizes : (i : ℕ) → i < length (function_at s.unit f).blocks → (block_at made (number + i)).size ≡ slice_index_or (function_at s.unit f).blocks i 0
+      sizes i lt = ap (λ (b : Block). b.size) ((blocks_are_fresh (function_at s.unit f).blocks w.memory).new i lt)
+
+      same_word : (i : ℕ) → argument_in to.now.registers to.now.memory (low + cost s f) (0 + i) ≡ argument_in m.now.registers m.now.memory (m.now.registers 2) i
+      same_word i =
+          let z : 0 + i ≡ i = omega arith in
+          ap (argument_in to.now.registers to.now.memory (low + cost s f)) z ∙ ap (λ (p : ℕ). argument_in to.now.registers to.now.memory p i) sum
+          ∙ argument_same m.now.registers to.now.registers m.now.memory to.now.memory (m.now.registers 2) i (λ lt. k.others (10 + i) (λ e. absurd (omega (arith, e))) (λ e. absurd (omega (arith, e)))) (λ at le. k.outer at (inl le))
+
+      there : (i : ℕ) (v : Value) → StandsFor w.memory l.address_of v (argument_in m.now.registers m.now.memory (m.now.registers 2) i) → StandsFor made lay.address_of v (argument_in to.now.registers to.now.memory (low + cost s f) (0 + i))
+      there i v stands =
+          let later = later_new s w.memory l m.now.memory to.now.memory f (m.now.registers 2) low sum low_above low_aligned h.ceiling h.blocks (same_cells to k) in
+          subst (λ (x : ℕ). StandsFor made lay.address_of v x) (sym (same_word i))
+          (value_kept w.memory made l.address_of lay.address_of v (argument_in m.now.registers m.now.memory (m.now.registers 2) i) later stands)
 
   -- the activation that begins
   abbrev pub beginning : Activation File
@@ -190,7 +207,7 @@ module _ (s : Setup) (f : ℕ) (vs : List Value) (w : World) (stack : List (Wait
   word = 2 ^ 32 - cost s f
 
   abbrev rest : List Instr
-  rest = saving (context s f) ++ take_parameters (context s f) 10 (function_at s.unit f).parameters
+  rest = saving (context s f) ++ take_parameters (context s f) 0 (function_at s.unit f).parameters
 
   cost_small : (0 < cost s f) × (cost s f ≤ 2 ^ 28)
   cost_small = ((is_cost (frame_words (context s f).function (context s f).places) (total (context s f).function.blocks)).positive, s.emittable.cost f h.known)
@@ -208,7 +225,7 @@ module _ (s : Setup) (f : ℕ) (vs : List Value) (w : World) (stack : List (Wait
       stack_moves s m word low has fits (omega (arith, positive)) (omega (arith, positive, most, room, x2)) (record { above = low_above; below = omega (arith, top); aligned = low_aligned }) h.steady
 
   behind : (m1 : Watched) → StackMoved s m low (length (move_stack word)) m1 → Does s m1 rest (TakesAll s f h.known number stack lay low result)
-  behind m1 k = does_then s m1 (saving (context s f)) (take_parameters (context s f) 10 (function_at s.unit f).parameters) _ _ (frames s f m m1 low (length (move_stack word)) k sum low_above low_aligned h.ceiling) (λ m2 x2 g. filled m2 g)
+  behind m1 k = does_then s m1 (saving (context s f)) (take_parameters (context s f) 0 (function_at s.unit f).parameters) _ _ (frames s f m m1 low (length (move_stack word)) k sum low_above low_aligned h.ceiling) (λ m2 x2 g. filled m2 g)
 
   ends : (m1 to : Watched) → StackMoved s m low (length (move_stack word)) m1 → Takes s.image s.room (length rest) m1 to → to.now.pc ≡ place s f 0 → to.now.registers 2 ≡ m1.now.registers 2 → to.now.input ≡ m1.now.input → to.now.output ≡ m1.now.output → to.low ≡ m1.low → AreBytes to.now.memory → TakesAll s f h.known number stack lay low result to → Enters
   ends m1 to k takes pc x2 input output least bytes t =

@@ -1,5 +1,5 @@
 -- What frames and blocks keep while registers and bytes around them change.
-use Rattle.std.proofs.Common.{◌≡◌, ◌⊎◌, inl, inr, ⊎_elim, ℕ, ◌+◌, ◌*◌, ◌%◌, ◌^◌, ◌==◌, ◌<◌, ◌≤◌, Bool, true, false, List, [], ◌∷◌, length, Some, refl, sym, ap, ◌∙◌, subst, arith}
+use Rattle.std.proofs.Common.{◌≡◌, ◌⊎◌, inl, inr, ⊎_elim, ℕ, ◌+◌, ◌%◌, ◌^◌, ◌==◌, ◌<◌, ◌≤◌, Bool, true, false, List, [], ◌∷◌, length, Some, refl, sym, ap, ◌∙◌, subst, arith}
 use Rattle.std.specs.Prelude.{◌&&◌, ◌||◌, ◌++◌, nat_le, if◌then◌else◌}
 use Rattle.std.specs.List.{list_all}
 use Rattle.std.proofs.lemmas.Bool.{cases_eq, cases_lt, and_parts}
@@ -17,7 +17,7 @@ use Rattle.qs_tac.specs.Holders.{File, same_place, with_place, is_saved_register
 use Rattle.qs_tac.specs.Values.{Activation}
 use Rattle.qs_tac.specs.Steps.{Waiting}
 use Rattle.qs_isa.specs.declared.instruction.StoreKind.TheVariants.{Sw}
-use Rattle.qs_frames.specs.Layout.{total, is_among, used_among, saved_registers, used_registers, keeps_return_address, return_register, frame_words, HasSlot, register_at}
+use Rattle.qs_frames.specs.Layout.{total, is_among, used_among, saved_registers, used_registers, keeps_return_address, return_register, outgoing_words, frame_words, HasSlot, argument_at, register_at}
 use Rattle.qs_frames.proofs.FrameLaws as frame_laws
 use Rattle.qs_frames.proofs.FrameLaws.{is_cost, stored_words}
 use Rattle.qs_emit_selection.specs.Operands.{Context, frame_of, stored, slot_offset}
@@ -204,12 +204,12 @@ reach_onward image r g later sp from block o h reach = reach_like image r sp (bl
 -- ---- frames
 
 -- a register that is stored is given back whatever it has become, and another one as it is
-pub saved_in_kept : (used : List ℕ) (registers other flat later : ℕ → ℕ) (sp i r : ℕ) → IsAmong used r ⊎ (other r ≡ registers r) → ((k : ℕ) → i ≤ k → k < i + length used → number_at 4 later (sp + register_at k) ≡ number_at 4 flat (sp + register_at k)) → saved_in used other later sp i r ≡ saved_in used registers flat sp i r
-saved_in_kept [] registers other flat later sp i r (inl e) h = absurd e
-saved_in_kept [] registers other flat later sp i r (inr e) h = e
-saved_in_kept (q ∷ used) registers other flat later sp i r e h = by (λ f. saved_in_kept used registers other flat later sp (i + 1) r f (λ k l u. h k (omega (arith, l)) (omega (arith, u)))) (r == q) refl e
+pub saved_in_kept : (outgoing : ℕ) (used : List ℕ) (registers other flat later : ℕ → ℕ) (sp i r : ℕ) → IsAmong used r ⊎ (other r ≡ registers r) → ((k : ℕ) → i ≤ k → k < i + length used → number_at 4 later (sp + register_at outgoing k) ≡ number_at 4 flat (sp + register_at outgoing k)) → saved_in outgoing used other later sp i r ≡ saved_in outgoing used registers flat sp i r
+saved_in_kept outgoing [] registers other flat later sp i r (inl e) h = absurd e
+saved_in_kept outgoing [] registers other flat later sp i r (inr e) h = e
+saved_in_kept outgoing (q ∷ used) registers other flat later sp i r e h = by (λ f. saved_in_kept outgoing used registers other flat later sp (i + 1) r f (λ k l u. h k (omega (arith, l)) (omega (arith, u)))) (r == q) refl e
   where
-    by : (IsAmong used r ⊎ (other r ≡ registers r) → saved_in used other later sp (i + 1) r ≡ saved_in used registers flat sp (i + 1) r) → (b : Bool) → (r == q) ≡ b → IsAmong (q ∷ used) r ⊎ (other r ≡ registers r) → (if b then number_at 4 later (sp + register_at i) else saved_in used other later sp (i + 1) r) ≡ (if b then number_at 4 flat (sp + register_at i) else saved_in used registers flat sp (i + 1) r)
+    by : (IsAmong used r ⊎ (other r ≡ registers r) → saved_in outgoing used other later sp (i + 1) r ≡ saved_in outgoing used registers flat sp (i + 1) r) → (b : Bool) → (r == q) ≡ b → IsAmong (q ∷ used) r ⊎ (other r ≡ registers r) → (if b then number_at 4 later (sp + register_at outgoing i) else saved_in outgoing used other later sp (i + 1) r) ≡ (if b then number_at 4 flat (sp + register_at outgoing i) else saved_in outgoing used registers flat sp (i + 1) r)
     by more true t e = h i (omega arith) (omega arith)
     by more false t (inl (inl e)) = absurd (grind (arith, nat_tests, t, e))
     by more false t (inl (inr e)) = more (inl e)
@@ -234,17 +234,17 @@ frame_word c g later from sp at o le inside own = number_same 4 g.flat later.fla
 pub slot_inside : (c : Context) (k : ℕ) → HasSlot c.places k → slot_offset c k + 4 ≤ (frame_of c).placed
 slot_inside c k h = frame_laws.slot_inside c.function c.places k h
 
-pub register_inside : (c : Context) (i : ℕ) → i < length (stored c) → register_at i + 4 ≤ (frame_of c).placed
+pub register_inside : (c : Context) (i : ℕ) → i < length (stored c) → register_at (frame_of c).outgoing i + 4 ≤ (frame_of c).placed
 register_inside c i h = let words = stored_words c.function c.places in omega (arith, h, words)
 
--- slots lie behind the stored registers
-pub slot_behind : (c : Context) (k : ℕ) → 4 * length (stored c) ≤ slot_offset c k
+-- slots lie behind the stored registers, and these behind the arguments
+pub slot_behind : (c : Context) (k : ℕ) → register_at (frame_of c).outgoing (length (stored c)) ≤ slot_offset c k
 slot_behind c k = let behind = frame_laws.slot_behind c.function c.places k in let words = stored_words c.function c.places in omega (arith, behind, words)
 
 pub placed_inside : (c : Context) → (frame_of c).placed + total c.function.blocks ≤ (frame_of c).cost
 placed_inside c = (is_cost (frame_words c.function c.places) (total c.function.blocks)).enough
 
-pub stored_inside : (c : Context) → 4 * length (stored c) ≤ (frame_of c).cost
+pub stored_inside : (c : Context) → register_at (frame_of c).outgoing (length (stored c)) ≤ (frame_of c).cost
 stored_inside c = let e = placed_inside c in let words = stored_words c.function c.places in omega (arith, e, words)
 
 module _ (s : Setup) where
@@ -271,7 +271,7 @@ module _ (s : Setup) where
   -- what a frame gives back
   pub caller_same : (g later : Ground) (f : ℕ) (registers other : ℕ → ℕ) (from sp : ℕ) → Onward g later from → from ≤ sp → SameKept (context s f) registers other → ((at : ℕ) → sp ≤ at → at < private_end (context s f) sp → g.owner at ≡ of_frame) → SameGiven (caller_registers (context s f) registers g.flat sp) (caller_registers (context s f) other later.flat sp)
   caller_same g later f registers other from sp o le same private = record {
-    same = λ r h. saved_in_kept (stored (context s f)) registers other g.flat later.flat sp 0 r (given_kept (context s f) registers other same r h) (λ k l u. frame_word (context s f) g later from sp (register_at k) o le (register_inside (context s f) k (omega (arith, u))) private);
+    same = λ r h. saved_in_kept (frame_of (context s f)).outgoing (stored (context s f)) registers other g.flat later.flat sp 0 r (given_kept (context s f) registers other same r h) (λ k l u. frame_word (context s f) g later from sp (register_at (frame_of (context s f)).outgoing k) o le (register_inside (context s f) k (omega (arith, u))) private);
   }
 
   pub stack_onward : (g later : Ground) (stack : List (Waiting File)) (registers other : ℕ → ℕ) (from sp : ℕ) → Onward g later from → from ≤ sp → SameGiven registers other → HasStack s g stack registers sp → HasStack s later stack other sp
@@ -423,7 +423,7 @@ module _ (s : Setup) (a : Activation File) (m : Memory) (stack : List (Waiting F
       let far : (y : ℕ) → sp + (frame_of c).cost ≤ y → later y ≡ flat y = λ y le. stored_other Sw flat (sp + at) x y (inr (omega (arith, le, inside, whole))) in
       let o : Onward g h (sp + (frame_of c).cost) = record { after = later_none m l.address_of; frames = λ y le e. e; same = λ y le e. far y le } in
       let given : SameGiven (caller_registers c registers flat sp) (caller_registers c registers later sp) = record {
-        same = λ q e. saved_in_kept (stored c) registers registers flat later sp 0 q (inr refl) (λ i lo hi. number_beside flat (sp + at) x 4 (sp + register_at i) (inl (omega (arith, hi, behind))));
+        same = λ q e. saved_in_kept (frame_of c).outgoing (stored c) registers registers flat later sp 0 q (inr refl) (λ i lo hi. number_beside flat (sp + at) x 4 (sp + register_at (frame_of c).outgoing i) (inl (omega (arith, hi, behind))));
       } in
       let here : StandsFor m l.address_of v (number_at 4 later (sp + at)) = subst (λ (y : ℕ). StandsFor m l.address_of v y) (sym (number_stored flat (sp + at) x)) stands in
       record {
@@ -460,6 +460,41 @@ module _ (s : Setup) (a : Activation File) (m : Memory) (stack : List (Waiting F
           shift i k (inr e) = inr (omega (arith, e))
       others k has (Register q) u n held = record { has = held.has; stands = held.stands }
 
+  -- an argument into its word
+  pub related_argument : (k x : ℕ) → k < outgoing_words c.function → IsRelated s a m stack l registers sp (store_4 flat (sp + argument_at k) x)
+  related_argument k x lt =
+      let at = argument_at k in
+      let later = store_4 flat (sp + at) x in
+      let g = ground m l flat in
+      let h = ground m l later in
+      let whole = placed_inside c in
+      let o : Onward g h (sp + (frame_of c).cost) = record { after = later_none m l.address_of; frames = λ y le e. e; same = λ y le e. stored_other Sw flat (sp + at) x y (inr (omega (arith, le, lt, whole))) } in
+      let given : SameGiven (caller_registers c registers flat sp) (caller_registers c registers later sp) = record {
+        same = λ q e. saved_in_kept (frame_of c).outgoing (stored c) registers registers flat later sp 0 q (inr refl) (λ i lo hi. number_beside flat (sp + at) x 4 (sp + register_at (frame_of c).outgoing i) (inr (omega (arith, lt))));
+      } in
+      record {
+        known = r.known;
+        frame = record {
+          holds = λ p v e. let held = r.frame.holds p v e in record { has = held.has; stands = subst (λ (y : ℕ). StandsFor m l.address_of v y) (sym (word p)) held.stands };
+          words = r.frame.words;
+          private = r.frame.private;
+          placed = r.frame.placed;
+          made = r.frame.made;
+          apart = r.frame.apart;
+        };
+        in_room = r.in_room;
+        above = stack_onward s g h stack (caller_registers c registers flat sp) (caller_registers c registers later sp) (sp + (frame_of c).cost) (sp + (frame_of c).cost) o (omega arith) given r.above;
+        blocks = blocks_same s m l sp flat later (λ b i live le. stored_other Sw flat (sp + at) x (l.address_of b + i) (outside (l.address_of b + i) b i (r.blocks.lies.owned b i live le))) r.blocks;
+        root = r.root;
+      }
+    where
+      word : (p : Place) → word_in c registers (store_4 flat (sp + argument_at k) x) sp p ≡ word_in c registers flat sp p
+      word (Slot i) = let behind = slot_behind c i in number_beside flat (sp + argument_at k) x 4 (sp + slot_offset c i) (inr (omega (arith, lt, behind)))
+      word (Register q) = refl
+
+      outside : (y b i : ℕ) → l.owner y ≡ cell_of b i → (y < sp + argument_at k) ⊎ (sp + argument_at k + 4 ≤ y)
+      outside y b i e = ⊎_elim (λ below. inl below) (λ ge. ⊎_elim (λ below. absurd (not_both (l.owner y) b i (r.frame.private y (omega (arith, ge)) (omega (arith, below, lt))) e)) (λ far. inr far) (cases_lt y (sp + argument_at k + 4))) (cases_lt y (sp + argument_at k))
+
   -- a value into a register
   pub related_register : (q x : ℕ) (v : Value) → HasPlace c (Register q) → x < 2 ^ 32 → StandsFor m l.address_of v x → IsRelated s (record a { held = with_place a.held (Register q) (Some v) }) m stack l (with_value registers q x) sp flat
   related_register q x v has small stands =
@@ -467,7 +502,7 @@ module _ (s : Setup) (a : Activation File) (m : Memory) (stack : List (Waiting F
       let o : Onward g g sp = record { after = later_none m l.address_of; frames = λ y le e. e; same = λ y le e. refl } in
       let here : StandsFor m l.address_of v (with_value registers q x q) = subst (λ (y : ℕ). StandsFor m l.address_of v y) (sym (value_here registers q x q refl)) stands in
       let given : SameGiven (caller_registers c registers flat sp) (caller_registers c (with_value registers q x) flat sp) = record {
-        same = λ z e. saved_in_kept (stored c) registers (with_value registers q x) flat flat sp 0 z (⊎_elim
+        same = λ z e. saved_in_kept (frame_of c).outgoing (stored c) registers (with_value registers q x) flat flat sp 0 z (⊎_elim
             (λ i. inl (subst (λ (y : ℕ). IsAmong (stored c) y) (sym i) (has.1 (given_value q has.0 (subst (λ (y : ℕ). is_given y ≡ true) i e)))))
             (λ n. inr (value_there registers q x z n))
             (cases_eq z q)) (λ i lo hi. refl);

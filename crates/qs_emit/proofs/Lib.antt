@@ -3,6 +3,7 @@ pub mod Steps
 pub mod Slots
 pub mod Injection
 pub mod Bytes
+pub mod Passes
 pub mod FrameLaws
 pub mod Access
 pub mod WriteLaws
@@ -42,3 +43,4 @@ pub mod ImageLaws
 pub mod EmissionLaws
 pub mod RuleExamples
 pub mod SampleEntry
+pub mod SampleArguments

@@ -114,10 +114,10 @@ module _ (s : Setup) where
 
   -- ---- registers into the frame
 
-  pub record AreSaved (m : Watched) (sp : ℕ) (used : List ℕ) (i : ℕ) (to : Watched) : Type 0 where
+  pub record AreSaved (m : Watched) (sp outgoing : ℕ) (used : List ℕ) (i : ℕ) (to : Watched) : Type 0 where
     pub registers : (q : ℕ) → to.now.registers q ≡ m.now.registers q
-    pub outside : (at : ℕ) → IsOwn s.room sp at → (at < sp + register_at i) ⊎ (sp + register_at (i + length used) ≤ at) → to.now.memory at ≡ m.now.memory at
-    pub given : (q : ℕ) → is_given q ≡ true → m.now.registers q < 2 ^ 32 → saved_in used m.now.registers to.now.memory sp i q ≡ m.now.registers q
+    pub outside : (at : ℕ) → IsOwn s.room sp at → (at < sp + register_at outgoing i) ⊎ (sp + register_at outgoing (i + length used) ≤ at) → to.now.memory at ≡ m.now.memory at
+    pub given : (q : ℕ) → is_given q ≡ true → m.now.registers q < 2 ^ 32 → saved_in outgoing used m.now.registers to.now.memory sp i q ≡ m.now.registers q
 
   chosen : (q r x y z : ℕ) → (q ≡ r → x ≡ z) → ((q ≡ r → ⊥) → y ≡ z) → (if q == r then x else y) ≡ z
   chosen q r x y z h k = ⊎_elim
@@ -125,19 +125,19 @@ module _ (s : Setup) where
       (λ n. let t : (q == r) ≡ false = grind (arith, nat_tests, n) in ap (λ b. if b then x else y) t ∙ k n)
       (cases_eq q r)
 
-  pub saves_do : (m : Watched) (used : List ℕ) (i sp : ℕ) → m.now.registers 2 ≡ sp → sp % 4 ≡ 0 → base s.room ≤ sp → sp + register_at (i + length used) ≤ s.room.ceiling → ((q : ℕ) → IsAmong used q → is_given q ≡ true) → Does s m (save used i) (AreSaved m sp used i)
-  saves_do m [] i sp x2 al above fits saved = does_none s m _ (record { registers = λ q. refl; outside = λ at o out. refl; given = λ q h lt. refl })
-  saves_do m (r ∷ used) i sp x2 al above fits saved =
-      let at = sp + register_at i in
+  pub saves_do : (m : Watched) (outgoing : ℕ) (used : List ℕ) (i sp : ℕ) → m.now.registers 2 ≡ sp → (sp + outgoing) % 4 ≡ 0 → base s.room ≤ sp → sp + register_at outgoing (i + length used) ≤ s.room.ceiling → ((q : ℕ) → IsAmong used q → is_given q ≡ true) → Does s m (save outgoing used i) (AreSaved m sp outgoing used i)
+  saves_do m outgoing [] i sp x2 al above fits saved = does_none s m _ (record { registers = λ q. refl; outside = λ at o out. refl; given = λ q h lt. refl })
+  saves_do m outgoing (r ∷ used) i sp x2 al above fits saved =
+      let at = sp + register_at outgoing i in
       let top = s.ceiling in
-      let address : words.add (m.now.registers 2) (register_at i) ≡ at = omega (arith, x2, fits, top) in
+      let address : words.add (m.now.registers 2) (register_at outgoing i) ≡ at = omega (arith, x2, fits, top) in
       let new = store_4 m.now.memory at (m.now.registers r) in
       let mine = saved r (inl refl) in
       let reads : register m.now r ≡ m.now.registers r = reads_free s m.now r (given_free r mine).0 in
-      does_then s m (pieces.store Sw r 2 (register_at i) ∷ []) (save used (i + 1)) _ _ (store_does s m Sw r 2 (register_at i) at address (omega (arith, al)) (inl (omega (arith, x2), (omega (arith, above), omega (arith, fits))))) (λ m1 y2 g.
+      does_then s m (pieces.store Sw r 2 (register_at outgoing i) ∷ []) (save outgoing used (i + 1)) _ _ (store_does s m Sw r 2 (register_at outgoing i) at address (omega (arith, al)) (inl (omega (arith, x2), (omega (arith, above), omega (arith, fits))))) (λ m1 y2 g.
       let x : m1.now.registers 2 ≡ sp = y2 ∙ x2 in
       let own : SameOwn s.room sp new m1.now.memory = subst (λ (f : ℕ → ℕ). SameOwn s.room sp f m1.now.memory) (ap (λ (v : ℕ). store_4 m.now.memory at v) reads) (subst (λ (p : ℕ). SameOwn s.room p (store_4 m.now.memory at (register m.now r)) m1.now.memory) x2 g.bytes_are) in
-      does_is s m1 _ _ _ (saves_do m1 used (i + 1) sp x al above (omega (arith, fits)) (λ q h. saved q (inr h))) (λ m2 z2 k.
+      does_is s m1 _ _ _ (saves_do m1 outgoing used (i + 1) sp x al above (omega (arith, fits)) (λ q h. saved q (inr h))) (λ m2 z2 k.
       let first : number_at 4 m2.now.memory at ≡ m.now.registers r % 2 ^ 32 =
       number_same 4 m1.now.memory m2.now.memory at (λ y lo hi. k.outside y (inl (omega (arith, lo))) (inl (omega (arith, hi))))
       ∙ number_same 4 new m1.now.memory at (λ y lo hi. own.same y (inl (omega (arith, lo))))
@@ -147,38 +147,38 @@ module _ (s : Setup) where
         outside = λ y o out. outer m m1 m2 y o out own k;
         given = λ q h lt.
             let same : m1.now.registers q ≡ m.now.registers q = g.registers q in
-            chosen q r (number_at 4 m2.now.memory at) (saved_in used m.now.registers m2.now.memory sp (i + 1) q) (m.now.registers q)
+            chosen q r (number_at 4 m2.now.memory at) (saved_in outgoing used m.now.registers m2.now.memory sp (i + 1) q) (m.now.registers q)
             (λ e. first ∙ ap (λ (z : ℕ). m.now.registers z % 2 ^ 32) (sym e) ∙ small (m.now.registers q) lt)
-            (λ n. saved_in_kept used m1.now.registers m.now.registers m2.now.memory m2.now.memory sp (i + 1) q (inr (sym same)) (λ j lo hi. refl) ∙ k.given q h (omega (arith, same, lt)) ∙ same);
+            (λ n. saved_in_kept outgoing used m1.now.registers m.now.registers m2.now.memory m2.now.memory sp (i + 1) q (inr (sym same)) (λ j lo hi. refl) ∙ k.given q h (omega (arith, same, lt)) ∙ same);
       }))
     where
       small : (n : ℕ) → n < 2 ^ 32 → n % 2 ^ 32 ≡ n
       small n h = omega (arith, h)
 
-      outer : (m m1 m2 : Watched) (y : ℕ) → IsOwn s.room sp y → (y < sp + register_at i) ⊎ (sp + register_at (i + length (r ∷ used)) ≤ y) → SameOwn s.room sp (store_4 m.now.memory (sp + register_at i) (m.now.registers r)) m1.now.memory → AreSaved m1 sp used (i + 1) m2 → m2.now.memory y ≡ m.now.memory y
-      outer m m1 m2 y o (inl b) own k = k.outside y o (inl (omega (arith, b))) ∙ own.same y o ∙ stored_other Sw m.now.memory (sp + register_at i) (m.now.registers r) y (inl b)
-      outer m m1 m2 y o (inr b) own k = k.outside y o (inr (omega (arith, b))) ∙ own.same y o ∙ stored_other Sw m.now.memory (sp + register_at i) (m.now.registers r) y (inr (omega (arith, b)))
+      outer : (m m1 m2 : Watched) (y : ℕ) → IsOwn s.room sp y → (y < sp + register_at outgoing i) ⊎ (sp + register_at outgoing (i + length (r ∷ used)) ≤ y) → SameOwn s.room sp (store_4 m.now.memory (sp + register_at outgoing i) (m.now.registers r)) m1.now.memory → AreSaved m1 sp outgoing used (i + 1) m2 → m2.now.memory y ≡ m.now.memory y
+      outer m m1 m2 y o (inl b) own k = k.outside y o (inl (omega (arith, b))) ∙ own.same y o ∙ stored_other Sw m.now.memory (sp + register_at outgoing i) (m.now.registers r) y (inl b)
+      outer m m1 m2 y o (inr b) own k = k.outside y o (inr (omega (arith, b))) ∙ own.same y o ∙ stored_other Sw m.now.memory (sp + register_at outgoing i) (m.now.registers r) y (inr (omega (arith, b)))
 
   -- ---- and back
 
-  pub record AreRestored (m : Watched) (sp : ℕ) (used : List ℕ) (i : ℕ) (to : Watched) : Type 0 where
-    pub given : (q : ℕ) → is_given q ≡ true → to.now.registers q ≡ saved_in used m.now.registers m.now.memory sp i q
+  pub record AreRestored (m : Watched) (sp outgoing : ℕ) (used : List ℕ) (i : ℕ) (to : Watched) : Type 0 where
+    pub given : (q : ℕ) → is_given q ≡ true → to.now.registers q ≡ saved_in outgoing used m.now.registers m.now.memory sp i q
     pub others : (q : ℕ) → is_given q ≡ false → to.now.registers q ≡ m.now.registers q
     pub bytes : SameOwn s.room sp m.now.memory to.now.memory
 
-  pub restores_do : (m : Watched) (used : List ℕ) (i sp : ℕ) → m.now.registers 2 ≡ sp → sp % 4 ≡ 0 → base s.room ≤ sp → sp + register_at (i + length used) ≤ s.room.ceiling → ((q : ℕ) → IsAmong used q → is_given q ≡ true) → Does s m (restore used i) (AreRestored m sp used i)
-  restores_do m [] i sp x2 al above fits saved = does_none s m _ (record { given = λ q h. refl; others = λ q h. refl; bytes = same_none s.room sp m.now.memory })
-  restores_do m (r ∷ used) i sp x2 al above fits saved =
-      let at = sp + register_at i in
+  pub restores_do : (m : Watched) (outgoing : ℕ) (used : List ℕ) (i sp : ℕ) → m.now.registers 2 ≡ sp → (sp + outgoing) % 4 ≡ 0 → base s.room ≤ sp → sp + register_at outgoing (i + length used) ≤ s.room.ceiling → ((q : ℕ) → IsAmong used q → is_given q ≡ true) → Does s m (restore outgoing used i) (AreRestored m sp outgoing used i)
+  restores_do m outgoing [] i sp x2 al above fits saved = does_none s m _ (record { given = λ q h. refl; others = λ q h. refl; bytes = same_none s.room sp m.now.memory })
+  restores_do m outgoing (r ∷ used) i sp x2 al above fits saved =
+      let at = sp + register_at outgoing i in
       let top = s.ceiling in
       let mine = saved r (inl refl) in
-      does_then s m (restore used (i + 1)) (pieces.load Lw r 2 (register_at i) ∷ []) _ _ (restores_do m used (i + 1) sp x2 al above (omega (arith, fits)) (λ q h. saved q (inr h))) (λ m1 y2 k.
+      does_then s m (restore outgoing used (i + 1)) (pieces.load Lw r 2 (register_at outgoing i) ∷ []) _ _ (restores_do m outgoing used (i + 1) sp x2 al above (omega (arith, fits)) (λ q h. saved q (inr h))) (λ m1 y2 k.
       let x : m1.now.registers 2 ≡ sp = y2 ∙ x2 in
-      let address : words.add (m1.now.registers 2) (register_at i) ≡ at = omega (arith, x, fits, top) in
-      does_is s m1 _ _ _ (load_does s m1 Lw r 2 (register_at i) at (given_free r mine) address (omega (arith, al)) (inl (omega (arith, x), (omega (arith, above), omega (arith, fits, top))))) (λ m2 z2 g.
+      let address : words.add (m1.now.registers 2) (register_at outgoing i) ≡ at = omega (arith, x, fits, top) in
+      does_is s m1 _ _ _ (load_does s m1 Lw r 2 (register_at outgoing i) at (given_free r mine) address (omega (arith, al)) (inl (omega (arith, x), (omega (arith, above), omega (arith, fits, top))))) (λ m2 z2 g.
       let word : load_4 m1.now.memory at ≡ number_at 4 m.now.memory at = sym (word_at m1.now.memory at) ∙ number_same 4 m.now.memory m1.now.memory at (λ y lo hi. k.bytes.same y (inl (omega (arith, lo)))) in
       record {
-        given = λ q h. sym (chosen q r (number_at 4 m.now.memory at) (saved_in used m.now.registers m.now.memory sp (i + 1) q) (m2.now.registers q)
+        given = λ q h. sym (chosen q r (number_at 4 m.now.memory at) (saved_in outgoing used m.now.registers m.now.memory sp (i + 1) q) (m2.now.registers q)
             (λ e. sym (ap m2.now.registers e ∙ g.got ∙ word)) (λ n. sym (g.others q n ∙ k.given q h)));
         others = λ q h. g.others q (λ e. given_apart r q mine h (sym e)) ∙ k.others q h;
         bytes = same_on s.room sp m.now.memory m1.now.memory m2.now.memory k.bytes (subst (λ (p : ℕ). SameOwn s.room p m1.now.memory m2.now.memory) x g.bytes_same);

@@ -38,7 +38,7 @@ use Rattle.qs_emit.specs.Lies.{number_at, StandsFor, SameOwn}
 use Rattle.qs_emit.specs.Surroundings.{Lay, ground}
 use Rattle.qs_emit.specs.Relation.{Setup, data_end, context, function_at, HasPlace, IsRelated}
 use Rattle.qs_emit.proofs.Bytes.{number_small}
-use Rattle.qs_emit.proofs.Injection.{HaveWords, value_here, value_there}
+use Rattle.qs_emit.proofs.Injection.{HaveWords, value_here, value_there, stored_other}
 use Rattle.qs_emit.proofs.Steps.{Does, Gets, IsFree, does_with, does_then, does_is, does_none, op_imm_does}
 use Rattle.qs_emit.proofs.Slots.{IsInFrame, Stores, word_at, reads_free, constant_does, load_from_does, store_to_does, address_does, gets_is}
 use Rattle.qs_emit.proofs.FrameLaws.{is_given, is_steady, value_is_steady, value_link, SameValues, SameHolding, slot_inside, placed_inside, related_own, related_holding, related_slot, related_register}
@@ -375,10 +375,18 @@ module _ (s : Setup) (a : Activation File) (w : Memory) (stack : List (Waiting F
   abbrev d : Context
   d = context s a.function
 
+  -- the bytes behind the frame are as they were
+  abbrev pub SameBehind : (m m1 : Watched) → Type 0
+  SameBehind m m1 = (at : ℕ) → sp + (frame_of d).cost ≤ at → m1.now.memory at ≡ m.now.memory at
+
+  pub own_behind : (m m1 : Watched) → m.now.registers 2 ≡ sp → SameOwn s.room (m.now.registers 2) m.now.memory m1.now.memory → SameBehind m m1
+  own_behind m m1 x2 own at le = own.same at (inl (omega (arith, x2, le)))
+
   -- the place and the other registers, behind a result
   pub record IsPut (m : Watched) (p : Place) (v : Value) (m1 : Watched) : Type 0 where
     pub amid : IsAmid s (holding s a w stack l sp p v) w stack l sp m1
     pub others : (q : ℕ) → is_steady q ≡ false → m1.now.registers q ≡ m.now.registers q
+    pub behind : SameBehind m m1
 
   -- a register's word into a place
   pub put_does : (m : Watched) (r x : ℕ) (p : Place) (v : Value) → IsAmid s a w stack l sp m → HasPlace d p → (r ≡ 1 → ⊥) → register m.now r ≡ x → StandsFor w l.address_of v x → Does s m (put_place d r p) (IsPut m p v)
@@ -387,6 +395,10 @@ module _ (s : Setup) (a : Activation File) (w : Memory) (stack : List (Waiting F
       (λ m1 x2 g. record {
         amid = record { x2 = x2 ∙ h.x2; related = related_stored s a w stack l sp m m1 r k x v h has got stands x2 g };
         others = λ q e. g.others q (λ i. value_apart 1 q refl e (sym i));
+        behind = λ at le.
+            let below = h.x2 in
+            let fits = slot_fits s a w stack l sp k has in
+            g.bytes_are.same at (inl (omega (arith, below, le))) ∙ stored_other Sw m.now.memory (m.now.registers 2 + slot_offset d k) (register m.now r) at (inr (omega (arith, below, le, fits)));
       })
   put_does m r x (Register q) v h has not_ra got stands =
       let small = are_words s a w stack l sp m h in
@@ -397,6 +409,7 @@ module _ (s : Setup) (a : Activation File) (w : Memory) (stack : List (Waiting F
           related = related_made s a w stack l sp m m1 q (x % 2 ^ 32) v h has (stands_word w l.address_of v x small stands) (omega arith) (record { got = g.got ∙ at; others = λ z e n. g.others z n; bytes = g.bytes_same });
         };
         others = λ z e. g.others z (λ i. value_apart q z (value_is_steady q has.0) e (sym i));
+        behind = own_behind m m1 h.x2 g.bytes_same;
       })
 
   -- where a result is made: in a0, or in the register that is its place
@@ -414,18 +427,29 @@ module _ (s : Setup) (a : Activation File) (w : Memory) (stack : List (Waiting F
   abbrev result_in : Place → ℕ
   result_in p = unwrap_or (register_of p) a0
 
+  -- a value is in its place
+  pub record IsGiven (m : Watched) (p : Place) (v : Value) (m1 : Watched) : Type 0 where
+    pub amid : IsAmid s (holding s a w stack l sp p v) w stack l sp m1
+    pub behind : SameBehind m m1
+
   -- code that makes a value in a register, whichever it is, and then the value into its place
-  result_into : (m : Watched) (p : Place) (v : Value) (code : ℕ → List Instr) → IsAmid s a w stack l sp m → HasPlace d p → ((rd : ℕ) → IsTarget rd → Does s m (code rd) (MakesValue m rd v)) → Does s m (code (result_in p) ++ unless_there (register_of p) (put_place d a0 p)) (IsAmid s (holding s a w stack l sp p v) w stack l sp)
+  result_into : (m : Watched) (p : Place) (v : Value) (code : ℕ → List Instr) → IsAmid s a w stack l sp m → HasPlace d p → ((rd : ℕ) → IsTarget rd → Does s m (code rd) (MakesValue m rd v)) → Does s m (code (result_in p) ++ unless_there (register_of p) (put_place d a0 p)) (IsGiven m p v)
   result_into m (Slot k) v code h has does =
       let target : IsTarget 10 = record { free = (λ e. absurd (omega (arith, e)), λ e. absurd (omega (arith, e))); is = inl refl } in
       does_then s m (code 10) (put_place d 10 (Slot k)) _ _ (does 10 target) (λ m1 x2 g.
       let h1 = amid_on s a w stack l sp m m1 h x2 (record { same = λ q e. g.makes.others q e (λ i. value_apart q 10 e refl i) }) g.makes.bytes in
       does_is s m1 _ _ _ (put_does m1 10 g.word (Slot k) v h1 has (λ e. absurd (omega (arith, e))) (reads_free s m1.now 10 (λ e. absurd (omega (arith, e))) ∙ g.makes.got) g.stands)
-      (λ m2 y2 k. k.amid))
+      (λ m2 y2 k. record { amid = k.amid; behind = λ at le. k.behind at le ∙ own_behind m m1 h.x2 g.makes.bytes at le }))
   result_into m (Register q) v code h has does =
       let target : IsTarget q = record { free = value_free q has.0; is = inr has.0 } in
       does_then s m (code q) [] _ _ (does q target) (λ m1 x2 g.
-      does_none s m1 (IsAmid s (holding s a w stack l sp (Register q) v) w stack l sp) (record { x2 = x2 ∙ h.x2; related = related_made s a w stack l sp m m1 q g.word v h has g.stands g.small g.makes }))
+      does_none s m1 (IsGiven m (Register q) v) (record {
+        amid = record { x2 = x2 ∙ h.x2; related = related_made s a w stack l sp m m1 q g.word v h has g.stands g.small g.makes };
+        behind = own_behind m m1 h.x2 g.makes.bytes;
+      }))
+
+  pub gives_behind : (m : Watched) (x : ℕ) (v : Value) (code : ℕ → List Instr) → IsAmid s a w stack l sp m → HasPlace d (place_of d.places x) → ((rd : ℕ) → IsTarget rd → Does s m (code rd) (MakesValue m rd v)) → Does s m (code (result_register d x) ++ result_code d x) (IsGiven m (place_of d.places x) v)
+  gives_behind m x v code h has does = result_into m (place_of d.places x) v code h has does
 
   pub gives_does : (m : Watched) (x : ℕ) (v : Value) (code : ℕ → List Instr) → IsAmid s a w stack l sp m → HasPlace d (place_of d.places x) → ((rd : ℕ) → IsTarget rd → Does s m (code rd) (MakesValue m rd v)) → Does s m (code (result_register d x) ++ result_code d x) (IsAmid s (holding s a w stack l sp (place_of d.places x) v) w stack l sp)
-  gives_does m x v code h has does = result_into m (place_of d.places x) v code h has does
+  gives_does m x v code h has does = does_is s m _ _ _ (gives_behind m x v code h has does) (λ m1 x2 g. g.amid)

@@ -20,7 +20,7 @@ use Rattle.qs_tac.specs.Steps.{Waiting}
 use Rattle.qs_frames.specs.Layout.{total, frame_words, register_at}
 use Rattle.qs_frames.proofs.FrameLaws.{is_cost}
 use Rattle.qs_emit_selection.specs.Pieces.{jalr, move_stack}
-use Rattle.qs_emit_selection.specs.Operands.{Context, stored}
+use Rattle.qs_emit_selection.specs.Operands.{Context, frame_of, stored}
 use Rattle.qs_emit_selection.specs.Emission.{restore, leave}
 use Rattle.qs_emit.specs.Machine.{Watched, instruction_at}
 use Rattle.qs_emit.specs.Lies.{StandsFor, Holds, IsOwn, SameOwn}
@@ -125,12 +125,12 @@ module _ (s : Setup) (a : Activation File) (w : World) (stack : List (Waiting Fi
     given : (q : ℕ) → is_given q ≡ true → m1.now.registers q ≡ caller_registers c registers flat sp q
     bytes : SameOwn s.room sp flat m1.now.memory
 
-  stored_fit : (sp : ℕ) → IsInRoom s.room sp (cost s a.function) → sp + register_at (0 + length (stored c)) ≤ s.room.ceiling
+  stored_fit : (sp : ℕ) → IsInRoom s.room sp (cost s a.function) → sp + register_at (frame_of c).outgoing (0 + length (stored c)) ≤ s.room.ceiling
   stored_fit sp room = let e = stored_inside c in let b = room.below in omega (arith, e, b)
 
   -- what is stored comes back
   abbrev backing : List Instr
-  backing = restore (stored c) 0
+  backing = restore (frame_of c).outgoing (stored c) 0
 
   result_same : (result : Option Value) (x y : ℕ) → y ≡ x → IsResult w.memory l result x → IsResult w.memory l result y
   result_same None x y e h = h
@@ -140,7 +140,7 @@ module _ (s : Setup) (a : Activation File) (w : World) (stack : List (Waiting Fi
   backs sp result m h value =
       let room = h.related.in_room in
       let al = room.aligned in
-      does_is s m _ _ _ (restores_do s m (stored c) 0 sp h.x2 (omega (arith, al)) room.above (stored_fit sp room) (stored_given c)) (λ m1 z2 k. record {
+      does_is s m _ _ _ (restores_do s m (frame_of c).outgoing (stored c) 0 sp h.x2 (omega (arith, al)) room.above (stored_fit sp room) (stored_given c)) (λ m1 z2 k. record {
         registers = m.now.registers;
         flat = m.now.memory;
         related = h.related;

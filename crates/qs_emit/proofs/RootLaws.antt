@@ -24,10 +24,9 @@ use Rattle.qs_emit.specs.Machine.{Watched, base}
 use Rattle.qs_emit.specs.Surroundings.{Lay}
 use Rattle.qs_emit.specs.Relation.{Setup, no_function, function_at, cost, entry, around}
 use Rattle.qs_emit.specs.Entries.{IsEntry, GoesOn, IsResult, HasReturned, ComesTo, EmittedCodeFollows}
-use Rattle.qs_emit.proofs.Slots.{reads_free}
 use Rattle.qs_emit.proofs.Operands.{holder}
 use Rattle.qs_emit.proofs.FollowedSteps.{ComesToStop, FollowsToStop, follows_later, undefined_behind, follows_stopped, follows_given}
-use Rattle.qs_emit.proofs.Parameters.{Passed, passes, pass_is}
+use Rattle.qs_emit.proofs.Parameters.{argument_is, Passed, passes, pass_is}
 use Rattle.qs_emit.proofs.EntryLaws.{IsEntered}
 use Rattle.qs_emit.proofs.EntryLaws.{enters as machine_enters}
 use Rattle.qs_emit.proofs.Simulation.{follows}
@@ -45,7 +44,8 @@ entered s root arguments w l m h =
       blocks = h.blocks;
       above = (h.x2, (h.return_address, λ q b. (h.saved q b).0));
       count = h.count;
-      arguments = λ i v e. subst (λ (x : ℕ). StandsFor w.memory l.address_of v x) (reads_free s m.now (10 + i) (λ z. absurd (omega (arith, z)))) (h.arguments_in i v e);
+      arguments = λ i v e. subst (λ (x : ℕ). StandsFor w.memory l.address_of v x) (argument_is s m.now i) (h.arguments_in i v e);
+      arguments_below = h.arguments_below;
       words = λ q b. (h.saved q b).1;
       return_low = omega (arith, ra, ra_low);
       aligned = omega (arith, x2, al);

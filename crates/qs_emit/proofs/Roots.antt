@@ -88,6 +88,7 @@ module _ (u : TacUnitTree) (ps : List PlacesTree) (first : Memory) (t : Surround
         low = h.low;
         count = h.count;
         arguments_in = h.arguments_in;
+        arguments_below = h.arguments_below;
         blocks = blocks_for t (cost_at u ps) _ _ h.blocks;
         first = h.first;
         saved = h.saved;

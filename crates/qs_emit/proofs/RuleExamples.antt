@@ -6,11 +6,12 @@ use Rattle.qs_isa.specs.declared.instruction.LoadKind.TheVariants.{Lb, Lw}
 use Rattle.qs_isa.specs.declared.instruction.StoreKind.TheVariants.{Sb, Sw}
 use Rattle.qs_isa.specs.declared.instruction.OpImmKind.TheVariants.{Addi}
 use Rattle.qs_image.specs.Image.{Image}
+use Rattle.qs_image.specs.declared.version.Version.TheVariants.{Second}
 use Rattle.qs_machine.specs.State.{State}
 use Rattle.qs_emit.specs.Machine.{Room, Watched, breaks, keeps_to, is_set, stirred_byte, watch_on}
 
 abbrev image : Image
-image = record { entry = 65536; parameters = 0; unsigned_set = 0; functions = []; code = []; bytes = 0 ∷ 0 ∷ 0 ∷ 0 ∷ 0 ∷ 0 ∷ 0 ∷ 0 ∷ [] }
+image = record { version = Second; entry = 65536; parameters = 0; unsigned_set = 0; functions = []; code = []; bytes = 0 ∷ 0 ∷ 0 ∷ 0 ∷ 0 ∷ 0 ∷ 0 ∷ 0 ∷ [] }
 
 -- x2 was 0x7fffffc0 at the entry. The first four bytes of the data may be written, and the first eight are kept. Others make
 -- each of the rest 255

@@ -18,7 +18,8 @@ use Rattle.qs_asm.specs.Assembly.{assembled, label_offset, IsAssembly}
 use Rattle.qs_asm.proofs.AssemblyLaws.{assembly}
 use Rattle.qs_base.specs.Keywords.{is_keyword, keyword_of}
 use Rattle.qs_base.specs.Names.{is_name}
-use Rattle.qs_image.specs.Image.{Image, FunctionRecord, IsWellFormed, IsAddress, IsCost}
+use Rattle.qs_image.specs.Image.{Image, FunctionRecord, IsWellFormed, IsAddress, IsCost, HasCount}
+use Rattle.qs_image.specs.declared.version.Version.TheVariants.{Second}
 use Rattle.qs_machine.specs.Run.{Exited, start_memory, machine}
 use Rattle.qs_tac.specs.Trees.{InstructionTree, store, load, call, return, TacFunctionTree, TacUnitTree}
 use Rattle.qs_tac.specs.declared.operands.Operand.TheVariants.{Temporary, Constant, Data}
@@ -67,10 +68,11 @@ first =
 
 abbrev pub image : Image
 image = record {
+  version = Second;
   entry = 65536;
   parameters = 0;
   unsigned_set = 0;
-  functions = record { name = codes "main"; address = 65548; cost = 16 } ∷ [];
+  functions = record { name = codes "main"; address = 65548; cost = 16; parameters = Some 0 } ∷ [];
   code = 0x00c000ef ∷ 0x00000893 ∷ 0x00000073 ∷ 0xff010113 ∷ 0x10000537 ∷ 0x00700713 ∷ 0x00e52023 ∷ 0x10000537 ∷ 0x00052503 ∷ 0x00a12023 ∷ 0x00012503 ∷ 0x01010113 ∷ 0x00008067 ∷ [];
   bytes = 0 ∷ 0 ∷ 0 ∷ 0 ∷ 104 ∷ 105 ∷ 0 ∷ 0 ∷ 5 ∷ 0 ∷ 0 ∷ 16 ∷ [];
 }
@@ -80,7 +82,7 @@ unfolding frame_cost rounded keeps_return_address
 cost_is zero h = omega arith
 cost_is (suc f) h = absurd (omega (arith, h))
 
-few : (f : ℕ) → length (function_at unit f).parameters ≤ 8
+few : (f : ℕ) → length (function_at unit f).parameters ≤ 16
 few zero = omega arith
 few (suc f) = omega arith
 
@@ -110,6 +112,7 @@ emittable = record {
   places = accepted;
   cost = cost_is;
   parameters = few;
+  main_parameters = omega arith;
   arguments = no_calls;
 }
 
@@ -171,7 +174,7 @@ unfolding is_name is_keyword keyword_of
 main_is_name = refl
 
 abbrev main_record : FunctionRecord
-main_record = record { name = codes "main"; address = 65548; cost = 16 }
+main_record = record { name = codes "main"; address = 65548; cost = 16; parameters = Some 0 }
 
 below : (limit : ℕ) (numbers : List ℕ) → list_all (λ n. nat_lt n limit) numbers ≡ true → All (λ n. n < limit) numbers
 below limit [] e = All-nil (λ n. n < limit)
@@ -195,6 +198,7 @@ well_formed = record {
   entry = record { k = 0; below = omega arith; at = refl };
   addresses = All-cons (λ (f : FunctionRecord). IsAddress 13 f.address) main_record [] (record { k = 3; below = omega arith; at = refl }) (All-nil (λ (f : FunctionRecord). IsAddress 13 f.address));
   costs = All-cons (λ (f : FunctionRecord). IsCost f.cost) main_record [] (record { k = 1; multiple = refl; positive = omega arith; most = omega arith }) (All-nil (λ (f : FunctionRecord). IsCost f.cost));
+  counts = All-cons (λ (f : FunctionRecord). HasCount 0 f) main_record [] (record { count = 0; is = refl; most = omega arith; main = λ named. refl }) (All-nil (λ (f : FunctionRecord). HasCount 0 f));
   words = below (2 ^ 32) image.code refl;
   octets = below 256 image.bytes refl;
 }

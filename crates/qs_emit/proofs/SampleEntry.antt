@@ -174,6 +174,7 @@ entry = record {
   low = refl;
   count = refl;
   arguments_in = λ i v e. cc;
+  arguments_below = omega arith;
   blocks = blocks;
   first = refl;
   saved = saved;

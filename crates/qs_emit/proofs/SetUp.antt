@@ -22,6 +22,7 @@ use Rattle.qs_emit.specs.Images.{IsFirstMemory, IsImageOf, IsWithinLimits}
 use Rattle.qs_emit.specs.Emitted.{AreSurroundings}
 use Rattle.qs_emit.specs.Laws.{CodeIsShort}
 use Rattle.qs_emit.proofs.DataBytes.{data_length}
+use Rattle.qs_emit.proofs.Passes.{all_few}
 
 -- ---- words
 
@@ -92,5 +93,5 @@ pub code_is_short : CodeIsShort
 code_is_short u ps first image emittable is =
     let at = instruction_at image in
     let lays = is.code.lays at code_start (words_lie image) in
-    let end = (units_keep_words u ps (data_address u.data_blocks) emittable.places).laid at (label_at (selected u ps) code_start) code_start (code_start + 4 * length image.code) lays in
+    let end = (units_keep_words u ps (data_address u.data_blocks) emittable.places (all_few u ps emittable)).laid at (label_at (selected u ps) code_start) code_start (code_start + 4 * length image.code) lays in
     omega (arith, end)

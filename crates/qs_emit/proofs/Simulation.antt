@@ -5,6 +5,7 @@ use Rattle.std.specs.List.{list_all}
 use Rattle.std.proofs.lemmas.List.Elements.{All-nil, All-head, All-tail}
 use Rattle.std.proofs.lemmas.Option.{slice_get_within, get_or_from_slice_get}
 use Rattle.std.proofs.lemmas.Bool.Decides.{nat_tests}
+use Rattle.qs_base.specs.Parameters.{stack_arguments}
 use Rattle.qs_memory.specs.Partial.{◌>>=◌}
 use Rattle.qs_memory.specs.Values as values
 use Rattle.qs_memory.specs.Values.{Value, integer, address}
@@ -43,7 +44,7 @@ use Rattle.qs_tac.specs.Steps.{Waiting, going_to, onward, written, Next, take_re
 use Rattle.qs_tac.specs.Steps.{instruction_at as linear_at}
 use Rattle.qs_tac.specs.Units.{stopped_steps}
 use Rattle.qs_emit_selection.specs.Operands.{Context}
-use Rattle.qs_frames.specs.Layout.{keeps_return_address}
+use Rattle.qs_frames.specs.Layout.{outgoing_words, keeps_return_address}
 use Rattle.qs_frames.proofs.FrameLaws.{caller_keeps}
 use Rattle.qs_emit_selection.specs.Emission as emission
 use Rattle.qs_emit_selection.specs.Emission.{Labels, labels_of, first_label, instruction_items, items_at, last_items, leave, result_into, ends_from, has_one_epilogue, go_out}
@@ -60,6 +61,7 @@ use Rattle.qs_emit.proofs.OperationLaws.{IsOperand}
 use Rattle.qs_emit.proofs.Results.{move_does, unary_does, convert_does, binary_does, address_of_does}
 use Rattle.qs_emit.proofs.Fetches.{load_place_does, store_place_does}
 use Rattle.qs_emit.proofs.Transfers.{fill_object_does, copy_object_does}
+use Rattle.qs_emit.proofs.Passes.{passed_there}
 use Rattle.qs_emit.proofs.CodePlaces.{IsCode, IsStood, goes_up, plain_laid, HasFunction, has_function, fits_between, instruction_fits_there, function_there, has_place, some_code}
 use Rattle.qs_emit.proofs.FollowedSteps.{Reaches, ComesToStop, FollowsToStop, follows_later, follows_undefined, undefined_behind, follows_stopped, follows_given, amid_at, Onward, plain_follows}
 use Rattle.qs_emit.proofs.Jumps.{jump_follows, branch_follows}
@@ -248,7 +250,7 @@ module _ (s : Setup) (mark : Option Value) (n : ℕ) (next : Next File) (more : 
 
     -- ---- calls of functions
 
-    called_follows : (x : Option ℕ) (f : ℕ) (os : List Operand) (vs : List Value) (g : TacFunctionTree) → keeps_return_address c.function c.places ≡ true → slice_get s.unit.functions f ≡ Some g → length os ≡ length g.parameters → length os ≤ 8 → list_all (operand_fits s.unit (function_at s.unit a.function)) os ≡ true → taken_fits (function_at s.unit a.function) x ≡ true → operands (holder s) os a ≡ Some vs → Lays (instruction_at s.image) s.label_at (place s a.function a.at) (plain (emission.pass c 10 os) ++ (items.Jump 1 (first_label s.unit.functions f) ∷ plain (emission.take_result c x))) (place s a.function (a.at + 1))
+    called_follows : (x : Option ℕ) (f : ℕ) (os : List Operand) (vs : List Value) (g : TacFunctionTree) → keeps_return_address c.function c.places ≡ true → slice_get s.unit.functions f ≡ Some g → length os ≡ length g.parameters → stack_arguments (length os) ≤ outgoing_words c.function → list_all (operand_fits s.unit (function_at s.unit a.function)) os ≡ true → taken_fits (function_at s.unit a.function) x ≡ true → operands (holder s) os a ≡ Some vs → Lays (instruction_at s.image) s.label_at (place s a.function a.at) (plain (emission.pass c os) ++ (items.Jump 1 (first_label s.unit.functions f) ∷ plain (emission.take_result c x))) (place s a.function (a.at + 1))
         → FollowsToStop (around s) mark (suc n) m (activate f (record { parameters = g.parameters; blocks = g.blocks }) (begins (holder s) next (record { activation = waits (holder s) a; taken_by = x } ∷ stack) f) vs (take_result (holder s) next x (waits (holder s) a) stack) w)
     called_follows x f os vs g keeps is count few fits taken e stands =
         subst (λ (z : RootRun). FollowsToStop (around s) mark (suc n) m (emit (Calls f) z))
@@ -281,7 +283,7 @@ module _ (s : Setup) (mark : Option Value) (n : ℕ) (next : Next File) (more : 
     answer_follows e (Some x) v input k = follows_later s mark n m k.to (Some e) (next (written (holder s) x v (waits (holder s) a)) (record w { input = input }) stack) h.low k.reaches (more _ _ _ l k.to k.stands)
 
     abbrev StandsEnvironment : (number : ℕ) → List Operand → Option ℕ → Type 0
-    StandsEnvironment number os x = Lays (instruction_at s.image) s.label_at (place s a.function a.at) (plain (emission.pass c 10 os) ++ (plain (addi 17 0 number ∷ instructions.Ecall ∷ []) ++ plain (emission.take_result c x))) (place s a.function (a.at + 1))
+    StandsEnvironment number os x = Lays (instruction_at s.image) s.label_at (place s a.function a.at) (plain (emission.pass c os) ++ (plain (addi 17 0 number ∷ instructions.Ecall ∷ []) ++ plain (emission.take_result c x))) (place s a.function (a.at + 1))
 
     -- the machine behind ECALL
     abbrev answered : Watched → (answer : ℕ) (input output : List ℕ) → State
@@ -290,7 +292,7 @@ module _ (s : Setup) (mark : Option Value) (n : ℕ) (next : Next File) (more : 
     ecall_acts : (m1 : Watched) (number : ℕ) → register m1.now 17 ≡ number → act s.image s.room.size m1.now instructions.Ecall ≡ machine.environment_call m1.now number
     ecall_acts m1 number e = ap (λ (k : ℕ). machine.environment_call m1.now k) e
 
-    put_follows : (x : Option ℕ) (os : List Operand) (vs : List Value) → length os ≤ 8 → list_all (operand_fits s.unit (function_at s.unit a.function)) os ≡ true → taken_fits (function_at s.unit a.function) x ≡ true → operands (holder s) os a ≡ Some vs → StandsEnvironment put_byte_call os x → FollowsToStop (around s) mark (suc n) m (put_char vs (take_result (holder s) next x (waits (holder s) a) stack) w)
+    put_follows : (x : Option ℕ) (os : List Operand) (vs : List Value) → stack_arguments (length os) ≤ outgoing_words c.function → list_all (operand_fits s.unit (function_at s.unit a.function)) os ≡ true → taken_fits (function_at s.unit a.function) x ≡ true → operands (holder s) os a ≡ Some vs → StandsEnvironment put_byte_call os x → FollowsToStop (around s) mark (suc n) m (put_char vs (take_result (holder s) next x (waits (holder s) a) stack) w)
     put_follows x os [] few fits taken e stands = follows_undefined s mark (suc n) m
     put_follows x os (address p ∷ vs) few fits taken e stands = follows_undefined s mark (suc n) m
     put_follows x os (integer k ∷ v ∷ vs) few fits taken e stands = follows_undefined s mark (suc n) m
@@ -311,7 +313,7 @@ module _ (s : Setup) (mark : Option Value) (n : ℕ) (next : Next File) (more : 
               ),
             )
 
-    get_follows : (x : Option ℕ) (os : List Operand) (vs : List Value) → length os ≤ 8 → list_all (operand_fits s.unit (function_at s.unit a.function)) os ≡ true → taken_fits (function_at s.unit a.function) x ≡ true → operands (holder s) os a ≡ Some vs → StandsEnvironment take_byte_call os x → FollowsToStop (around s) mark (suc n) m (get_char vs (take_result (holder s) next x (waits (holder s) a) stack) w)
+    get_follows : (x : Option ℕ) (os : List Operand) (vs : List Value) → stack_arguments (length os) ≤ outgoing_words c.function → list_all (operand_fits s.unit (function_at s.unit a.function)) os ≡ true → taken_fits (function_at s.unit a.function) x ≡ true → operands (holder s) os a ≡ Some vs → StandsEnvironment take_byte_call os x → FollowsToStop (around s) mark (suc n) m (get_char vs (take_result (holder s) next x (waits (holder s) a) stack) w)
     get_follows x os (v ∷ vs) few fits taken e stands = follows_undefined s mark (suc n) m
     get_follows x os [] few fits taken e stands = by w.input refl
       where
@@ -355,7 +357,7 @@ module _ (s : Setup) (mark : Option Value) (n : ℕ) (next : Next File) (more : 
                   ),
                 )
 
-    invoke_follows : (x : Option ℕ) (f : Callee) (os : List Operand) (vs : List Value) → slice_get (function_at s.unit a.function).code a.at ≡ Some (call x f os) → length os ≤ 8 → callee_fits s.unit f os ≡ true → list_all (operand_fits s.unit (function_at s.unit a.function)) os ≡ true → taken_fits (function_at s.unit a.function) x ≡ true → operands (holder s) os a ≡ Some vs → Stands (call x f os)
+    invoke_follows : (x : Option ℕ) (f : Callee) (os : List Operand) (vs : List Value) → slice_get (function_at s.unit a.function).code a.at ≡ Some (call x f os) → stack_arguments (length os) ≤ outgoing_words c.function → callee_fits s.unit f os ≡ true → list_all (operand_fits s.unit (function_at s.unit a.function)) os ≡ true → taken_fits (function_at s.unit a.function) x ≡ true → operands (holder s) os a ≡ Some vs → Stands (call x f os)
         → FollowsToStop (around s) mark (suc n) m (invoke f (enters (holder s) s.unit next (record { activation = waits (holder s) a; taken_by = x } ∷ stack)) vs (take_result (holder s) next x (waits (holder s) a) stack) w)
     invoke_follows x (Function f) os vs there few callee fits taken e stands =
         follows_given s mark (suc n) m (slice_get s.unit.functions f.0) _ (λ g is.
@@ -478,7 +480,7 @@ module _ (s : Setup) (mark : Option Value) (n : ℕ) (next : Next File) (more : 
     instruction_follows (call x f os) stood fits is =
         follows_given s mark (suc n) m (operands (holder s) os a) _ (λ vs e.
         let fits_two = and_left _ (list_all (operand_fits s.unit (function_at s.unit a.function)) os) fits in
-        invoke_follows x f os vs is (s.emittable.arguments a.function a.at (call x f os) is x f os refl) (and_right _ _ fits_two) (and_right _ _ fits) (and_left _ _ fits_two) e (stands_there (call x f os) refl stood))
+        invoke_follows x f os vs is (passed_there (function_at s.unit a.function).code a.at x f os is) (and_right _ _ fits_two) (and_right _ _ fits) (and_left _ _ fits_two) e (stands_there (call x f os) refl stood))
     instruction_follows (jump to) stood fits is =
         let lt : to < length (function_at s.unit a.function).code = grind (arith, nat_tests, fits) in
         goes_on a (going_to to a) w w stack l m h (jump_follows s a w stack l m to h (let next_low = low_next in let up = (stands_there (jump to) refl stood).1 in omega (arith, next_low, up)) (has.place_low to (omega (arith, lt))) (has.place_aligned to (omega (arith, lt))) (stands_there (jump to) refl stood).0)

@@ -12,7 +12,7 @@ use Rattle.qs_isa.specs.declared.instruction.StoreKind.{StoreKind}
 use Rattle.qs_isa.specs.declared.instruction.StoreKind.TheVariants.{Sb, Sh, Sw}
 use Rattle.qs_isa.specs.declared.instruction.OpImmKind.TheVariants.{Addi}
 use Rattle.qs_isa.specs.declared.instruction.OpKind.TheVariants.{Add}
-use Rattle.qs_machine.specs.State.{State, register, with_value, load_1, load_2, load_4}
+use Rattle.qs_machine.specs.State.{State, register, with_value, stack_top, load_1, load_2, load_4}
 use Rattle.qs_machine.specs.Step.{load_width, store_width, loaded, stored}
 use Rattle.qs_emit_selection.specs.Pieces as pieces
 use Rattle.qs_emit_selection.specs.Pieces.{lui, addi, add, is_small, low_part, high_part, constant, is_near, load_from, store_to, address_in_frame}
@@ -152,9 +152,6 @@ module _ (s : Setup) where
   frame_own : (m : Watched) (offset width : ℕ) → AreOwn s.room (m.now.registers 2) (m.now.registers 2 + offset) width
   frame_own m offset width = record { own = λ i h. inl (omega arith) }
 
-  frame_read : (m : Watched) (offset width : ℕ) → IsInFrame m offset width → MayRead s m (m.now.registers 2 + offset) width
-  frame_read m offset width f = let a = f.above in let b = f.below in let c = s.ceiling in inl (omega arith, (omega (arith, a), omega (arith, b, c)))
-
   frame_write : (m : Watched) (offset width : ℕ) → IsInFrame m offset width → MayWrite s m (m.now.registers 2 + offset) width
   frame_write m offset width f = let a = f.above in let b = f.below in inl (omega arith, (omega (arith, a), omega (arith, b)))
 
@@ -168,14 +165,25 @@ module _ (s : Setup) where
       let v : words.add (register m1.now rd) (register m1.now 2) ≡ (high_part offset + m.now.registers 2) % 2 ^ 32 = rw (e, x2) refl in
       does_is s m1 _ _ _ (op_does s m1 Add rd rd 2 free) (λ m2 y2 k. gets_on s m m1 m2 rd _ _ x2 g (gets_is m1 m2 rd _ _ v k)))
 
-  pub load_from_does : (m : Watched) (kind : LoadKind) (rd offset : ℕ) → IsFree rd → (m.now.registers 2 + offset) % load_width kind ≡ 0 → IsInFrame m offset (load_width kind) → Does s m (load_from kind rd offset) (Gets s m rd (loaded kind m.now.memory (m.now.registers 2 + offset)))
-  load_from_does m kind rd offset free aligned inside = does_either s m (is_near offset) _ _ _ (λ e. near) (λ e. far)
+  -- so many bytes at an offset behind x2 may be read: they lie in the stack, in a frame or behind the last one
+  pub record IsBehind (m : Watched) (offset width : ℕ) : Type 0 where
+    pub above : base s.room ≤ m.now.registers 2
+    pub below : m.now.registers 2 + (offset + width) ≤ stack_top
+
+  behind_read : (m : Watched) (offset width : ℕ) → IsBehind m offset width → MayRead s m (m.now.registers 2 + offset) width
+  behind_read m offset width f = let a = f.above in let b = f.below in inl (omega arith, (omega (arith, a), omega (arith, b)))
+
+  behind_moved : (m m1 : Watched) (offset width : ℕ) → m1.now.registers 2 ≡ m.now.registers 2 → IsBehind m offset width → IsBehind m1 offset width
+  behind_moved m m1 offset width e f = let a = f.above in let b = f.below in record { above = omega (arith, a, e); below = omega (arith, b, e) }
+
+  pub load_behind_does : (m : Watched) (kind : LoadKind) (rd offset : ℕ) → IsFree rd → (m.now.registers 2 + offset) % load_width kind ≡ 0 → IsBehind m offset (load_width kind) → Does s m (load_from kind rd offset) (Gets s m rd (loaded kind m.now.memory (m.now.registers 2 + offset)))
+  load_behind_does m kind rd offset free aligned inside = does_either s m (is_near offset) _ _ _ (λ e. near) (λ e. far)
     where
       low : m.now.registers 2 + offset < 2 ^ 32
-      low = let b = inside.below in let c = s.ceiling in omega (arith, b, c)
+      low = let b = inside.below in omega (arith, b)
 
       near : Does s m (pieces.load kind rd 2 offset ∷ []) (Gets s m rd (loaded kind m.now.memory (m.now.registers 2 + offset)))
-      near = load_does s m kind rd 2 offset (m.now.registers 2 + offset) free (let l = low in omega (arith, l)) aligned (frame_read m offset (load_width kind) inside)
+      near = load_does s m kind rd 2 offset (m.now.registers 2 + offset) free (let l = low in omega (arith, l)) aligned (behind_read m offset (load_width kind) inside)
 
       far : Does s m (lui rd (high_part offset) ∷ add rd rd 2 ∷ pieces.load kind rd rd (low_part offset) ∷ []) (Gets s m rd (loaded kind m.now.memory (m.now.registers 2 + offset)))
       far = does_then s m (lui rd (high_part offset) ∷ add rd rd 2 ∷ []) (pieces.load kind rd rd (low_part offset) ∷ []) _ _ (high_does m rd offset free) (λ m1 x2 g.
@@ -186,8 +194,14 @@ module _ (s : Setup) where
           let same : loaded kind m1.now.memory (m1.now.registers 2 + offset) ≡ loaded kind m.now.memory (m.now.registers 2 + offset) =
           ap (λ (n : ℕ). loaded kind m1.now.memory (n + offset)) x2 ∙ loaded_same s.room (m.now.registers 2) kind m.now.memory m1.now.memory (m.now.registers 2 + offset) (frame_own m offset (load_width kind)) g.bytes_same in
           let al : (m1.now.registers 2 + offset) % load_width kind ≡ 0 = ap (λ (n : ℕ). (n + offset) % load_width kind) x2 ∙ aligned in
-          does_is s m1 _ _ _ (load_does s m1 kind rd rd (low_part offset) (m1.now.registers 2 + offset) free at al (frame_read m1 offset (load_width kind) (frame_moved m m1 offset (load_width kind) x2 inside)))
+          does_is s m1 _ _ _ (load_does s m1 kind rd rd (low_part offset) (m1.now.registers 2 + offset) free at al (behind_read m1 offset (load_width kind) (behind_moved m m1 offset (load_width kind) x2 inside)))
           (λ m2 y2 k. gets_on s m m1 m2 rd _ _ x2 g (gets_is m1 m2 rd _ _ same k)))
+
+  pub load_from_does : (m : Watched) (kind : LoadKind) (rd offset : ℕ) → IsFree rd → (m.now.registers 2 + offset) % load_width kind ≡ 0 → IsInFrame m offset (load_width kind) → Does s m (load_from kind rd offset) (Gets s m rd (loaded kind m.now.memory (m.now.registers 2 + offset)))
+  load_from_does m kind rd offset free aligned inside =
+      let below = inside.below in
+      let top = s.ceiling in
+      load_behind_does m kind rd offset free aligned (record { above = inside.above; below = omega (arith, below, top) })
 
   pub store_to_does : (m : Watched) (kind : StoreKind) (rs offset : ℕ) → (rs ≡ 1 → ⊥) → (m.now.registers 2 + offset) % store_width kind ≡ 0 → IsInFrame m offset (store_width kind) → Does s m (store_to kind rs offset) (Stores s m offset (stored kind m.now.memory (m.now.registers 2 + offset) (register m.now rs)))
   store_to_does m kind rs offset not_ra aligned inside = does_either s m (is_near offset) _ _ _ (λ e. near) far

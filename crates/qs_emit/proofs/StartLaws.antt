@@ -80,7 +80,7 @@ module _ (u : TacUnitTree) (ps : List PlacesTree) (first : Memory) (image : Imag
   -- ---- registers
 
   few : length args ≤ 8
-  few = let c = may.count in let p = emittable.parameters u.main in omega (arith, c, p)
+  few = let c = may.count in let p = emittable.main_parameters in omega (arith, c, p)
 
   argument_in : (i x : ℕ) → slice_get args i ≡ Some x → (register (start image args input) (a0 + i) ≡ x) × (x < 2 ^ 32)
   argument_in i x e =

@@ -2,6 +2,7 @@
 use Rattle.std.proofs.Common.{◌≡◌, ◌⊎◌, inl, inr, ℕ, zero, suc, ◌+◌, ◌-◌, ◌%◌, ◌<◌, ◌≤◌, Bool, true, false, List, ◌++◌, length, Option, Some, refl, sym, ap, ◌∙◌, subst, arith, min}
 use Rattle.std.specs.Prelude.{◌&&◌, nat_lt}
 use Rattle.std.proofs.lemmas.Bool.Decides.{nat_tests}
+use Rattle.std.proofs.lemmas.Option.{slice_get_within}
 use Rattle.qs_base.specs.Words as words
 use Rattle.qs_memory.specs.Values.{Value, integer}
 use Rattle.qs_memory.specs.Memory.{Memory}
@@ -25,7 +26,7 @@ use Rattle.qs_emit.specs.Machine.{Room, Watched, Sight, goes, exits, traps, brea
 use Rattle.qs_emit.specs.Lies.{StandsFor}
 use Rattle.qs_emit.specs.Surroundings.{Lay, ground}
 use Rattle.qs_emit.specs.Relation.{Setup, cost, entry, around}
-use Rattle.qs_emit.specs.Entries.{IsEntry, HasReturned, ComesTo, IsResult}
+use Rattle.qs_emit.specs.Entries.{argument_word, IsEntry, HasReturned, ComesTo, IsResult}
 use Rattle.qs_emit.specs.Started.{main_run, main_world, IsStart, HasRoom, ExitsBehind, StartsTo, IsExitOf, FollowsFromStart, EmittedCodeFollowsFromStart}
 use Rattle.qs_emit.proofs.Injection.{value_there}
 use Rattle.qs_emit.proofs.Steps.{Takes, IsSteady, stepped, takes_step, stirred_bytes, same_stirred}
@@ -34,6 +35,7 @@ use Rattle.qs_emit.proofs.FrameLaws.{saved_is_for_values, value_link, cell_own, 
 use Rattle.qs_emit.proofs.LoopSteps.{link_acts}
 use Rattle.qs_emit.proofs.CodePlaces.{has_function}
 use Rattle.qs_emit.proofs.Jumps.{distance_back}
+use Rattle.qs_emit.proofs.Parameters.{in_register, argument_is}
 use Rattle.qs_emit.proofs.RootLaws.{emitted_code_follows}
 
 -- ---- what is seen later
@@ -124,6 +126,20 @@ module _ (s : Setup) (arguments : List Value) (w : World) (l : Lay) (m : Watched
   other : (q : ℕ) → (q ≡ 1 → ⊥) → m1.now.registers q ≡ m.now.registers q
   other q n = value_there m.now.registers 1 (m.now.pc + 4) q n
 
+  few_arguments : length arguments ≤ 8
+  few_arguments = let count = h.count in let few = s.emittable.main_parameters in omega (arith, count, few)
+
+  -- main has its arguments in registers, which JAL leaves alone
+  argument_there : (i : ℕ) (v : Value) → i < length arguments → StandsFor w.memory l.address_of v (register m.now (10 + i)) → StandsFor w.memory l.address_of v (argument_word m1.now i)
+  argument_there i v lt stands =
+      let few = few_arguments in
+      let first : nat_lt i 8 ≡ true = grind (arith, nat_tests, lt, few) in
+      let zero_not : 10 + i ≡ 0 → ⊥ = λ z. absurd (omega (arith, z)) in
+      let link_not : 10 + i ≡ 1 → ⊥ = λ z. absurd (omega (arith, z)) in
+      let is : argument_word m1.now i ≡ register m.now (10 + i) =
+      argument_is s m1.now i ∙ in_register m1.now.registers m1.now.memory (m1.now.registers 2) i first ∙ other (10 + i) link_not ∙ sym (reads_free s m.now (10 + i) zero_not) in
+      subst (λ (x : ℕ). StandsFor w.memory l.address_of v x) (sym is) stands
+
   entered : IsEntry s.unit (around s) (entry s s.unit.main) s.unit.main arguments w l m1
   entered =
       let own = same_stirred s.room m.time (m.now.registers 2) m.now.memory in
@@ -138,7 +154,8 @@ module _ (s : Setup) (arguments : List Value) (w : World) (l : Lay) (m : Watched
         aligned = h.aligned;
         low = omega (arith, low);
         count = h.count;
-        arguments_in = λ i v e. subst (λ (x : ℕ). StandsFor w.memory l.address_of v x) (sym (reads_free s m1.now (10 + i) (λ z. absurd (omega (arith, z))) ∙ other (10 + i) (λ z. absurd (omega (arith, z))) ∙ sym (reads_free s m.now (10 + i) (λ z. absurd (omega (arith, z)))))) (h.arguments_in i v e);
+        arguments_in = λ i v e. argument_there i v (slice_get_within arguments i v e) (h.arguments_in i v e);
+        arguments_below = let few = few_arguments in let x2 = h.x2 in let top = s.ceiling in omega (arith, few, x2, top);
         blocks = blocks_same s w.memory l (m.now.registers 2) m.now.memory m1.now.memory (λ b o live lt. own.same (l.address_of b + o) (cell_own s (ground w.memory l m.now.memory) (m.now.registers 2) b o h.blocks live lt)) h.blocks;
         first = h.first;
         saved = λ q b. let e = other q (value_link q (saved_is_for_values q b)) in let k = h.saved q b in (e ∙ k.0, (let lt = k.1 in omega (arith, e, lt)));

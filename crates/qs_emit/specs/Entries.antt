@@ -1,6 +1,7 @@
 -- How a function is entered, and what follows: on every stack that has the weight of the run.
-use Rattle.std.specs.Prelude.{◌≡◌, ℕ, ◌+◌, ◌-◌, ◌%◌, ◌^◌, ◌<◌, ◌≤◌, min, true, List, [], ◌∷◌, ◌++◌, length}
+use Rattle.std.specs.Prelude.{◌≡◌, ℕ, ◌+◌, ◌-◌, ◌*◌, ◌%◌, ◌^◌, ◌<◌, ◌≤◌, nat_lt, min, true, if◌then◌else◌, List, [], ◌∷◌, ◌++◌, length}
 use Rattle.std.specs.Prelude.{All, Option, Some, None, slice_get}
+use Rattle.qs_base.specs.Parameters.{most_register_arguments, stack_arguments}
 use Rattle.qs_memory.specs.Values.{Value}
 use Rattle.qs_memory.specs.Memory.{Memory}
 use Rattle.qs_memory.specs.Soundness.{IsLive}
@@ -8,19 +9,27 @@ use Rattle.qs_events.specs.Events.{Event, Calls, Returns, Takes, TakesEnd, Puts,
 use Rattle.qs_events.specs.Runs.{Left, Ending, has_ended, is_undefined, is_short, events_of, ending_of}
 use Rattle.qs_events.specs.Weights.{Costs, weight}
 use Rattle.qs_calls.specs.World.{World, RootRun}
-use Rattle.qs_machine.specs.State.{register, stack_pointer}
+use Rattle.qs_machine.specs.State.{State, register, stack_pointer, stack_top}
 use Rattle.qs_isa.specs.Registers.{ra, a0}
 use Rattle.qs_tac.specs.Holders.{is_saved_register}
 use Rattle.qs_tac.specs.Trees.{TacUnitTree}
 use Rattle.qs_tac.specs.Units.{tac_run, world_after}
+use Rattle.qs_frames.specs.Layout.{argument_at}
 use Rattle.qs_emit.specs.Machine.{Watched, goes, base, watched}
-use Rattle.qs_emit.specs.Lies.{AreBytes, StandsFor}
+use Rattle.qs_emit.specs.Lies.{number_at, AreBytes, StandsFor}
 use Rattle.qs_emit.specs.Surroundings.{Surroundings, Lay, ground, HasBlocks}
 use Rattle.qs_emit.specs.Relation.{Setup, entry, function_at, around}
 
--- the root is entered as a call enters it: arguments in a0 and the next registers, the return address in x1, and x2 a
--- multiple of 16; the live blocks of the memory to start from lie in the data, since none is in the stack that is left;
--- all other registers and bytes are any
+-- where an argument is passed: the first eight in a0 and the next registers, and each further one in a word from x2 on, in
+-- order (RISC-V ELF psABI, "Integer Calling Convention")
+abbrev pub argument_word : State → (i : ℕ) → ℕ
+argument_word s i =
+    if nat_lt i most_register_arguments then register s (a0 + i)
+    else number_at 4 s.memory (stack_pointer s + argument_at (stack_arguments i))
+
+-- the root is entered as a call enters it: arguments in registers and from x2 on, below the top of the stack, the return
+-- address in x1, and x2 a multiple of 16; the live blocks of the memory to start from lie in the data, since none is in the
+-- stack that is left; all other registers and bytes are any
 pub record IsEntry (u : TacUnitTree) (t : Surroundings) (address root : ℕ) (arguments : List Value) (w : World)
     (l : Lay) (m : Watched) : Type 0 where
   pub known : root < length u.functions
@@ -32,7 +41,8 @@ pub record IsEntry (u : TacUnitTree) (t : Surroundings) (address root : ℕ) (ar
   pub count : length arguments ≡ length (function_at u root).parameters
   pub arguments_in :
       (i : ℕ) (v : Value) → slice_get arguments i ≡ Some v
-      → StandsFor w.memory l.address_of v (register m.now (a0 + i))
+      → StandsFor w.memory l.address_of v (argument_word m.now i)
+  pub arguments_below : stack_pointer m.now + 4 * stack_arguments (length arguments) ≤ stack_top
   pub blocks : HasBlocks t (ground w.memory l m.now.memory) (stack_pointer m.now)
   pub first : t.first ≡ length w.memory
   pub saved :

@@ -1,5 +1,5 @@
 -- What an image of a unit of linear code is: its code, its entry, its records and its data.
-use Rattle.std.specs.Prelude.{◌≡◌, ℕ, ◌+◌, ◌-◌, ◌/◌, ◌%◌, ◌^◌, ◌<◌, ◌≤◌, List, [], ◌∷◌, ◌++◌, length, map, replicate}
+use Rattle.std.specs.Prelude.{◌≡◌, ℕ, ◌+◌, ◌-◌, ◌/◌, ◌%◌, ◌^◌, ◌<◌, ◌≤◌, List, [], ◌∷◌, ◌++◌, length, map, replicate, None}
 use Rattle.std.specs.Prelude.{slice_index_or}
 use Rattle.qs_memory.specs.Values.{Pointer, null, into}
 use Rattle.qs_memory.specs.Memory.{Cell, unset, byte, part, Block, Memory, cells_from}
@@ -59,7 +59,7 @@ pub record IsFirstMemory (u : TacUnitTree) (m : Memory) : Type 0 where
 -- ---- records
 
 abbrev pub no_record : FunctionRecord
-no_record = record { name = []; address = 0; cost = 0 }
+no_record = record { name = []; address = 0; cost = 0; parameters = None }
 
 -- the record of the function with this number
 abbrev pub record_at : Image → (f : ℕ) → FunctionRecord

@@ -56,8 +56,8 @@ HoldAll m address_of (cell ∷ cells) flat from =
 
 -- ---- blocks
 
--- to whom a byte belongs: to nobody, to the frame of a call (a slot, a saved register, the return address), or to a cell
--- of a live block
+-- to whom a byte belongs: to nobody, to the frame of a call (an argument that it passes, a slot, a saved register, the
+-- return address), or to a cell of a live block
 pub data Owner : Type 0 where
   nobody : Owner
   frame : Owner

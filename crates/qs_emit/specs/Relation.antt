@@ -1,6 +1,7 @@
 -- How a run of linear code, its values in places, stands to the machine that runs its emitted code.
 use Rattle.std.specs.Prelude.{◌≡◌, ◌⊎◌, ℕ, ◌+◌, ◌*◌, ◌%◌, ◌^◌, ◌<◌, ◌≤◌, ◌==◌, true, if◌then◌else◌}
 use Rattle.std.specs.Prelude.{List, [], ◌∷◌, length, All, Some, slice_get, slice_index_or}
+use Rattle.qs_base.specs.Parameters.{most_main_parameters}
 use Rattle.qs_memory.specs.Values.{Value}
 use Rattle.qs_memory.specs.Memory.{Memory, block_at}
 use Rattle.qs_memory.specs.Soundness.{IsLive}
@@ -51,12 +52,14 @@ cost_at u ps f = (frame_of (context_at u ps f)).cost
 
 -- ---- what linear code is emitted from
 
--- the condition of emission: places that are accepted, frames no larger than the largest stack, and arguments that registers hold
+-- the condition of emission: places that are accepted, frames no larger than the largest stack, and few parameters and
+-- arguments, those of main in registers alone
 pub record IsEmittable (u : TacUnitTree) (ps : List PlacesTree) : Type 0 where
   pub fits : unit_fits u ≡ true
   pub places : AreAccepted u ps
   pub cost : (f : ℕ) → f < length u.functions → cost_at u ps f ≤ stack_limit
   pub parameters : (f : ℕ) → length (function_at u f).parameters ≤ most_arguments
+  pub main_parameters : length (function_at u u.main).parameters ≤ most_main_parameters
   pub arguments : (f k : ℕ) (i : InstructionTree) → slice_get (function_at u f).code k ≡ Some i → HasFewArguments i
 
 -- the least data that have room for all blocks
@@ -143,16 +146,17 @@ pub record IsHeld (c : Context) (m : Memory) (address_of registers flat : ℕ �
   pub has : HasPlace c p
   pub stands : StandsFor m address_of v (word_in c registers flat sp p)
 
--- the registers as the caller left them, the return address in x1: a frame has those that its function stores
-abbrev pub saved_in : List ℕ → (registers flat : ℕ → ℕ) → (sp i r : ℕ) → ℕ
-saved_in [] registers flat sp i r = registers r
-saved_in (q ∷ used) registers flat sp i r =
-    if r == q then number_at 4 flat (sp + register_at i) else saved_in used registers flat sp (i + 1) r
+-- the registers as the caller left them, the return address in x1: a frame has those that its function stores, behind so
+-- many bytes of arguments
+abbrev pub saved_in : (outgoing : ℕ) → List ℕ → (registers flat : ℕ → ℕ) → (sp i r : ℕ) → ℕ
+saved_in outgoing [] registers flat sp i r = registers r
+saved_in outgoing (q ∷ used) registers flat sp i r =
+    if r == q then number_at 4 flat (sp + register_at outgoing i) else saved_in outgoing used registers flat sp (i + 1) r
 
 abbrev pub caller_registers : Context → (registers flat : ℕ → ℕ) → (sp r : ℕ) → ℕ
-caller_registers c registers flat sp r = saved_in (stored c) registers flat sp 0 r
+caller_registers c registers flat sp r = saved_in (frame_of c).outgoing (stored c) registers flat sp 0 r
 
--- the bytes from x2 on that belong to the frame alone: they end where its blocks begin
+-- the bytes from x2 on that belong to the frame alone, the arguments of its calls among them: they end where its blocks begin
 abbrev pub private_end : Context → (sp : ℕ) → ℕ
 private_end c sp = sp + (frame_of c).placed
 

@@ -26,8 +26,8 @@ main_run s arguments w n = tac_run s.unit s.unit.main arguments w n
 abbrev pub main_world : Setup → List Value → World → (n : ℕ) → World
 main_world s arguments w n = world_after s.unit s.unit.main arguments w n
 
--- the machine stands at the start of its code, with main's arguments in a0 and the next registers; the memory to start from
--- is the unit's
+-- the machine stands at the start of its code, with main's arguments, of which there are at most eight, in a0 and the next
+-- registers; the memory to start from is the unit's
 pub record IsStart (s : Setup) (arguments : List Value) (w : World) (l : Lay) (m : Watched) : Type 0 where
   pub pc : m.now.pc ≡ code_start
   pub return_to : s.return_to ≡ code_start + 4

@@ -14,7 +14,7 @@ use Rattle.qs_emit_selection.specs.Limits.{passes_few, function_fault}
 use Rattle.qs_emit_selection.proofs.LimitLaws.{is_free}
 use Rattle.qs_emit_selection.proofs.FitLaws.{code_fits}
 
-pub few_parameters : (f : TacFunctionTree) (p : PlacesTree) → function_fault f p ≡ None → length f.parameters ≤ 8
+pub few_parameters : (f : TacFunctionTree) (p : PlacesTree) → function_fault f p ≡ None → length f.parameters ≤ 16
 few_parameters f p h = (is_free f p h).parameters
 
 pub code_passes_few : (f : TacFunctionTree) (p : PlacesTree) → function_fault f p ≡ None → list_all passes_few f.code ≡ true

@@ -5,6 +5,7 @@ use Rattle.std.specs.List.{list_all}
 use Rattle.std.proofs.lemmas.Bool.{cases_lt, and_parts}
 use Rattle.std.proofs.lemmas.Bool.Decides.{nat_tests}
 use Rattle.qs_base.specs.Words.{sign_extend}
+use Rattle.qs_base.specs.Parameters.{stack_arguments}
 use Rattle.qs_memory.specs.Partial.{◌>>=◌, only_if}
 use Rattle.qs_memory.specs.Sizes.{blank_size, is_element}
 use Rattle.qs_memory.specs.declared.scalar.Scalar.{Scalar}
@@ -25,6 +26,7 @@ use Rattle.qs_memory.specs.declared.operation.Arithmetic.TheVariants as arithmet
 use Rattle.qs_isa.specs.declared.instruction.Instr.{Instr}
 use Rattle.qs_isa.specs.declared.instruction.Instr.TheVariants as instructions
 use Rattle.qs_isa.specs.declared.instruction.LoadKind.{LoadKind}
+use Rattle.qs_isa.specs.declared.instruction.LoadKind.TheVariants.{Lw}
 use Rattle.qs_isa.specs.declared.instruction.StoreKind.{StoreKind}
 use Rattle.qs_isa.specs.Ranges.{IsSigned, IsOffset, IsUpper}
 use Rattle.qs_isa.specs.Encoding.{IsInstr}
@@ -33,7 +35,7 @@ use Rattle.qs_tac.specs.declared.places.Place.{Place}
 use Rattle.qs_tac.specs.declared.places.Place.TheVariants.{Slot, Register}
 use Rattle.qs_tac.specs.declared.operands.Operand.{Operand}
 use Rattle.qs_tac.specs.declared.operands.Operand.TheVariants.{Temporary, Integer, Byte, Constant, Null, Local, Data}
-use Rattle.qs_frames.specs.Layout.{is_among, used_among, saved_registers, used_registers, keeps_return_address, return_register, register_at}
+use Rattle.qs_frames.specs.Layout.{is_among, used_among, saved_registers, used_registers, keeps_return_address, return_register, argument_at, register_at}
 use Rattle.qs_tac.specs.Trees.{InstructionTree, move, unary, binary, convert, address_of, load, store}
 use Rattle.qs_tac.specs.Trees.{copy, fill, call, jump, branch, return, TacUnitTree}
 use Rattle.qs_tac.specs.Fits.{operand_fits, index_fits, address_fits, condition_fits, operation_fits, instruction_fits}
@@ -49,7 +51,7 @@ use Rattle.qs_emit_selection.specs.Pieces.{is_small, low_part, high_part, consta
 use Rattle.qs_emit_selection.specs.Operands.{Context, stored, frame_of, local_offset, place_into, byte_into, into, register_of, stands_in, unless_there, operand_code, operand_register, put_place, put, result_register, result_code, move_to, Anchor, displacement, behind_frame, behind_pointer, based, add_elements, add_index, anchor_of, address_into, is_word_address}
 use Rattle.qs_emit_selection.specs.Operations.{constant_of, negated, if_small, with_constant, or_code, kind_of, both, on_both, arithmetic, less_than, less_than_constant, less, apart, compare, directed, step, move_by, move_by_elements, moved, elements_between, unary_instruction, conversion}
 use Rattle.qs_emit_selection.specs.Operations as operations
-use Rattle.qs_emit_selection.specs.Emission.{save, restore, take_parameter, take_parameters, enter, leave, result_into, has_one_epilogue, go_out, copy_code, unless_none, fill_code, pass, take_result, Labels, goes_to, less_branch, not_less_branch, compare_branch, compare_items, branch_items, gives, instruction_items}
+use Rattle.qs_emit_selection.specs.Emission.{save, restore, take_from_register, take_from_stack, take_parameter, take_parameters, enter, leave, result_into, has_one_epilogue, go_out, copy_code, unless_none, fill_code, stack_argument, register_argument, pass_on_stack, pass_in_registers, pass, take_result, Labels, goes_to, less_branch, not_less_branch, compare_branch, compare_items, branch_items, gives, instruction_items}
 use Rattle.qs_emit_selection.proofs.Sizes.{few_stored}
 use Rattle.qs_emit_selection.specs.Laws.{IsItem, AreItems, IsPlace, IsContext, HasFewArguments, AreSelectedWords}
 use Rattle.qs_asm.specs.declared.item.Item.{Item}
@@ -189,16 +191,16 @@ abbrev pub IsIn : List ℕ → (r : ℕ) → Type 0
 IsIn [] r = ⊥
 IsIn (q ∷ registers) r = (r ≡ q) ⊎ IsIn registers r
 
-save_instrs : (registers : List ℕ) (i : ℕ) → ((r : ℕ) → IsIn registers r → r < 32) → i + length registers ≤ 13 → AreInstrs (save registers i)
-save_instrs [] i h n = tt
-save_instrs (r ∷ registers) i h n =
-    ((omega arith, h r (inl refl), below_signed (register_at i) (omega (arith, n))), save_instrs registers (i + 1) (λ q k. h q (inr k)) (omega (arith, n)))
+save_instrs : (outgoing : ℕ) (registers : List ℕ) (i : ℕ) → outgoing ≤ 32 → ((r : ℕ) → IsIn registers r → r < 32) → i + length registers ≤ 13 → AreInstrs (save outgoing registers i)
+save_instrs outgoing [] i o h n = tt
+save_instrs outgoing (r ∷ registers) i o h n =
+    ((omega arith, h r (inl refl), below_signed (register_at outgoing i) (omega (arith, o, n))), save_instrs outgoing registers (i + 1) o (λ q k. h q (inr k)) (omega (arith, n)))
 
-restore_instrs : (registers : List ℕ) (i : ℕ) → ((r : ℕ) → IsIn registers r → r < 32) → i + length registers ≤ 13 → AreInstrs (restore registers i)
-restore_instrs [] i h n = tt
-restore_instrs (r ∷ registers) i h n =
-    then_instrs (restore registers (i + 1)) _ (restore_instrs registers (i + 1) (λ q k. h q (inr k)) (omega (arith, n)))
-    ((h r (inl refl), omega arith, below_signed (register_at i) (omega (arith, n))), tt)
+restore_instrs : (outgoing : ℕ) (registers : List ℕ) (i : ℕ) → outgoing ≤ 32 → ((r : ℕ) → IsIn registers r → r < 32) → i + length registers ≤ 13 → AreInstrs (restore outgoing registers i)
+restore_instrs outgoing [] i o h n = tt
+restore_instrs outgoing (r ∷ registers) i o h n =
+    then_instrs (restore outgoing registers (i + 1)) _ (restore_instrs outgoing registers (i + 1) o (λ q k. h q (inr k)) (omega (arith, n)))
+    ((h r (inl refl), omega arith, below_signed (register_at outgoing i) (omega (arith, o, n))), tt)
 
 -- ---- tests
 
@@ -492,33 +494,62 @@ module _ (u : TacUnitTree) (c : Context) (ok : IsContext c) where
   cost_small : (frame_of c).cost < 2 ^ 32
   cost_small = let h = ok.cost in omega (arith, h)
 
-  parameter_instrs : (register : ℕ) (p : Parameter) → register < 32 → AreInstrs (take_parameter c register p)
-  parameter_instrs register (Plain x) r = put_instrs register x r
-  parameter_instrs register (Placed i s) r = store_instrs _ register _ r
+  few_before : (frame_of c).outgoing ≤ 32
+  few_before = let p = ok.passes in omega (arith, p)
 
-  parameters_instrs : (register : ℕ) (ps : List Parameter) → register + length ps ≤ 31 → AreInstrs (take_parameters c register ps)
-  parameters_instrs register [] h = tt
-  parameters_instrs register (p ∷ ps) h =
-      then_instrs (take_parameter c register p) _ (parameter_instrs register p (omega (arith, h))) (parameters_instrs (register + 1) ps (omega (arith, h)))
+  from_register_instrs : (register : ℕ) (p : Parameter) → register < 32 → AreInstrs (take_from_register c register p)
+  from_register_instrs register (Plain x) r = put_instrs register x r
+  from_register_instrs register (Placed i s) r = store_instrs _ register _ r
 
-  pub enter_instrs : length c.function.parameters ≤ 8 → AreInstrs (enter c)
-  enter_instrs h =
+  from_stack_instrs : (offset : ℕ) (p : Parameter) → AreInstrs (take_from_stack c offset p)
+  from_stack_instrs offset (Plain x) = then_instrs (load_from Lw (result_register c x) offset) _ (load_instrs Lw (result_register c x) offset (result_small x)) (result_instrs x)
+  from_stack_instrs offset (Placed i s) = then_instrs (load_from Lw 10 offset) _ (load_instrs Lw 10 offset (omega arith)) (store_instrs _ 10 _ (omega arith))
+
+  parameter_instrs : (i : ℕ) (p : Parameter) → AreInstrs (take_parameter c i p)
+  parameter_instrs i p =
+      either_instrs (nat_lt i 8) _ _ (λ t. let l : i < 8 = grind (arith, nat_tests, t) in from_register_instrs (10 + i) p (omega (arith, l)))
+      (λ t. from_stack_instrs _ p)
+
+  parameters_instrs : (i : ℕ) (ps : List Parameter) → AreInstrs (take_parameters c i ps)
+  parameters_instrs i [] = tt
+  parameters_instrs i (p ∷ ps) = then_instrs (take_parameter c i p) _ (parameter_instrs i p) (parameters_instrs (i + 1) ps)
+
+  pub enter_instrs : AreInstrs (enter c)
+  enter_instrs =
       then_instrs (move_stack (2 ^ 32 - (frame_of c).cost)) _ (stack_instrs _ down)
-      (then_instrs (save (stored c) 0) _ (save_instrs (stored c) 0 stored_are few) (parameters_instrs 10 c.function.parameters (omega (arith, h))))
+      (then_instrs (save (frame_of c).outgoing (stored c) 0) _ (save_instrs (frame_of c).outgoing (stored c) 0 few_before stored_are few) (parameters_instrs 0 c.function.parameters))
     where
       down : 2 ^ 32 - (frame_of c).cost < 2 ^ 32
       down = let p = (frames_are_laid_out c.function c.places).positive in omega (arith, p)
 
   leave_instrs : AreInstrs (leave c)
   leave_instrs =
-      then_instrs (restore (stored c) 0) _ (restore_instrs (stored c) 0 stored_are few)
+      then_instrs (restore (frame_of c).outgoing (stored c) 0) _ (restore_instrs (frame_of c).outgoing (stored c) 0 few_before stored_are few)
       (then_instrs (move_stack (frame_of c).cost) _ (stack_instrs _ cost_small) ((omega arith, omega arith, below_signed 0 (omega arith)), tt))
 
-  pass_instrs : (register : ℕ) (os : List Operand) → register + length os ≤ 31 → list_all (operand_fits u c.function) os ≡ true → AreInstrs (pass c register os)
-  pass_instrs register [] h k = tt
-  pass_instrs register (o ∷ os) h k =
+  stack_argument_instrs : (i : ℕ) (o : Operand) → i < 16 → operand_fits u c.function o ≡ true → AreInstrs (stack_argument c i o)
+  stack_argument_instrs i o n k =
+      either_instrs (nat_lt i 8) _ _ (λ t. tt)
+      (λ t. then_instrs (operand_code c 10 o) _ (operand_instrs 10 o (omega arith) k) ((omega arith, register_small 10 o (omega arith), below_signed (argument_at (stack_arguments i)) (omega (arith, n))), tt))
+
+  register_argument_instrs : (i : ℕ) (o : Operand) → operand_fits u c.function o ≡ true → AreInstrs (register_argument c i o)
+  register_argument_instrs i o k =
+      either_instrs (nat_lt i 8) _ _ (λ t. let l : i < 8 = grind (arith, nat_tests, t) in into_instrs (10 + i) o (omega (arith, l)) k) (λ t. tt)
+
+  on_stack_instrs : (i : ℕ) (os : List Operand) → i + length os ≤ 16 → list_all (operand_fits u c.function) os ≡ true → AreInstrs (pass_on_stack c i os)
+  on_stack_instrs i [] h k = tt
+  on_stack_instrs i (o ∷ os) h k =
       let t = and_parts (operand_fits u c.function o) (list_all (operand_fits u c.function) os) k in
-      then_instrs (into c register o) _ (into_instrs register o (omega (arith, h)) t.0) (pass_instrs (register + 1) os (omega (arith, h)) t.1)
+      then_instrs (stack_argument c i o) _ (stack_argument_instrs i o (omega (arith, h)) t.0) (on_stack_instrs (i + 1) os (omega (arith, h)) t.1)
+
+  in_registers_instrs : (i : ℕ) (os : List Operand) → list_all (operand_fits u c.function) os ≡ true → AreInstrs (pass_in_registers c i os)
+  in_registers_instrs i [] k = tt
+  in_registers_instrs i (o ∷ os) k =
+      let t = and_parts (operand_fits u c.function o) (list_all (operand_fits u c.function) os) k in
+      then_instrs (register_argument c i o) _ (register_argument_instrs i o t.0) (in_registers_instrs (i + 1) os t.1)
+
+  pass_instrs : (os : List Operand) → length os ≤ 16 → list_all (operand_fits u c.function) os ≡ true → AreInstrs (pass c os)
+  pass_instrs os h k = then_instrs (pass_on_stack c 0 os) _ (on_stack_instrs 0 os (omega (arith, h)) k) (in_registers_instrs 0 os k)
 
   taken_instrs : (x : Option ℕ) → AreInstrs (take_result c x)
   taken_instrs None = tt
@@ -607,7 +638,7 @@ module _ (u : TacUnitTree) (c : Context) (labels : Labels) (ok : IsContext c) wh
   instruction_are (call x f arguments) h few =
       let t = and_parts _ (list_all (operand_fits u c.function) arguments) h in
       let n = few x f arguments refl in
-      then_items (plain (pass c 10 arguments)) _ (plain_items _ (pass_instrs u c ok 10 arguments (omega (arith, n)) t.1)) (then_items (goes_to labels f) _ (goes_items f) (plain_items _ (taken_instrs u c ok x)))
+      then_items (plain (pass c arguments)) _ (plain_items _ (pass_instrs u c ok arguments n t.1)) (then_items (goes_to labels f) _ (goes_items f) (plain_items _ (taken_instrs u c ok x)))
   instruction_are (jump to) h few = (omega arith, tt)
   instruction_are (branch b to) h few = let t = and_parts (condition_fits u c.function b) _ h in condition_items b _ t.0
   instruction_are (return o) h few = then_items (plain (result_into c o)) (go_out c labels) (result_are o h) (out (has_one_epilogue c.function))
@@ -622,7 +653,7 @@ module _ (u : TacUnitTree) (c : Context) (labels : Labels) (ok : IsContext c) wh
 
 pub what_is_selected : (u : TacUnitTree) (c : Context) (labels : Labels) → IsContext c → AreSelectedWords u c labels
 what_is_selected u c labels ok = record {
-  enter = λ few. plain_items _ (enter_instrs u c ok few);
+  enter = plain_items _ (enter_instrs u c ok);
   instruction = instruction_are u c labels ok;
   leave = plain_items (leave c) (leave_instrs u c ok);
 }

@@ -8,6 +8,7 @@ use Rattle.qs_memory.specs.declared.operation.Arithmetic.TheVariants as arithmet
 use Rattle.qs_memory.specs.declared.operation.Comparison.TheVariants as comparisons
 use Rattle.qs_memory.specs.declared.operation.BinaryOperation.TheVariants as binaries
 use Rattle.qs_calls.specs.declared.callee.Callee.TheVariants.{Function, PutChar}
+use Rattle.qs_calls.specs.declared.parameter.Parameter.{Parameter}
 use Rattle.qs_calls.specs.declared.parameter.Parameter.TheVariants as parameters
 use Rattle.qs_isa.specs.declared.instruction.Instr.TheVariants.{Lui, Jalr, Load, Store, OpImm, ShiftImm, Op, Ecall}
 use Rattle.qs_isa.specs.declared.instruction.Instr.TheVariants as instructions
@@ -29,7 +30,7 @@ use Rattle.qs_tac.specs.declared.operands.Condition.TheVariants.{Compare}
 use Rattle.qs_frames.specs.Layout.{rounded, keeps_return_address, frame_cost}
 use Rattle.qs_emit_selection.specs.Pieces.{is_small, low_part, high_part, is_near, shift_of}
 use Rattle.qs_emit_selection.specs.Operands.{Context}
-use Rattle.qs_emit_selection.specs.Emission.{Labels, instruction_items, body_items}
+use Rattle.qs_emit_selection.specs.Emission.{take_parameter, enter, leave, stack_argument, Labels, instruction_items, body_items}
 use Rattle.qs_emit_selection.specs.Data.{data_address}
 use Rattle.qs_emit_selection.specs.Limits.{first_fault}
 use Rattle.qs_emit_selection.specs.Units.{selected}
@@ -232,6 +233,108 @@ a_move_to_a_slot = refl
 a_move_to_a_register : instruction_items mixed some_labels (move 1 (Temporary 3)) ≡ plain (OpImm Addi 5 9 0 ∷ [])
 a_move_to_a_register = refl
 
+-- ---- nine arguments, and nine parameters
+
+abbrev eight : List Operand
+eight = Constant 1 ∷ Constant 2 ∷ Constant 3 ∷ Constant 4 ∷ Constant 5 ∷ Constant 6 ∷ Constant 7 ∷ Constant 8 ∷ []
+
+abbrev passes_nine : TacFunctionTree
+passes_nine = record {
+  parameters = [];
+  temporaries = 1;
+  blocks = [];
+  code = call None (Function (record { 0 = 3 })) (eight ++ Integer 0 ∷ []) ∷ [];
+}
+
+abbrev passing : Context
+passing = record { function = passes_nine; places = all_slots passes_nine; data_at = λ block. 0 }
+
+-- the ninth argument is passed in the first word of the frame; behind it lie the return address and the slot
+a_ninth_argument :
+    instruction_items passing some_labels (call None (Function (record { 0 = 3 })) (eight ++ Integer 0 ∷ []))
+    ≡ plain (Load Lw 10 2 8 ∷ Store Sw 2 10 0 ∷ OpImm Addi 10 0 1 ∷ OpImm Addi 11 0 2 ∷ OpImm Addi 12 0 3 ∷ OpImm Addi 13 0 4
+    ∷ OpImm Addi 14 0 5 ∷ OpImm Addi 15 0 6 ∷ OpImm Addi 16 0 7 ∷ OpImm Addi 17 0 8 ∷ []) ++ (Jump 1 103 ∷ [])
+unfolding is_small is_near keeps_return_address
+a_ninth_argument = refl
+
+-- the sixteenth is passed seven words further on, from the register in which it stands, if it stands in one
+abbrev passes_sixteen : TacFunctionTree
+passes_sixteen = record passes_nine { code = call None (Function (record { 0 = 3 })) (eight ++ eight) ∷ [] }
+
+abbrev stacked : Context
+stacked = record { function = passes_sixteen; places = all_slots passes_sixteen; data_at = λ block. 0 }
+
+a_sixteenth_argument : stack_argument stacked 15 (Integer 0) ≡ Load Lw 10 2 36 ∷ Store Sw 2 10 28 ∷ []
+unfolding is_near keeps_return_address
+a_sixteenth_argument = refl
+
+an_argument_in_a_register :
+    stack_argument (record { function = passes_sixteen; places = record { at = places.Register 9 ∷ []; needed = [] }; data_at = λ block. 0 }) 15 (Integer 0)
+    ≡ Store Sw 2 9 28 ∷ []
+an_argument_in_a_register = refl
+
+its_entry : enter passing ≡ OpImm Addi 2 2 0xfffffff0 ∷ Store Sw 2 1 4 ∷ []
+unfolding is_small frame_cost keeps_return_address
+its_entry = refl
+
+its_return : leave passing ≡ Load Lw 1 2 4 ∷ OpImm Addi 2 2 16 ∷ Jalr 0 1 0 ∷ []
+unfolding is_small frame_cost keeps_return_address
+its_return = refl
+
+abbrev eight_parameters : List Parameter
+eight_parameters =
+    parameters.Plain 0 ∷ parameters.Plain 1 ∷ parameters.Plain 2 ∷ parameters.Plain 3 ∷ parameters.Plain 4 ∷ parameters.Plain 5
+    ∷ parameters.Plain 6 ∷ parameters.Plain 7 ∷ []
+
+abbrev takes_nine : TacFunctionTree
+takes_nine = record { parameters = eight_parameters ++ parameters.Plain 8 ∷ []; temporaries = 9; blocks = []; code = [] }
+
+abbrev taking : Context
+taking = record { function = takes_nine; places = all_slots takes_nine; data_at = λ block. 0 }
+
+-- nine slots are a frame of 48 bytes, behind which lies the caller's
+an_eighth_parameter : take_parameter taking 7 (parameters.Plain 7) ≡ Store Sw 2 17 4 ∷ []
+unfolding is_near frame_cost keeps_return_address
+an_eighth_parameter = refl
+
+a_ninth_parameter : take_parameter taking 8 (parameters.Plain 8) ≡ Load Lw 10 2 48 ∷ Store Sw 2 10 0 ∷ []
+unfolding is_near frame_cost keeps_return_address
+a_ninth_parameter = refl
+
+a_sixteenth_parameter : take_parameter taking 15 (parameters.Plain 8) ≡ Load Lw 10 2 76 ∷ Store Sw 2 10 0 ∷ []
+unfolding is_near frame_cost keeps_return_address
+a_sixteenth_parameter = refl
+
+-- eight slots and the word of x9
+abbrev in_registers : PlacesTree
+in_registers = record {
+  at =
+      places.Slot 0 ∷ places.Slot 1 ∷ places.Slot 2 ∷ places.Slot 3 ∷ places.Slot 4 ∷ places.Slot 5 ∷ places.Slot 6
+      ∷ places.Slot 7 ∷ places.Register 9 ∷ [];
+  needed = [];
+}
+
+a_ninth_parameter_in_a_register :
+    take_parameter (record { function = takes_nine; places = in_registers; data_at = λ block. 0 }) 8 (parameters.Plain 8)
+    ≡ Load Lw 9 2 48 ∷ []
+unfolding is_near frame_cost keeps_return_address
+a_ninth_parameter_in_a_register = refl
+
+-- a parameter whose address is taken, in a frame of 4048 bytes
+abbrev places_nine : TacFunctionTree
+places_nine = record {
+  parameters = eight_parameters ++ parameters.Placed 0 scalars.Int ∷ [];
+  temporaries = 8;
+  blocks = 4000 ∷ [];
+  code = [];
+}
+
+a_ninth_parameter_far_away :
+    take_parameter (record { function = places_nine; places = all_slots places_nine; data_at = λ block. 0 }) 8 (parameters.Placed 0 scalars.Int)
+    ≡ Lui 10 4096 ∷ Op Add 10 10 2 ∷ Load Lw 10 10 0xffffffd0 ∷ Store Sw 2 10 36 ∷ []
+unfolding is_near low_part high_part rounded frame_cost keeps_return_address
+a_ninth_parameter_far_away = refl
+
 -- ---- faults
 
 abbrev unit_of : TacFunctionTree → TacUnitTree
@@ -241,15 +344,20 @@ abbrev calls_with : List Operand → TacFunctionTree
 calls_with arguments =
     record { parameters = []; temporaries = 0; blocks = []; code = call None (Function (record { 0 = 0 })) arguments ∷ [] }
 
-abbrev eight : List Operand
-eight = Constant 1 ∷ Constant 2 ∷ Constant 3 ∷ Constant 4 ∷ Constant 5 ∷ Constant 6 ∷ Constant 7 ∷ Constant 8 ∷ []
-
-eight_arguments : first_fault (unit_of (calls_with eight)) [] ≡ None
+sixteen_arguments : first_fault (unit_of (calls_with (eight ++ eight))) [] ≡ None
 unfolding frame_cost keeps_return_address
-eight_arguments = refl
+sixteen_arguments = refl
 
-nine_arguments : first_fault (unit_of (calls_with (Constant 0 ∷ eight))) [] ≡ Some faults.TooManyArguments
-nine_arguments = refl
+seventeen_arguments : first_fault (unit_of (calls_with (Constant 0 ∷ eight ++ eight))) [] ≡ Some faults.TooManyArguments
+seventeen_arguments = refl
+
+-- of main, and of another function
+main_with_nine_parameters : first_fault (record { functions = takes_nine ∷ caller ∷ []; main = 0; data_blocks = [] }) [] ≡ Some faults.TooManyArguments
+main_with_nine_parameters = refl
+
+nine_parameters : first_fault (record { functions = takes_nine ∷ caller ∷ []; main = 1; data_blocks = [] }) [] ≡ None
+unfolding frame_cost keeps_return_address
+nine_parameters = refl
 
 no_register : first_fault (unit_of (calls_with [])) (record { at = places.Register 32 ∷ []; needed = [] } ∷ []) ≡ Some faults.NoRegister
 no_register = refl

@@ -4,6 +4,7 @@ use Rattle.std.specs.Prelude.{◌-◌, nat_lt, ◌&&◌, if◌then◌else◌, is
 use Rattle.std.proofs.lemmas.Bool.{cases_lt}
 use Rattle.std.proofs.lemmas.Bool.Decides.{nat_tests}
 use Rattle.std.proofs.lemmas.List.Sums.{sum_by-cons, sum_by-append}
+use Rattle.qs_base.specs.Parameters.{stack_arguments, most_stack_arguments}
 use Rattle.qs_memory.specs.Sizes.{blank_size}
 use Rattle.qs_memory.specs.declared.operation.Signedness.{Signedness}
 use Rattle.qs_memory.specs.declared.operation.Signedness.TheVariants.{Signed, Unsigned}
@@ -19,11 +20,13 @@ use Rattle.qs_calls.specs.declared.callee.Callee.TheVariants.{Function, PutChar,
 use Rattle.qs_calls.specs.declared.parameter.Parameter.{Parameter}
 use Rattle.qs_calls.specs.declared.parameter.Parameter.TheVariants.{Plain, Placed}
 use Rattle.qs_isa.specs.EnvironmentCalls.{exit_call}
-use Rattle.qs_isa.specs.Registers.{x0, ra, a0, a1, a4}
+use Rattle.qs_isa.specs.Registers.{x0, ra, sp, a0, a1, a4}
 use Rattle.qs_isa.specs.declared.instruction.Instr.{Instr}
 use Rattle.qs_isa.specs.declared.instruction.Instr.TheVariants as instructions
 use Rattle.qs_isa.specs.declared.instruction.LoadKind.{LoadKind}
 use Rattle.qs_isa.specs.declared.instruction.StoreKind.{StoreKind}
+use Rattle.qs_isa.specs.declared.instruction.StoreKind.TheVariants.{Sw}
+use Rattle.qs_frames.specs.Layout.{argument_at}
 use Rattle.qs_asm.specs.declared.item.Item.{Item}
 use Rattle.qs_asm.specs.declared.item.Item.TheVariants as items
 use Rattle.qs_asm.specs.Items.{plain, item_words}
@@ -47,11 +50,11 @@ use Rattle.qs_frames.proofs.FrameLaws.{one_place_each, stored_words, slot_low, s
 use Rattle.qs_emit_selection.proofs.EntryLaws.{few_are_stored}
 use Rattle.qs_emit_selection.specs.Pieces as pieces
 use Rattle.qs_emit_selection.specs.Pieces.{sltiu, sltu, is_small, low_part, constant, is_near, load_from, store_to, address_in_frame, move_stack, shift_of, product_by, loop_end, copy_loop, fill_loop, zero_bytes}
-use Rattle.qs_emit_selection.specs.Operands.{Context, stored, slot_offset, constant_count, place_into, byte_into, into, register_of, stands_in, unless_there, operand_code, operand_register, put_place, put, result_register, result_code, move_to, Anchor, displacement, behind_frame, behind_pointer, based, add_elements, add_index, anchor_of, address_into, is_word_address}
+use Rattle.qs_emit_selection.specs.Operands.{Context, frame_of, stored, slot_offset, constant_count, place_into, byte_into, into, register_of, stands_in, unless_there, operand_code, operand_register, put_place, put, result_register, result_code, move_to, Anchor, displacement, behind_frame, behind_pointer, based, add_elements, add_index, anchor_of, address_into, is_word_address}
 use Rattle.qs_emit_selection.specs.Operations.{constant_of, or_code, both, on_both, arithmetic, less, apart, compare, move_by, move_by_elements, moved, elements_between}
 use Rattle.qs_emit_selection.specs.Operations as operations
-use Rattle.qs_emit_selection.specs.Emission.{copy_code, unless_none, fill_code, save, restore, take_parameter, take_parameters, enter, leave, result_into, returned, ends_from, has_one_epilogue, epilogue, last_items, pass, take_result, Labels, goes_to, compare_branch, compare_items, branch_items, gives, instruction_items, body_items, function_items, first_label, labels_of, functions_items, environment, start_items, unit_items}
-use Rattle.qs_emit_selection.specs.Laws.{KeepsWords, UnitKeepsWords}
+use Rattle.qs_emit_selection.specs.Emission.{copy_code, unless_none, fill_code, save, restore, take_from_register, take_from_stack, take_parameter, take_parameters, enter, leave, result_into, returned, ends_from, has_one_epilogue, epilogue, last_items, stack_argument, register_argument, pass_on_stack, pass_in_registers, pass, take_result, Labels, goes_to, compare_branch, compare_items, branch_items, gives, instruction_items, body_items, function_items, first_label, labels_of, functions_items, environment, start_items, unit_items}
+use Rattle.qs_emit_selection.specs.Laws.{PassesFew, AllPassFew, KeepsWords, UnitKeepsWords}
 
 -- from so many to so many instructions
 pub record Long (low high : ℕ) (code : List Instr) : Type 0 where
@@ -136,26 +139,26 @@ zero_bytes_length (suc count) offset = ap suc (zero_bytes_length count (offset +
 
 -- ---- saved registers
 
+save_length : (outgoing : ℕ) (registers : List ℕ) (i : ℕ) → length (save outgoing registers i) ≡ length registers
+save_length outgoing [] i = refl
+save_length outgoing (r ∷ registers) i = ap suc (save_length outgoing registers (i + 1))
+
+restore_length : (outgoing : ℕ) (registers : List ℕ) (i : ℕ) → length (restore outgoing registers i) ≡ length registers
+restore_length outgoing [] i = refl
+restore_length outgoing (r ∷ registers) i =
+    let e : length (restore outgoing (r ∷ registers) i) ≡ length (restore outgoing registers (i + 1)) + 1 = length-append (restore outgoing registers (i + 1)) _ in
+    let f = restore_length outgoing registers (i + 1) in
+    omega (arith, e, f)
+
 module _ (c : Context) where
-  save_length : (registers : List ℕ) (i : ℕ) → length (save registers i) ≡ length registers
-  save_length [] i = refl
-  save_length (r ∷ registers) i = ap suc (save_length registers (i + 1))
-
-  restore_length : (registers : List ℕ) (i : ℕ) → length (restore registers i) ≡ length registers
-  restore_length [] i = refl
-  restore_length (r ∷ registers) i =
-      let e : length (restore (r ∷ registers) i) ≡ length (restore registers (i + 1)) + 1 = length-append (restore registers (i + 1)) _ in
-      let f = restore_length registers (i + 1) in
-      omega (arith, e, f)
-
   pub few_stored : length (stored c) ≤ 13
   few_stored = few_are_stored c.function c.places
 
-  save_long : Long 0 13 (save (stored c) 0)
-  save_long = let e = save_length (stored c) 0 in let f = few_stored in record { least = omega arith; most = omega (arith, e, f) }
+  save_long : Long 0 13 (save (frame_of c).outgoing (stored c) 0)
+  save_long = let e = save_length (frame_of c).outgoing (stored c) 0 in let f = few_stored in record { least = omega arith; most = omega (arith, e, f) }
 
-  restore_long : Long 0 13 (restore (stored c) 0)
-  restore_long = let e = restore_length (stored c) 0 in let f = few_stored in record { least = omega arith; most = omega (arith, e, f) }
+  restore_long : Long 0 13 (restore (frame_of c).outgoing (stored c) 0)
+  restore_long = let e = restore_length (frame_of c).outgoing (stored c) 0 in let f = few_stored in record { least = omega arith; most = omega (arith, e, f) }
 
 -- ---- operands and results
 
@@ -180,25 +183,31 @@ store_by kind rs offset true h = let e : is_near offset ≡ true = h refl in rw 
 store_by kind rs offset false h = store_long kind rs offset
 
 -- what the sizes have in reach is in reach
-near_offset : (offset temporaries t : ℕ) → offset ≤ 4 * (sizes.saved_registers + (temporaries - t)) ⊎ offset ≤ 52 → nat_lt (4 * (sizes.saved_registers + (temporaries - t))) reach ≡ true → is_near offset ≡ true
+near_offset : (offset temporaries t : ℕ) → offset ≤ 4 * (most_stack_arguments + sizes.saved_registers + (temporaries - t)) ⊎ offset ≤ 84 → nat_lt (4 * (most_stack_arguments + sizes.saved_registers + (temporaries - t))) reach ≡ true → is_near offset ≡ true
 unfolding is_near
 near_offset offset temporaries t (inl e) h = grind (arith, nat_tests, e, h)
 near_offset offset temporaries t (inr e) h = grind (arith, nat_tests, e)
 
-module _ (c : Context) (accepted : Accepted c.function c.places) where
+-- what the sizes count on: places that are accepted, and calls that pass few words on the stack
+pub record IsCounted (c : Context) : Type 0 where
+  pub accepted : Accepted c.function c.places
+  pub passes : PassesFew c.function
+
+module _ (c : Context) (counts : IsCounted c) where
   slot_same : (k l : ℕ) → Slot k ≡ Slot l → k ≡ l
   slot_same k l e = cc
 
   -- the slot of a temporary lies before the words of those behind it, and behind the registers
   near_slot : (t k : ℕ) → place_of c.places t ≡ Slot k → sizes.is_near c.function t ≡ true → is_near (slot_offset c k) ≡ true
   near_slot t k is h =
-      let count = one_place_each c.function c.places accepted in
+      let count = one_place_each c.function c.places counts.accepted in
+      let passes = counts.passes in
       let few = few_stored c in
       let words = stored_words c.function c.places in
       near_offset (slot_offset c k) c.function.temporaries t
       (⊎_elim
-      (λ lt. let low = slot_low c.function c.places t k lt is in inl (omega (arith, low, count, few, words, lt)))
-      (λ ge. let past = slot_past c.function c.places k (let none : t ≡ k = slot_same t k (sym (outside c.places.at t ge) ∙ is) in let fewer = fewer_slots c.places in omega (arith, fewer, ge, none)) in inr (omega (arith, past, few, words)))
+      (λ lt. let low = slot_low c.function c.places t k lt is in inl (omega (arith, low, count, few, words, lt, passes)))
+      (λ ge. let past = slot_past c.function c.places k (let none : t ≡ k = slot_same t k (sym (outside c.places.at t ge) ∙ is) in let fewer = fewer_slots c.places in omega (arith, fewer, ge, none)) in inr (omega (arith, past, few, words, passes)))
       (cases_lt t (length c.places.at)))
       h
     where
@@ -338,9 +347,9 @@ two_more d base = by (is_small d)
     by true = omega arith
     by false = omega arith
 
-module _ (c : Context) (accepted : Accepted c.function c.places) where
+module _ (c : Context) (counts : IsCounted c) where
   -- an anchor without a constant count: its displacement is the sum of its offsets
-  based_fits : (o : Operand) (n : ℕ) → based_most c accepted (n % 2 ^ 32) o ≤ base_words c.function o + offset_words o n
+  based_fits : (o : Operand) (n : ℕ) → based_most c counts (n % 2 ^ 32) o ≤ base_words c.function o + offset_words o n
   based_fits (Temporary t) n = few_words (operand_words c.function (Temporary t)) n (n % 2 ^ 32) (near_is_small n)
   based_fits (Integer t) n = few_words (operand_words c.function (Integer t)) n (n % 2 ^ 32) (near_is_small n)
   based_fits (Byte t) n = few_words (operand_words c.function (Byte t)) n (n % 2 ^ 32) (near_is_small n)
@@ -350,7 +359,7 @@ module _ (c : Context) (accepted : Accepted c.function c.places) where
   based_fits (Data i) n = omega arith
 
   -- with one
-  based_more : (o : Operand) (d : ℕ) → based_most c accepted d o ≤ base_words c.function o + 2
+  based_more : (o : Operand) (d : ℕ) → based_most c counts d o ≤ base_words c.function o + 2
   based_more (Temporary t) d = two_more d (operand_words c.function (Temporary t))
   based_more (Integer t) d = two_more d (operand_words c.function (Integer t))
   based_more (Byte t) d = two_more d (operand_words c.function (Byte t))
@@ -360,7 +369,7 @@ module _ (c : Context) (accepted : Accepted c.function c.places) where
   based_more (Data i) d = omega arith
 
   abbrev AnchorFits : Address → Type 0
-  AnchorFits p = counted c accepted (based_most c accepted (displacement p) p.base) p.index ≤ address_words c.function p
+  AnchorFits p = counted c counts (based_most c counts (displacement p) p.base) p.index ≤ address_words c.function p
 
   other_fits : (base : Operand) (offset : Option ℕ) (index : Index) → is_constant index.count ≡ false → constant_count index.count ≡ 0 → AnchorFits (record { base = base; offset = offset; index = Some index })
   other_fits base offset index k z =
@@ -393,7 +402,7 @@ module _ (c : Context) (accepted : Accepted c.function c.places) where
       by base offset (Some index) = index_fits base offset index index.count refl
 
   pub anchor_is_long : (p : Address) → Long 0 (address_words c.function p) (anchor_of c p).code
-  anchor_is_long p = wider (omega arith) (anchor_fits p) (index_long c accepted _ (based c (displacement p) p.base) p.index (based_long c accepted (displacement p) p.base))
+  anchor_is_long p = wider (omega arith) (anchor_fits p) (index_long c counts _ (based c (displacement p) p.base) p.index (based_long c counts (displacement p) p.base))
 
   address_into_long : (rd : ℕ) (p : Address) → Long 1 (address_words c.function p + 1) (address_into c rd p)
   address_into_long rd p = then_long (anchor_is_long p) (one _)
@@ -405,13 +414,13 @@ module _ (c : Context) (accepted : Accepted c.function c.places) where
   or_long None some x = x
 
   on_both_long : (x y : Operand) (of : ℕ → ℕ → Instr) → Long 1 (operand_words c.function y + 1) (on_both c x y of)
-  on_both_long x y of = then_long (operand_long c accepted a1 y) (one _)
+  on_both_long x y of = then_long (operand_long c counts a1 y) (one _)
 
   arithmetic_long : (op : Arithmetic) (s : Signedness) (rd : ℕ) (x y : Operand) → Long 1 (operand_words c.function x + (operand_words c.function y + 1)) (arithmetic c op s rd x y)
-  arithmetic_long op s rd x y = then_long (operand_long c accepted a0 x) (or_long _ (omega arith) (on_both_long x y (λ left right. instructions.Op (operations.kind_of op s) rd left right)))
+  arithmetic_long op s rd x y = then_long (operand_long c counts a0 x) (or_long _ (omega arith) (on_both_long x y (λ left right. instructions.Op (operations.kind_of op s) rd left right)))
 
   less_long : (s : Signedness) (rd : ℕ) (x y : Operand) → Long 1 (operand_words c.function x + (operand_words c.function y + 1)) (less c s rd x y)
-  less_long s rd x y = then_long (operand_long c accepted a0 x) (or_long _ (omega arith) (on_both_long x y (λ left right. operations.less_than s rd left right)))
+  less_long s rd x y = then_long (operand_long c counts a0 x) (or_long _ (omega arith) (on_both_long x y (λ left right. operations.less_than s rd left right)))
 
   apart_long : (rd : ℕ) (x y : Operand) → Long 1 (operand_words c.function x + (operand_words c.function y + 1)) (apart c rd x y)
   apart_long rd x y = arithmetic_long arithmetics.Subtract Unsigned rd x y
@@ -425,7 +434,7 @@ module _ (c : Context) (accepted : Accepted c.function c.places) where
   compare_long comparisons.NotEqual s rd x y = wider (omega arith) (omega arith) (then_long (apart_long rd x y) (one (sltu rd x0 rd)))
 
   both_long : (x y : Operand) → Long 0 (operand_words c.function x + operand_words c.function y) (both c x y)
-  both_long x y = then_long (operand_long c accepted a0 x) (operand_long c accepted a1 y)
+  both_long x y = then_long (operand_long c counts a0 x) (operand_long c counts a1 y)
 
   move_by_long : (rd p bytes : ℕ) → Long 1 3 (move_by rd p bytes)
   move_by_long rd p bytes =
@@ -438,7 +447,7 @@ module _ (c : Context) (accepted : Accepted c.function c.places) where
       (wider (omega arith) (omega arith) (then_long (product_by_long (shift_of element) _ count element) (one _)))
 
   moved_long : (direction : Direction) (element rd : ℕ) (x y : Operand) (o : Option ℕ) → Long 1 (operand_words c.function x + operand_words c.function y + 4) (moved c direction element rd x y o)
-  moved_long direction element rd x y (Some n) = wider (omega arith) (omega arith) (then_long (operand_long c accepted a0 x) (move_by_long rd _ _))
+  moved_long direction element rd x y (Some n) = wider (omega arith) (omega arith) (then_long (operand_long c counts a0 x) (move_by_long rd _ _))
   moved_long direction element rd x y None = then_long (both_long x y) (by_elements_long direction rd _ _ element)
 
   between_long : (element rd left right : ℕ) → Long 1 4 (elements_between element rd left right)
@@ -472,20 +481,32 @@ module _ (c : Context) (accepted : Accepted c.function c.places) where
 
   -- ---- entry and return
 
-  parameter_long : (register : ℕ) (p : Parameter) → Long 1 (parameter_words c.function p) (take_parameter c register p)
-  parameter_long register (Plain x) = put_long c accepted register x
-  parameter_long register (Placed i s) = store_long _ register _
+  from_register_long : (register : ℕ) (p : Parameter) → Long 1 (parameter_words c.function p) (take_from_register c register p)
+  from_register_long register (Plain x) = put_long c counts register x
+  from_register_long register (Placed i s) = store_long _ register _
 
-  parameters_long : (register : ℕ) (ps : List Parameter) → Long 0 (sum_by (parameter_words c.function) ps) (take_parameters c register ps)
-  parameters_long register [] = record { least = omega arith; most = omega arith }
-  parameters_long register (p ∷ ps) =
+  from_stack_long : (offset : ℕ) (p : Parameter) → Long 1 (parameter_words c.function p + 3) (take_from_stack c offset p)
+  from_stack_long offset (Plain x) = wider (omega arith) (omega arith) (then_long (load_long _ (result_register c x) offset) (result_long c counts x))
+  from_stack_long offset (Placed i s) = wider (omega arith) (omega arith) (then_long (load_long _ a0 offset) (store_long _ a0 _))
+
+  -- a load more where the stack passes it
+  parameter_long : (i : ℕ) (p : Parameter) → Long 1 (parameter_words c.function p + 3 * (stack_arguments (i + 1) - stack_arguments i)) (take_parameter c i p)
+  parameter_long i p = by (nat_lt i 8) refl
+    where
+      by : (b : Bool) → nat_lt i 8 ≡ b → Long 1 (parameter_words c.function p + 3 * (stack_arguments (i + 1) - stack_arguments i)) (if b then take_from_register c (a0 + i) p else take_from_stack c ((frame_of c).cost + argument_at (stack_arguments i)) p)
+      by true t = wider (omega arith) (omega arith) (from_register_long (a0 + i) p)
+      by false t = let past : 8 ≤ i = grind (arith, nat_tests, t) in wider (omega arith) (omega (arith, past)) (from_stack_long _ p)
+
+  parameters_long : (i : ℕ) (ps : List Parameter) → Long 0 (sum_by (parameter_words c.function) ps + 3 * (stack_arguments (i + length ps) - stack_arguments i)) (take_parameters c i ps)
+  parameters_long i [] = record { least = omega arith; most = omega arith }
+  parameters_long i (p ∷ ps) =
       let e = sum_by-cons (parameter_words c.function) p ps in
-      wider (omega arith) (omega (arith, e)) (then_long (parameter_long register p) (parameters_long (register + 1) ps))
+      wider (omega arith) (omega (arith, e)) (then_long (parameter_long i p) (parameters_long (i + 1) ps))
 
   enter_long : Long 1 (enter_words c.function) (enter c)
   enter_long =
       wider (omega arith) (omega arith)
-      (then_long (stack_long _) (then_long (save_long c) (parameters_long a0 c.function.parameters)))
+      (then_long (stack_long _) (then_long (save_long c) (parameters_long 0 c.function.parameters)))
 
   leave_long : Long 1 leave_words (leave c)
   leave_long =
@@ -493,19 +514,40 @@ module _ (c : Context) (accepted : Accepted c.function c.places) where
 
   returned_long : (o : Option Operand) → Long 0 (returned_words c.function o) (result_into c o)
   returned_long None = record { least = omega arith; most = omega arith }
-  returned_long (Some o) = wider (omega arith) (omega arith) (into_long c accepted a0 o)
+  returned_long (Some o) = wider (omega arith) (omega arith) (into_long c counts a0 o)
 
   -- ---- calls
 
-  pass_long : (register : ℕ) (operands : List Operand) → Long 0 (sum_by (operand_words c.function) operands) (pass c register operands)
-  pass_long register [] = record { least = omega arith; most = omega arith }
-  pass_long register (o ∷ operands) =
-      let e = sum_by-cons (operand_words c.function) o operands in
-      wider (omega arith) (omega (arith, e)) (then_long (into_long c accepted register o) (pass_long (register + 1) operands))
+  -- an argument is brought either into its register or through one into its word
+  argument_words : (i : ℕ) (o : Operand) → length (stack_argument c i o) + length (register_argument c i o) ≤ operand_words c.function o + (stack_arguments (i + 1) - stack_arguments i)
+  argument_words i o = by (nat_lt i 8) refl
+    where
+      by : (b : Bool) → nat_lt i 8 ≡ b → length (if b then [] else operand_code c a0 o ++ pieces.store Sw (operand_register c a0 o) sp (argument_at (stack_arguments i)) ∷ []) + length (if b then into c (a0 + i) o else []) ≤ operand_words c.function o + (stack_arguments (i + 1) - stack_arguments i)
+      by true t = let most = (into_long c counts (a0 + i) o).most in omega (arith, most)
+      by false t =
+          let past : 8 ≤ i = grind (arith, nat_tests, t) in
+          let most = (then_long (operand_long c counts a0 o) (one (pieces.store Sw (operand_register c a0 o) sp (argument_at (stack_arguments i))))).most in
+          omega (arith, most, past)
+
+  passed_words : (i : ℕ) (os : List Operand) → length (pass_on_stack c i os) + length (pass_in_registers c i os) ≤ sum_by (operand_words c.function) os + (stack_arguments (i + length os) - stack_arguments i)
+  passed_words i [] = omega arith
+  passed_words i (o ∷ os) =
+      let all = sum_by-cons (operand_words c.function) o os in
+      let stack : length (pass_on_stack c i (o ∷ os)) ≡ length (stack_argument c i o) + length (pass_on_stack c (i + 1) os) = length-append (stack_argument c i o) (pass_on_stack c (i + 1) os) in
+      let registers : length (pass_in_registers c i (o ∷ os)) ≡ length (register_argument c i o) + length (pass_in_registers c (i + 1) os) = length-append (register_argument c i o) (pass_in_registers c (i + 1) os) in
+      let first = argument_words i o in
+      let rest = passed_words (i + 1) os in
+      omega (arith, all, stack, registers, first, rest)
+
+  pass_long : (os : List Operand) → Long 0 (sum_by (operand_words c.function) os + stack_arguments (length os)) (pass c os)
+  pass_long os =
+      let both : length (pass c os) ≡ length (pass_on_stack c 0 os) + length (pass_in_registers c 0 os) = length-append (pass_on_stack c 0 os) (pass_in_registers c 0 os) in
+      let most = passed_words 0 os in
+      record { least = omega arith; most = omega (arith, both, most) }
 
   taken_long : (x : Option ℕ) → Long 0 (taken_words c.function x) (take_result c x)
   taken_long None = record { least = omega arith; most = omega arith }
-  taken_long (Some x) = wider (omega arith) (omega arith) (put_long c accepted a0 x)
+  taken_long (Some x) = wider (omega arith) (omega arith) (put_long c counts a0 x)
 
 -- ---- items
 
@@ -555,9 +597,9 @@ short_branch comparisons.GreaterOrEqual Unsigned left right label = refl
 short_branch comparisons.Equal s left right label = refl
 short_branch comparisons.NotEqual s left right label = refl
 
-module _ (c : Context) (labels : Labels) (accepted : Accepted c.function c.places) where
+module _ (c : Context) (labels : Labels) (counts : IsCounted c) where
   gives_items : {h : ℕ} (x : ℕ) (code : ℕ → List Instr) → ((rd : ℕ) → Long 1 h (code rd)) → Items 1 (h + slot_words c.function x) (gives c x code)
-  gives_items x code long = plain_items (wider (omega arith) (omega arith) (then_long (long (result_register c x)) (result_long c accepted x)))
+  gives_items x code long = plain_items (wider (omega arith) (omega arith) (then_long (long (result_register c x)) (result_long c counts x)))
 
   goes_items : (f : Callee) → Items 1 (callee_words f) (goes_to labels f)
   goes_items (Function f) = one_item _
@@ -567,46 +609,48 @@ module _ (c : Context) (labels : Labels) (accepted : Accepted c.function c.place
   compare_items_long : (op : Comparison) (s : Signedness) (x y : Operand) (label : ℕ) → Items 1 (operand_words c.function x + operand_words c.function y + 2) (compare_items c op s x y label)
   compare_items_long op s x y label =
       let e = short_branch op s (operand_register c a0 x) (operand_register c a1 y) label in
-      wider_items (omega arith) (omega (arith, e)) (then_items (plain_items (both_long c accepted x y)) (one_item (compare_branch op s (operand_register c a0 x) (operand_register c a1 y) label)))
+      wider_items (omega arith) (omega (arith, e)) (then_items (plain_items (both_long c counts x y)) (one_item (compare_branch op s (operand_register c a0 x) (operand_register c a1 y) label)))
 
   branch_items_long : (b : Condition) (label : ℕ) → Items 1 (condition_words c.function b) (branch_items c b label)
-  branch_items_long (NotZero o) label = then_items (plain_items (operand_long c accepted a0 o)) (one_item _)
-  branch_items_long (Zero o) label = then_items (plain_items (operand_long c accepted a0 o)) (one_item _)
+  branch_items_long (NotZero o) label = then_items (plain_items (operand_long c counts a0 o)) (one_item _)
+  branch_items_long (Zero o) label = then_items (plain_items (operand_long c counts a0 o)) (one_item _)
   branch_items_long (Compare op s x y) label = compare_items_long op s x y label
   branch_items_long (ComparePointers op x y) label = compare_items_long op Unsigned x y label
 
   instruction_long : (i : InstructionTree) → Items 1 (instruction_words c.function i) (instruction_items c labels i)
-  instruction_long (move x o) = plain_items (move_long c accepted o x)
+  instruction_long (move x o) = plain_items (move_long c counts o x)
   instruction_long (unary op x o) =
-      gives_items x _ (λ rd. then_long (operand_long c accepted a0 o) (one (operations.unary_instruction op rd (operand_register c a0 o))))
-  instruction_long (binary op x o p) = gives_items x _ (λ rd. binary_long c accepted op rd o p)
+      gives_items x _ (λ rd. then_long (operand_long c counts a0 o) (one (operations.unary_instruction op rd (operand_register c a0 o))))
+  instruction_long (binary op x o p) = gives_items x _ (λ rd. binary_long c counts op rd o p)
   instruction_long (convert s x o) =
-      gives_items x _ (λ rd. then_long (operand_long c accepted a0 o) (one (operations.conversion s rd (operand_register c a0 o))))
-  instruction_long (address_of x p) = gives_items x _ (λ rd. address_into_long c accepted rd p)
+      gives_items x _ (λ rd. then_long (operand_long c counts a0 o) (one (operations.conversion s rd (operand_register c a0 o))))
+  instruction_long (address_of x p) = gives_items x _ (λ rd. address_into_long c counts rd p)
   instruction_long (load s x p) =
-      gives_items x _ (λ rd. then_long (anchor_is_long c accepted p) (one (pieces.load (pieces.load_kind s) rd (anchor_of c p).register (anchor_of c p).immediate)))
+      gives_items x _ (λ rd. then_long (anchor_is_long c counts p) (one (pieces.load (pieces.load_kind s) rd (anchor_of c p).register (anchor_of c p).immediate)))
   instruction_long (store s p o) =
-      plain_items (wider (omega arith) (omega arith) (then_long (anchor_is_long c accepted p) (then_long (operand_long c accepted a4 o) (one _))))
+      plain_items (wider (omega arith) (omega arith) (then_long (anchor_is_long c counts p) (then_long (operand_long c counts a4 o) (one _))))
   instruction_long (copy size alignment p q) =
-      plain_items (wider (omega arith) (omega arith) (then_long (address_into_long c accepted _ p) (then_long (address_into_long c accepted _ q) (copy_long c accepted size alignment))))
+      plain_items (wider (omega arith) (omega arith) (then_long (address_into_long c counts _ p) (then_long (address_into_long c counts _ q) (copy_long c counts size alignment))))
   instruction_long (fill blank p) =
-      plain_items (wider (omega arith) (omega arith) (then_long (address_into_long c accepted _ p) (fill_long c accepted (is_word_address p) (blank_size blank))))
+      plain_items (wider (omega arith) (omega arith) (then_long (address_into_long c counts _ p) (fill_long c counts (is_word_address p) (blank_size blank))))
   instruction_long (call x f arguments) =
-      wider_items (omega arith) (omega arith) (then_items (plain_items (pass_long c accepted a0 arguments)) (then_items (goes_items f) (plain_items (taken_long c accepted x))))
+      wider_items (omega arith) (omega arith) (then_items (plain_items (pass_long c counts arguments)) (then_items (goes_items f) (plain_items (taken_long c counts x))))
   instruction_long (jump to) = one_item _
   instruction_long (branch b to) = branch_items_long b _
-  instruction_long (return o) = wider_items (omega arith) (omega arith) (then_items (plain_items (returned_long c accepted o)) (out (has_one_epilogue c.function)))
+  instruction_long (return o) = wider_items (omega arith) (omega arith) (then_items (plain_items (returned_long c counts o)) (out (has_one_epilogue c.function)))
     where
       out : (b : Bool) → Items 1 leave_words (if b then items.Jump x0 (labels.instruction (length c.function.code)) ∷ [] else plain (leave c))
       out true = wider_items (omega arith) (omega arith) (one_item _)
-      out false = plain_items (leave_long c accepted)
+      out false = plain_items (leave_long c counts)
 
-pub words_are_kept : (c : Context) (labels : Labels) → Accepted c.function c.places → KeepsWords c labels
-words_are_kept c labels accepted = record {
-  enter = (enter_long c accepted).most;
-  instruction = λ i. (instruction_long c labels accepted i).most;
-  some = λ i. (instruction_long c labels accepted i).least;
-}
+pub words_are_kept : (c : Context) (labels : Labels) → Accepted c.function c.places → PassesFew c.function → KeepsWords c labels
+words_are_kept c labels accepted passes =
+    let counts : IsCounted c = record { accepted = accepted; passes = passes } in
+    record {
+      enter = (enter_long c counts).most;
+      instruction = λ i. (instruction_long c labels counts i).most;
+      some = λ i. (instruction_long c labels counts i).least;
+    }
 
 -- ---- functions and units
 
@@ -614,102 +658,106 @@ words_are_kept c labels accepted = record {
 abbrev epilogue_words : (is_return : Bool) → ℕ
 epilogue_words is_return = if is_return then leave_words else 0
 
-last_words : (c : Context) (labels : Labels) (i : InstructionTree) → Accepted c.function c.places → length (epilogue c) ≤ epilogue_words (is_some (returned i)) → sum_by item_words (last_items c labels i (returned i)) + length (epilogue c) ≤ instruction_words c.function i
-last_words c labels (return o) accepted room =
-    let result = (returned_long c accepted o).most in
+last_words : (c : Context) (labels : Labels) (i : InstructionTree) → IsCounted c → length (epilogue c) ≤ epilogue_words (is_some (returned i)) → sum_by item_words (last_items c labels i (returned i)) + length (epilogue c) ≤ instruction_words c.function i
+last_words c labels (return o) counts room =
+    let result = (returned_long c counts o).most in
     let e = plain_sum (result_into c o) in
     omega (arith, e, result, room)
-last_words c labels (move x o) accepted room = let most = (instruction_long c labels accepted (move x o)).most in omega (arith, most, room)
-last_words c labels (unary op x o) accepted room = let most = (instruction_long c labels accepted (unary op x o)).most in omega (arith, most, room)
-last_words c labels (binary op x o p) accepted room = let most = (instruction_long c labels accepted (binary op x o p)).most in omega (arith, most, room)
-last_words c labels (convert t x o) accepted room = let most = (instruction_long c labels accepted (convert t x o)).most in omega (arith, most, room)
-last_words c labels (address_of x p) accepted room = let most = (instruction_long c labels accepted (address_of x p)).most in omega (arith, most, room)
-last_words c labels (load t x p) accepted room = let most = (instruction_long c labels accepted (load t x p)).most in omega (arith, most, room)
-last_words c labels (store t p o) accepted room = let most = (instruction_long c labels accepted (store t p o)).most in omega (arith, most, room)
-last_words c labels (copy size alignment p q) accepted room = let most = (instruction_long c labels accepted (copy size alignment p q)).most in omega (arith, most, room)
-last_words c labels (fill blank p) accepted room = let most = (instruction_long c labels accepted (fill blank p)).most in omega (arith, most, room)
-last_words c labels (call x f arguments) accepted room = let most = (instruction_long c labels accepted (call x f arguments)).most in omega (arith, most, room)
-last_words c labels (jump to) accepted room = let most = (instruction_long c labels accepted (jump to)).most in omega (arith, most, room)
-last_words c labels (branch b to) accepted room = let most = (instruction_long c labels accepted (branch b to)).most in omega (arith, most, room)
+last_words c labels (move x o) counts room = let most = (instruction_long c labels counts (move x o)).most in omega (arith, most, room)
+last_words c labels (unary op x o) counts room = let most = (instruction_long c labels counts (unary op x o)).most in omega (arith, most, room)
+last_words c labels (binary op x o p) counts room = let most = (instruction_long c labels counts (binary op x o p)).most in omega (arith, most, room)
+last_words c labels (convert t x o) counts room = let most = (instruction_long c labels counts (convert t x o)).most in omega (arith, most, room)
+last_words c labels (address_of x p) counts room = let most = (instruction_long c labels counts (address_of x p)).most in omega (arith, most, room)
+last_words c labels (load t x p) counts room = let most = (instruction_long c labels counts (load t x p)).most in omega (arith, most, room)
+last_words c labels (store t p o) counts room = let most = (instruction_long c labels counts (store t p o)).most in omega (arith, most, room)
+last_words c labels (copy size alignment p q) counts room = let most = (instruction_long c labels counts (copy size alignment p q)).most in omega (arith, most, room)
+last_words c labels (fill blank p) counts room = let most = (instruction_long c labels counts (fill blank p)).most in omega (arith, most, room)
+last_words c labels (call x f arguments) counts room = let most = (instruction_long c labels counts (call x f arguments)).most in omega (arith, most, room)
+last_words c labels (jump to) counts room = let most = (instruction_long c labels counts (jump to)).most in omega (arith, most, room)
+last_words c labels (branch b to) counts room = let most = (instruction_long c labels counts (branch b to)).most in omega (arith, most, room)
 
-body_words : (c : Context) (labels : Labels) (k : ℕ) (is_return : Bool) (code : List InstructionTree) → Accepted c.function c.places → length (epilogue c) ≤ epilogue_words (ends_from is_return code) → (code ≡ [] → length (epilogue c) ≡ 0) → sum_by item_words (body_items c labels k code) ≤ sum_by (instruction_words c.function) code
-body_words c labels k is_return [] accepted room none =
+body_words : (c : Context) (labels : Labels) (k : ℕ) (is_return : Bool) (code : List InstructionTree) → IsCounted c → length (epilogue c) ≤ epilogue_words (ends_from is_return code) → (code ≡ [] → length (epilogue c) ≡ 0) → sum_by item_words (body_items c labels k code) ≤ sum_by (instruction_words c.function) code
+body_words c labels k is_return [] counts room none =
     let e = sum_by-cons item_words (items.Label (labels.instruction k)) (plain (epilogue c)) in
     let f = plain_sum (epilogue c) in
     let z = none refl in
     omega (arith, e, f, z)
-body_words c labels k is_return (i ∷ []) accepted room none =
-    let most = last_words c labels i accepted room in
+body_words c labels k is_return (i ∷ []) counts room none =
+    let most = last_words c labels i counts room in
     let e = sum_by-cons item_words (items.Label (labels.instruction k)) (last_items c labels i (returned i) ++ (items.Label (labels.instruction (k + 1)) ∷ plain (epilogue c))) in
     let f = sum_by-append item_words (last_items c labels i (returned i)) (items.Label (labels.instruction (k + 1)) ∷ plain (epilogue c)) in
     let g = sum_by-cons item_words (items.Label (labels.instruction (k + 1))) (plain (epilogue c)) in
     let j = plain_sum (epilogue c) in
     let all = sum_by-cons (instruction_words c.function) i [] in
     omega (arith, most, e, f, g, j, all)
-body_words c labels k is_return (i ∷ d ∷ code) accepted room none =
+body_words c labels k is_return (i ∷ d ∷ code) counts room none =
     let rest = body_items c labels (k + 1) (d ∷ code) in
     omega (
       arith,
       sum_by-cons item_words (items.Label (labels.instruction k)) (instruction_items c labels i ++ rest),
       sum_by-append item_words (instruction_items c labels i) rest,
       sum_by-cons (instruction_words c.function) i (d ∷ code),
-      (instruction_long c labels accepted i).most,
-      body_words c labels (k + 1) (is_some (returned i)) (d ∷ code) accepted room (λ e. cc),
+      (instruction_long c labels counts i).most,
+      body_words c labels (k + 1) (is_some (returned i)) (d ∷ code) counts room (λ e. cc),
     )
 
-pub functions_keep_words : (c : Context) (labels : Labels) (f : ℕ) → Accepted c.function c.places → sum_by item_words (function_items c labels f) ≤ words c.function
-functions_keep_words c labels f accepted =
+pub functions_keep_words : (c : Context) (labels : Labels) (f : ℕ) → Accepted c.function c.places → PassesFew c.function → sum_by item_words (function_items c labels f) ≤ words c.function
+functions_keep_words c labels f accepted passes =
     omega (
       arith,
       sum_by-cons item_words (items.Label (labels.function f)) (plain (enter c) ++ body_items c labels 0 c.function.code),
       sum_by-append item_words (plain (enter c)) (body_items c labels 0 c.function.code),
       plain_sum (enter c),
-      (enter_long c accepted).most,
-      body_words c labels 0 false c.function.code accepted (room (has_one_epilogue c.function)) none,
+      (enter_long c counts).most,
+      body_words c labels 0 false c.function.code counts (room (has_one_epilogue c.function)) none,
     )
   where
+    counts : IsCounted c
+    counts = record { accepted = accepted; passes = passes }
+
     room : (b : Bool) → length (if b then leave c else []) ≤ (if b then leave_words else 0)
-    room true = (leave_long c accepted).most
+    room true = (leave_long c counts).most
     room false = omega arith
 
     none : c.function.code ≡ [] → length (epilogue c) ≡ 0
     none e = ap (λ (code : List InstructionTree). length (if ends_from false code then leave c else [])) e
 
 module _ (u : TacUnitTree) (ps : List PlacesTree) (data_at : ℕ → ℕ) where
-  -- the places of these functions, the first of which has this number
-  abbrev AreAcceptedFrom : (f : ℕ) → List TacFunctionTree → Type 0
-  AreAcceptedFrom f [] = Unit {0}
-  AreAcceptedFrom f (g ∷ functions) = Accepted g (slice_index_or ps f no_places) × AreAcceptedFrom (f + 1) functions
+  -- the places of a function with this number are accepted, and its calls pass few words
+  abbrev Counts : (f : ℕ) → TacFunctionTree → Type 0
+  Counts f g = Accepted g (slice_index_or ps f no_places) × PassesFew g
 
-  functions_words : (f : ℕ) (functions : List TacFunctionTree) → AreAcceptedFrom f functions → sum_by item_words (functions_items u ps data_at f functions) ≤ sum_by words functions
-  functions_words f [] accepted = omega arith
-  functions_words f (g ∷ functions) accepted =
+  -- of these functions, the first of which has this number
+  abbrev CountFrom : (f : ℕ) → List TacFunctionTree → Type 0
+  CountFrom f [] = Unit {0}
+  CountFrom f (g ∷ functions) = Counts f g × CountFrom (f + 1) functions
+
+  functions_words : (f : ℕ) (functions : List TacFunctionTree) → CountFrom f functions → sum_by item_words (functions_items u ps data_at f functions) ≤ sum_by words functions
+  functions_words f [] count = omega arith
+  functions_words f (g ∷ functions) count =
       let c : Context = record { function = g; places = slice_index_or ps f no_places; data_at = data_at } in
       omega (
         arith,
         sum_by-append item_words (function_items c (labels_of u f) f) (functions_items u ps data_at (f + 1) functions),
         sum_by-cons words g functions,
-        functions_keep_words c (labels_of u f) f accepted.0,
-        functions_words (f + 1) functions accepted.1,
+        functions_keep_words c (labels_of u f) f count.0.0 count.0.1,
+        functions_words (f + 1) functions count.1,
       )
 
-  accepted_from :
-      (f : ℕ) (functions : List TacFunctionTree)
-      → ((k : ℕ) (g : TacFunctionTree) → slice_get functions k ≡ Some g → Accepted g (slice_index_or ps (f + k) no_places))
-      → AreAcceptedFrom f functions
-  accepted_from f [] h = tt
-  accepted_from f (g ∷ functions) h =
+  counts_from : (f : ℕ) (functions : List TacFunctionTree) → ((k : ℕ) (g : TacFunctionTree) → slice_get functions k ≡ Some g → Counts (f + k) g) → CountFrom f functions
+  counts_from f [] h = tt
+  counts_from f (g ∷ functions) h =
       let first : f + 0 ≡ f = omega arith in (
-        subst (λ (n : ℕ). Accepted g (slice_index_or ps n no_places)) first (h 0 g refl),
-        accepted_from (f + 1) functions
-            (λ k i e. let next : f + suc k ≡ f + 1 + k = omega arith in subst (λ (n : ℕ). Accepted i (slice_index_or ps n no_places)) next (h (suc k) i e)),
+        subst (λ (n : ℕ). Counts n g) first (h 0 g refl),
+        counts_from (f + 1) functions
+            (λ k i e. let next : f + suc k ≡ f + 1 + k = omega arith in subst (λ (n : ℕ). Counts n i) next (h (suc k) i e)),
       )
 
-  all_accepted : AreAccepted u ps → AreAcceptedFrom 0 u.functions
-  all_accepted h = accepted_from 0 u.functions (λ k g e. let same : k ≡ 0 + k = omega arith in subst (λ (n : ℕ). Accepted g (slice_index_or ps n no_places)) same (h k g e))
+  all_count : AreAccepted u ps → AllPassFew u → CountFrom 0 u.functions
+  all_count h few = counts_from 0 u.functions (λ k g e. let same : k ≡ 0 + k = omega arith in subst (λ (n : ℕ). Counts n g) same (h k g e, few k g e))
 
-  pub units_keep_words : AreAccepted u ps → UnitKeepsWords u ps data_at
-  units_keep_words h = record {
+  pub units_keep_words : AreAccepted u ps → AllPassFew u → UnitKeepsWords u ps data_at
+  units_keep_words h passes = record {
     items = few;
     laid = λ at place from to l. let t = (takes_words at place from (unit_items u ps data_at) to l).most in omega (arith, t, few);
   }
@@ -721,5 +769,5 @@ module _ (u : TacUnitTree) (ps : List PlacesTree) (data_at : ℕ → ℕ) where
             sum_by-append item_words (start_items u) (functions_items u ps data_at 0 u.functions),
             sum_by-cons item_words (items.Jump ra (first_label u.functions u.main)) (plain (environment exit_call)),
             plain_sum (environment exit_call),
-            functions_words 0 u.functions (all_accepted h),
+            functions_words 0 u.functions (all_count h passes),
           )

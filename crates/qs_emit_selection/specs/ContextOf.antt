@@ -4,7 +4,6 @@ use Rattle.qs_memory.specs.Memory.{BlankTree}
 use Rattle.qs_memory.specs.declared.operation.Direction.{Direction}
 use Rattle.qs_calls.specs.declared.callee.Callee.{Callee}
 use Rattle.qs_calls.specs.declared.parameter.Parameter.{Parameter}
-use Rattle.qs_isa.specs.Registers.{a0}
 use Rattle.qs_isa.specs.declared.instruction.Instr.{Instr}
 use Rattle.qs_asm.specs.declared.item.Item.{Item}
 use Rattle.qs_tac.specs.Trees.{InstructionTree, copy, fill, call}
@@ -18,7 +17,8 @@ use Rattle.qs_emit_selection.specs.declared.context.FunctionContext.{FunctionCon
 use Rattle.qs_emit_selection.specs.Data.{data_address}
 use Rattle.qs_emit_selection.specs.Operands.{Context, Anchor, behind_pointer, based, anchor_of}
 use Rattle.qs_emit_selection.specs.Operations.{moved, constant_of}
-use Rattle.qs_emit_selection.specs.Emission.{Labels, labels_of, take_parameter, take_parameters}
+use Rattle.qs_emit_selection.specs.Emission.{Labels, labels_of, take_from_register, take_from_stack, take_parameter, take_parameters}
+use Rattle.qs_emit_selection.specs.Emission.{stack_argument, register_argument}
 use Rattle.qs_emit_selection.specs.Emission.{instruction_items, items_at, body_items, function_items}
 
 abbrev pub context_tree : FunctionContext → Context
@@ -47,11 +47,25 @@ moved_code c direction element rd x y = moved (context_tree c) direction element
 
 -- ---- parameters
 
-abbrev pub parameter_code : FunctionContext → (register : ℕ) → Parameter → List Instr
-parameter_code c register p = take_parameter (context_tree c) register p
+abbrev pub from_register : FunctionContext → (register : ℕ) → Parameter → List Instr
+from_register c register p = take_from_register (context_tree c) register p
+
+abbrev pub from_stack : FunctionContext → (offset : ℕ) → Parameter → List Instr
+from_stack c offset p = take_from_stack (context_tree c) offset p
+
+abbrev pub parameter_code : FunctionContext → (i : ℕ) → Parameter → List Instr
+parameter_code c i p = take_parameter (context_tree c) i p
 
 abbrev pub parameters_code : FunctionContext → List Parameter → List Instr
-parameters_code c parameters = take_parameters (context_tree c) a0 parameters
+parameters_code c parameters = take_parameters (context_tree c) 0 parameters
+
+-- ---- arguments
+
+abbrev pub on_stack : FunctionContext → (i : ℕ) → Operand → List Instr
+on_stack c i o = stack_argument (context_tree c) i o
+
+abbrev pub in_register : FunctionContext → (i : ℕ) → Operand → List Instr
+in_register c i o = register_argument (context_tree c) i o
 
 -- ---- instructions
 

@@ -1,6 +1,7 @@
 -- What each instruction of linear code becomes.
-use Rattle.std.specs.Prelude.{ℕ, zero, suc, ◌+◌, ◌*◌, ◌-◌, ◌/◌, ◌%◌, ◌^◌, ◌==◌, ◌&&◌, Bool, true, false, if◌then◌else◌}
+use Rattle.std.specs.Prelude.{ℕ, zero, suc, ◌+◌, ◌*◌, ◌-◌, ◌/◌, ◌%◌, ◌^◌, ◌==◌, ◌&&◌, nat_lt, Bool, true, false, if◌then◌else◌}
 use Rattle.std.specs.Prelude.{List, [], ◌∷◌, ◌++◌, length, Option, Some, None, is_some, slice_index_or}
+use Rattle.qs_base.specs.Parameters.{most_register_arguments, stack_arguments}
 use Rattle.qs_memory.specs.Sizes.{blank_size}
 use Rattle.qs_memory.specs.declared.operation.Signedness.{Signedness}
 use Rattle.qs_memory.specs.declared.operation.Signedness.TheVariants.{Signed, Unsigned}
@@ -26,10 +27,10 @@ use Rattle.qs_tac.specs.Places.{PlacesTree, place_of, no_places}
 use Rattle.qs_tac.specs.declared.operands.Operand.{Operand}
 use Rattle.qs_tac.specs.declared.operands.Condition.{Condition}
 use Rattle.qs_tac.specs.declared.operands.Condition.TheVariants.{NotZero, Zero, Compare, ComparePointers}
-use Rattle.qs_frames.specs.Layout.{register_at}
+use Rattle.qs_frames.specs.Layout.{argument_at, register_at}
 use Rattle.qs_emit_selection.specs.Pieces as pieces
 use Rattle.qs_emit_selection.specs.Pieces.{addi, jalr, load_kind, store_kind}
-use Rattle.qs_emit_selection.specs.Pieces.{store_to, move_stack, copy_loop, fill_loop, zero_bytes}
+use Rattle.qs_emit_selection.specs.Pieces.{load_from, store_to, move_stack, copy_loop, fill_loop, zero_bytes}
 use Rattle.qs_emit_selection.specs.Operands.{Context, frame_of, stored, local_offset, into, operand_code, operand_register}
 use Rattle.qs_emit_selection.specs.Operands.{result_register, put, result_code, move_to, anchor_of, address_into, is_word_address}
 use Rattle.qs_emit_selection.specs.Operations as operations
@@ -57,30 +58,46 @@ fill_code false size = unless_none size (fill_loop Sb 1 size)
 
 -- ---- entry and return
 
--- registers, one after the other into their words of the frame, and back in the other order
-abbrev pub save : List ℕ → (i : ℕ) → List Instr
-save [] i = []
-save (r ∷ registers) i = pieces.store Sw r sp (register_at i) ∷ save registers (i + 1)
+-- registers, one after the other into their words of the frame, and back in the other order; the words lie behind so many
+-- bytes of arguments
+abbrev pub save : (outgoing : ℕ) → List ℕ → (i : ℕ) → List Instr
+save outgoing [] i = []
+save outgoing (r ∷ registers) i = pieces.store Sw r sp (register_at outgoing i) ∷ save outgoing registers (i + 1)
 
-abbrev pub restore : List ℕ → (i : ℕ) → List Instr
-restore [] i = []
-restore (r ∷ registers) i = restore registers (i + 1) ++ pieces.load Lw r sp (register_at i) ∷ []
+abbrev pub restore : (outgoing : ℕ) → List ℕ → (i : ℕ) → List Instr
+restore outgoing [] i = []
+restore outgoing (r ∷ registers) i =
+    restore outgoing registers (i + 1) ++ pieces.load Lw r sp (register_at outgoing i) ∷ []
 
 -- a parameter, from the register in which its argument is passed
-abbrev pub take_parameter : Context → (register : ℕ) → Parameter → List Instr
-take_parameter c register (Plain x) = put c register x
-take_parameter c register (Placed i s) = store_to (store_kind s) register (local_offset c i)
+abbrev pub take_from_register : Context → (register : ℕ) → Parameter → List Instr
+take_from_register c register (Plain x) = put c register x
+take_from_register c register (Placed i s) = store_to (store_kind s) register (local_offset c i)
 
-abbrev pub take_parameters : Context → (register : ℕ) → List Parameter → List Instr
-take_parameters c register [] = []
-take_parameters c register (p ∷ parameters) = take_parameter c register p ++ take_parameters c (register + 1) parameters
+-- or from the word in which it is passed, at an offset behind x2
+abbrev pub take_from_stack : Context → (offset : ℕ) → Parameter → List Instr
+take_from_stack c offset (Plain x) = load_from Lw (result_register c x) offset ++ result_code c x
+take_from_stack c offset (Placed i s) = load_from Lw a0 offset ++ store_to (store_kind s) a0 (local_offset c i)
+
+-- The first eight arguments are passed in a0 to a7, and each further one in a word of the caller's frame, which lies behind
+-- the function's own: the ninth in the first word of it (RISC-V ELF psABI, "Integer Calling Convention").
+abbrev pub take_parameter : Context → (i : ℕ) → Parameter → List Instr
+take_parameter c i p =
+    if nat_lt i most_register_arguments then take_from_register c (a0 + i) p
+    else take_from_stack c ((frame_of c).cost + argument_at (stack_arguments i)) p
+
+abbrev pub take_parameters : Context → (i : ℕ) → List Parameter → List Instr
+take_parameters c i [] = []
+take_parameters c i (p ∷ parameters) = take_parameter c i p ++ take_parameters c (i + 1) parameters
 
 abbrev pub enter : Context → List Instr
 enter c =
-    move_stack (2 ^ 32 - (frame_of c).cost) ++ (save (stored c) 0 ++ take_parameters c a0 c.function.parameters)
+    move_stack (2 ^ 32 - (frame_of c).cost)
+    ++ (save (frame_of c).outgoing (stored c) 0 ++ take_parameters c 0 c.function.parameters)
 
 abbrev pub leave : Context → List Instr
-leave c = restore (stored c) 0 ++ (move_stack (frame_of c).cost ++ jalr x0 ra 0 ∷ [])
+leave c =
+    restore (frame_of c).outgoing (stored c) 0 ++ (move_stack (frame_of c).cost ++ jalr x0 ra 0 ∷ [])
 
 -- the result of a function into a0
 abbrev pub result_into : Context → Option Operand → List Instr
@@ -89,10 +106,27 @@ result_into c (Some o) = into c a0 o
 
 -- ---- calls
 
--- arguments into a0 to a7
-abbrev pub pass : Context → (register : ℕ) → List Operand → List Instr
-pass c register [] = []
-pass c register (o ∷ operands) = into c register o ++ pass c (register + 1) operands
+-- an argument that is passed on the stack, into its word of the frame, by way of a0 where it stands in no register
+abbrev pub stack_argument : Context → (i : ℕ) → Operand → List Instr
+stack_argument c i o =
+    if nat_lt i most_register_arguments then []
+    else operand_code c a0 o ++ pieces.store Sw (operand_register c a0 o) sp (argument_at (stack_arguments i)) ∷ []
+
+-- and one of the first eight, into its register
+abbrev pub register_argument : Context → (i : ℕ) → Operand → List Instr
+register_argument c i o = if nat_lt i most_register_arguments then into c (a0 + i) o else []
+
+abbrev pub pass_on_stack : Context → (i : ℕ) → List Operand → List Instr
+pass_on_stack c i [] = []
+pass_on_stack c i (o ∷ operands) = stack_argument c i o ++ pass_on_stack c (i + 1) operands
+
+abbrev pub pass_in_registers : Context → (i : ℕ) → List Operand → List Instr
+pass_in_registers c i [] = []
+pass_in_registers c i (o ∷ operands) = register_argument c i o ++ pass_in_registers c (i + 1) operands
+
+-- those on the stack first, while a0 holds no argument yet
+abbrev pub pass : Context → List Operand → List Instr
+pass c operands = pass_on_stack c 0 operands ++ pass_in_registers c 0 operands
 
 abbrev pub take_result : Context → Option ℕ → List Instr
 take_result c None = []
@@ -201,7 +235,7 @@ instruction_items c labels (copy size alignment p q) =
     plain (address_into c a5 p ++ (address_into c a6 q ++ copy_code size alignment))
 instruction_items c labels (fill blank p) = plain (address_into c a5 p ++ fill_code (is_word_address p) (blank_size blank))
 instruction_items c labels (call x f arguments) =
-    plain (pass c a0 arguments) ++ (goes_to labels f ++ plain (take_result c x))
+    plain (pass c arguments) ++ (goes_to labels f ++ plain (take_result c x))
 instruction_items c labels (jump to) = items.Jump x0 (labels.instruction to) ∷ []
 instruction_items c labels (branch condition to) = branch_items c condition (labels.instruction to)
 instruction_items c labels (return o) = plain (result_into c o) ++ go_out c labels

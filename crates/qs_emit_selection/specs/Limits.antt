@@ -1,8 +1,8 @@
 -- What machine code is selected for, and the first reason why it isn't.
-use Rattle.std.specs.Prelude.{◌≡◌, ℕ, ◌+◌, ◌&&◌, nat_lt, nat_le, Bool, true, if◌then◌else◌, List, [], ◌∷◌, length, Option, Some, None, slice_index_or}
+use Rattle.std.specs.Prelude.{◌≡◌, ℕ, ◌+◌, ◌&&◌, nat_lt, nat_le, Bool, true, if◌then◌else◌, List, [], ◌∷◌, length, Option, Some, None, slice_get, slice_index_or}
 use Rattle.std.specs.List.{list_all}
 use Rattle.std.specs.Option.{option_or}
-use Rattle.qs_base.specs.Parameters.{most_parameters}
+use Rattle.qs_base.specs.Parameters.{most_main_parameters, most_parameters}
 use Rattle.qs_tac.specs.Trees.{InstructionTree, move, unary, binary, convert, address_of, load, store}
 use Rattle.qs_tac.specs.Trees.{copy, fill, call, jump, branch, return, TacFunctionTree, TacUnitTree}
 use Rattle.qs_tac.specs.Places.{PlacesTree, no_places}
@@ -13,7 +13,7 @@ use Rattle.qs_emit_selection.specs.Data.{data_sizes}
 use Rattle.qs_emit_selection.specs.declared.fault.SelectionFault.{SelectionFault}
 use Rattle.qs_emit_selection.specs.declared.fault.SelectionFault.TheVariants as faults
 
--- ---- parameters and arguments: registers pass them all
+-- ---- parameters and arguments: a call passes as many as a function has, at most
 
 abbrev pub most_arguments : ℕ
 most_arguments = most_parameters
@@ -35,6 +35,14 @@ passes_few (return o) = true
 
 abbrev pub has_few : TacFunctionTree → Bool
 has_few f = nat_le (length f.parameters) most_arguments && list_all passes_few f.code
+
+-- main is given its arguments in registers, as a run starts
+abbrev pub starts_with_few : Option TacFunctionTree → Bool
+starts_with_few None = true
+starts_with_few (Some f) = nat_le (length f.parameters) most_main_parameters
+
+abbrev pub main_has_few : TacUnitTree → Bool
+main_has_few u = starts_with_few (slice_get u.functions u.main)
 
 -- ---- places: a register is one of 32
 
@@ -78,7 +86,9 @@ functions_fault ps f (g ∷ functions) =
 
 abbrev pub first_fault : TacUnitTree → List PlacesTree → Option SelectionFault
 first_fault u ps =
-    if data_fit u then functions_fault ps 0 u.functions else Some faults.DataTooLarge
+    if data_fit u then
+    (if main_has_few u then functions_fault ps 0 u.functions else Some faults.TooManyArguments)
+    else Some faults.DataTooLarge
 
 -- all functions of the unit fit
 abbrev pub FunctionsFit : TacUnitTree → List PlacesTree → Type 0

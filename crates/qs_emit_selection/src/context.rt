@@ -6,7 +6,7 @@ ghost use Rattle.qs_frames.specs.Layout.{layout, slot_at, block_offset, stored_r
 ghost use Rattle.qs_frames.specs.Starts.{BeginAt};
 ghost use Rattle.qs_emit_selection.specs.Data.{data_address};
 ghost use Rattle.qs_emit_selection.specs.Emission.{first_label, has_one_epilogue};
-ghost use Rattle.qs_emit_selection.specs.Limits.{places_fit};
+ghost use Rattle.qs_emit_selection.specs.Limits.{FunctionFits, places_fit};
 
 use qs_frames::{Frame, Starts};
 use qs_tac::{Places, TacFunction, TacUnit};
@@ -37,6 +37,7 @@ pub struct FunctionContext<'a> {
     pub number: u32,
     /// the first label of each function of the unit
     pub labels: &'a Starts,
+    ghost fits: { FunctionFits (function_tree function.now) (places_tree places.now) },
     ghost placed: { places_fit (places_tree places.now) ≡ true },
     ghost framed: { frame ≡ layout (function_tree function.now) (places_tree places.now) },
     ghost slotted: { BeginAt slots.now (slot_at (function_tree function.now) (places_tree places.now)) },

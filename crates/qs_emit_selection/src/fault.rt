@@ -9,8 +9,9 @@ pub enum SelectionFault {
     /// No memory was found.
     #[error("out of memory")]
     NoMemory,
-    /// A function has, or a call passes, more than the eight values that registers hold.
-    #[error("more than 8 arguments")]
+    /// A function has more than sixteen parameters, main more than eight, or a call more than
+    /// sixteen arguments.
+    #[error("too many arguments")]
     TooManyArguments,
     /// A place is in a register from 32 on.
     #[error("a place is no register")]

@@ -3,6 +3,7 @@
 #![tactic(auto)]
 
 mod addresses;
+mod arguments;
 mod branches;
 mod calls;
 mod context;

@@ -9,12 +9,15 @@ ghost use Rattle.qs_emit_selection.specs.Limits as spec;
 ghost use Rattle.qs_emit_selection.specs.Limits.{functions_fault};
 
 use crate::fault::SelectionFault;
-use qs_base::MOST_PARAMETERS;
+use qs_base::{MOST_MAIN_PARAMETERS, MOST_PARAMETERS};
 use qs_frames::{total_within, try_layout};
 use qs_tac::{Instruction, Place, Places, TacFunction, TacUnit};
 
-// As many as registers pass.
+// As many as a function has parameters.
 const MOST_ARGUMENTS: usize = MOST_PARAMETERS as usize;
+
+// main's, which are in registers as a run starts.
+const MOST_MAIN_ARGUMENTS: usize = MOST_MAIN_PARAMETERS as usize;
 
 // As many as an image holds: `MOST_DATA_BYTES` of qs_image, on which nothing here stands.
 const LARGEST_DATA: u32 = 16_777_216;
@@ -54,6 +57,15 @@ fn has_few(f: &TacFunction) -> bool
     ensures { result ≡ spec.has_few (function_tree f.now) }
 {
     f.parameters.len() <= MOST_ARGUMENTS && all_pass_few(&f.code)
+}
+
+fn main_has_few(unit: &TacUnit) -> bool
+    ensures { result ≡ spec.main_has_few (unit_tree unit.now) }
+{
+    match unit.functions.get(unit.main.0 as usize) {
+        None => true,
+        Some(f) => f.parameters.len() <= MOST_MAIN_ARGUMENTS,
+    }
 }
 
 fn place_fits(place: Place) -> bool
@@ -139,9 +151,11 @@ pub fn first_fault(
     requires sizes { sizes.now ≡ unit_data.data_sizes (unit_tree unit.now).data_blocks }
     ensures { result ≡ spec.first_fault (unit_tree unit.now) (places_trees places.now) }
 {
-    if data_fit(sizes) {
-        functions_fault(&unit.functions, places, none)
-    } else {
+    if !data_fit(sizes) {
         Some(SelectionFault::DataTooLarge)
+    } else if !main_has_few(unit) {
+        Some(SelectionFault::TooManyArguments)
+    } else {
+        functions_fault(&unit.functions, places, none)
     }
 }

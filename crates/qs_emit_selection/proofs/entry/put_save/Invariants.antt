@@ -5,4 +5,5 @@ use Rattle.qs_emit_selection.proofs.entry.put_save.Given as goal
 
 abbrev pub invariant-loop-i : goal.invariant-loop-i
 invariant-loop-i l =
-    l.items.items ++ plain (save (drop l.i l.registers) l.i) ≡ l.initial.items.items ++ plain (save l.registers 0)
+    l.items.items ++ plain (save l.fn.outgoing (drop l.i l.registers) l.i)
+    ≡ l.initial.items.items ++ plain (save l.fn.outgoing l.registers 0)

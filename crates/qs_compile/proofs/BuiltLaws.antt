@@ -1,33 +1,29 @@
 -- What is put together from a unit's parts is its image.
-use Rattle.std.proofs.Common.{◌≡◌, inl, inr, ℕ, ◌/◌, ◌%◌, ◌^◌, ◌<◌, ◌≤◌, true, List, length, Option, refl, sym, ap, ◌∙◌, subst, arith}
+use Rattle.std.proofs.Common.{◌≡◌, inl, inr, ℕ, ◌/◌, ◌%◌, ◌^◌, ◌<◌, ◌≤◌, true, List, length, refl, sym, ap, ◌∙◌, subst, arith}
 use Rattle.std.specs.Prelude.{◌==◌, sum_by}
-use Rattle.std.specs.Option.{option_map}
 use Rattle.std.proofs.lemmas.List.{length-map}
 use Rattle.qs_memory.specs.declared.scalar.Scalar.{Scalar}
 use Rattle.qs_asm.specs.declared.item.Item.{Item}
 use Rattle.qs_asm.specs.Items.{item_words}
 use Rattle.qs_asm.specs.Counting.{reached_words}
-use Rattle.qs_core.specs.Trees.{CoreFunctionTree, CoreParameterTree, CoreUnitTree}
+use Rattle.qs_core.specs.Trees.{CoreFunctionTree, CoreUnitTree}
 use Rattle.qs_core.specs.Units.{initial_memory}
 use Rattle.qs_core.specs.Fits.{unit_fits}
-use Rattle.qs_core.specs.Interfaces.{types_of_main, main_types}
-use Rattle.qs_core.proofs.FitLaws.{function_at_fits}
+use Rattle.qs_core.specs.Interfaces.{main_types}
 use Rattle.qs_isa.specs.Addresses.{code_start}
 use Rattle.qs_image.specs.Image.{Image, FunctionRecord, IsWellFormed}
-use Rattle.qs_tac.specs.Trees.{TacFunctionTree, TacUnitTree}
+use Rattle.qs_image.specs.declared.version.Version.TheVariants.{Second}
+use Rattle.qs_tac.specs.Trees.{TacUnitTree}
 use Rattle.qs_tac.specs.Places.{PlacesTree}
-use Rattle.qs_lower_expressions.specs.Threads.{threaded_function}
-use Rattle.qs_lower.specs.Units.{straight_function}
-use Rattle.qs_lower.proofs.UnitFits.{types_count, function_there}
 use Rattle.qs_emit_selection.specs.Limits.{first_fault}
 use Rattle.qs_emit_selection.specs.Data.{data_address}
 use Rattle.qs_emit_selection.specs.Units.{selected, IsFault}
-use Rattle.qs_emit.specs.Relation.{data_end, function_at}
+use Rattle.qs_emit.specs.Relation.{data_end}
 use Rattle.qs_emit.specs.Images.{IsWithinLimits}
 use Rattle.qs_emit.proofs.DataBytes.{data_length}
-use Rattle.qs_emit.proofs.EmissionLaws.{data_fits, data_few}
+use Rattle.qs_emit.proofs.EmissionLaws.{data_fits, data_few, selected_is_emittable}
 use Rattle.qs_tac.specs.Laws.{ArePacked}
-use Rattle.qs_compile.specs.Units.{linear, set_of, IsWithinSizes, MainReturns}
+use Rattle.qs_compile.specs.Units.{linear, most_main_parameters, set_of, IsWithinSizes, MainReturns}
 use Rattle.qs_compile.specs.Built.{IsBuiltFrom}
 use Rattle.qs_compile.specs.AgreesWithCore.{DoesAsCore}
 use Rattle.qs_compile.specs.Parts.{AreParts, ArePartsOf}
@@ -39,35 +35,20 @@ use Rattle.qs_emit_selection.specs.declared.fault.SelectionFault.TheVariants as 
 use Rattle.qs_compile.specs.declared.fault.BuildFault.{BuildFault}
 use Rattle.qs_compile.specs.declared.fault.BuildFault.TheVariants.{NoMemory, TooManyFunctions, NamesTooLong, TooManyParameters, FrameTooLarge, DataTooLarge, CodeTooLong}
 use Rattle.qs_compile.proofs.UnsignedLaws.{set_holds, set_small}
-use Rattle.qs_compile.proofs.FitLaws.{IsMain, is_main, function_found, first_memory, accepted_of, emittable}
+use Rattle.qs_compile.proofs.FitLaws.{linear_fits, main_count, first_memory, accepted_of}
 use Rattle.qs_compile.proofs.SizeLaws.{function_count, few_parameters, small_frame}
 use Rattle.qs_compile.proofs.WellFormed.{well_formed}
 use Rattle.qs_compile.proofs.DoesAsCore.{images_do_as_core}
 
 -- ---- main
 
-module _ (u : CoreUnitTree) (fits : unit_fits u ≡ true) where
-  main : IsMain u
-  main = is_main u fits
-
-  main_linear : function_at (linear u) u.main ≡ threaded_function (straight_function main.function)
-  main_linear =
-      function_found (linear u).functions u.main (threaded_function (straight_function main.function))
-      (function_there u fits u.main ∙ ap (option_map (λ (g : CoreFunctionTree). threaded_function (straight_function g))) main.is)
-
-  main_count : length (main_types u) ≡ length (function_at (linear u) u.main).parameters
-  main_count =
-      ap (λ (o : Option CoreFunctionTree). length (types_of_main o)) main.is
-      ∙ types_count main.function.blocks 0 main.function.parameters main.function.variables (function_at_fits u fits u.main main.function main.is).parameters
-      ∙ sym (length-map main.function.parameters (λ (p : CoreParameterTree). p.place))
-      ∙ ap (λ (g : TacFunctionTree). length g.parameters) (sym main_linear)
-
-  pub main_few : (functions : List FunctionRecord) (code bytes : List ℕ) → ArePartsOf u functions code bytes → length (main_types u) ≤ 8
-  main_few functions code bytes p =
-      let count = main_count in
-      let emitted = emittable u fits (few_parameters u p.places p.parts.free) p.places (accepted_of (linear u) p.places p.packed) (small_frame u p.places p.parts.free) in
-      let few = emitted.parameters u.main in
-      omega (arith, count, few)
+-- places with which code is selected
+pub main_few : (u : CoreUnitTree) (fits : unit_fits u ≡ true) (functions : List FunctionRecord) (code bytes : List ℕ) → ArePartsOf u functions code bytes → length (main_types u) ≤ most_main_parameters
+main_few u fits functions code bytes p =
+    let count = main_count u fits in
+    let emitted = selected_is_emittable (linear u) p.places p.parts.free (linear_fits u fits) (accepted_of (linear u) p.places p.packed) in
+    let few = emitted.main_parameters in
+    omega (arith, count, few)
 
 -- ---- the image
 
@@ -83,6 +64,7 @@ parts_of u t ps functions code bytes is packed m = record {
 
 pub record IsMade (u : CoreUnitTree) (image : Image) : Type 0 where
   pub fits : unit_fits u ≡ true
+  pub version : image.version ≡ Second
   pub parts : ArePartsOf u image.functions image.code image.bytes
   pub entry : image.entry ≡ code_start
   pub parameters : image.parameters ≡ length (main_types u)
@@ -91,9 +73,10 @@ pub record IsMade (u : CoreUnitTree) (image : Image) : Type 0 where
 pub image_made :
     (u : CoreUnitTree) (functions : List FunctionRecord) (code bytes : List ℕ) (types : List Scalar) (count set : ℕ) → unit_fits u ≡ true
     → ArePartsOf u functions code bytes → types ≡ main_types u → count ≡ length types → set ≡ set_of types
-    → IsMade u (record { entry = code_start; parameters = count; unsigned_set = set; functions = functions; code = code; bytes = bytes })
+    → IsMade u (record { version = Second; entry = code_start; parameters = count; unsigned_set = set; functions = functions; code = code; bytes = bytes })
 image_made u functions code bytes types count set fits parts is long holds = record {
   fits = fits;
+  version = refl;
   parts = parts;
   entry = refl;
   parameters = long ∙ ap length is;
@@ -106,7 +89,9 @@ module _ (u : CoreUnitTree) (image : Image) (m : IsMade u image) where
     places = m.parts.places;
     packed = m.parts.packed;
     fits = m.parts.parts.free;
+    version = m.version;
     names = m.parts.parts.records.names;
+    counts = m.parts.parts.records.counts;
     parameters = m.parameters;
     unsigned = λ i. ap (λ (n : ℕ). n / 2 ^ i % 2 == 1) m.unsigned ∙ set_holds (main_types u) i;
     code = record {
@@ -134,6 +119,7 @@ module _ (u : CoreUnitTree) (image : Image) (m : IsMade u image) where
   pub sizes : IsWithinSizes u image
   sizes = record {
     parameters = few_parameters u m.parts.places m.parts.parts.free;
+    main_parameters = main_few u m.fits image.functions image.code image.bytes m.parts;
     frames = λ f lt.
         let count = function_count u in
         let cost = m.parts.parts.records.costs f (omega (arith, lt, count)) in

@@ -1,5 +1,5 @@
 -- An image that is built from the core of a source does what the source does.
-use Rattle.std.proofs.Common.{◌≡◌, ℕ, zero, suc, ◌<◌, ◌≤◌, ℤ, true, List, [], ◌∷◌, length, map, Some, refl, sym, ap, ◌∙◌, subst, arith}
+use Rattle.std.proofs.Common.{◌≡◌, ℕ, zero, suc, ◌+◌, ◌*◌, ◌<◌, ◌≤◌, ℤ, true, List, [], ◌∷◌, length, map, Some, refl, sym, ap, ◌∙◌, subst, arith}
 use Rattle.std.specs.Prelude.{slice_index_or}
 use Rattle.std.specs.List.{slice_get}
 use Rattle.std.proofs.Math.Path.{fun_ext}
@@ -10,31 +10,41 @@ use Rattle.qs_events.specs.Runs.{bounded}
 use Rattle.qs_events.specs.Weights.{Costs, run_weight}
 use Rattle.qs_calls.specs.World.{RootRun, status_of}
 use Rattle.qs_syntax.specs.Trees.{UnitTree}
+use Rattle.qs_syntax.specs.Nodes.{unit_count}
 use Rattle.qs_syntax.specs.Units.{IsRead}
 use Rattle.qs_types.specs.Limits.{IsWithinLimits}
 use Rattle.qs_types.specs.WellTyped.{WellTyped}
 use Rattle.qs_core.specs.Trees.{CoreFunctionTree, CoreUnitTree}
 use Rattle.qs_core.specs.Units as core
 use Rattle.qs_core.specs.Fits.{unit_fits}
-use Rattle.qs_core.specs.Sizes.{values}
+use Rattle.qs_core.specs.Sizes.{held_in_all, values, most_passed, unit_words}
 use Rattle.qs_meaning.specs.Typed.{TypedProgram}
 use Rattle.qs_meaning.specs.Runs.{main_run, source_run}
 use Rattle.qs_elaborate_laws.specs.FitLaws.{HasCore}
 use Rattle.qs_elaborate_bodies.specs.Units.{core_of}
+use Rattle.qs_meaning.specs.Units.{functions_in}
+use Rattle.qs_asm.proofs.CountingLaws.{assembly_length}
+use Rattle.qs_elaborate_laws.proofs.CountedUnits.{source_words_are_few}
 use Rattle.qs_elaborate_laws.proofs.FitCore.{units_have_cores}
 use Rattle.qs_elaborate_limits.specs.Caps.{caps, needed, frame_size, EachBelow}
 use Rattle.qs_elaborate_limits.specs.Measures.{bytes_in_words}
+use Rattle.qs_elaborate_limits.specs.Laws.{held_limit}
+use Rattle.qs_elaborate_limits.proofs.CoreUnits.{parameters_are_few, held_values_are_few}
 use Rattle.qs_elaborate_limits.proofs.FrameCaps.{caps_are_kept}
 use Rattle.qs_elaborate_limits.proofs.MainReturns.{main_returns}
 use Rattle.qs_tac.specs.Trees.{TacFunctionTree, TacUnitTree}
 use Rattle.qs_tac.specs.Places.{PlacesTree, no_places}
-use Rattle.qs_lower.specs.WordLaws.{lowered_function}
+use Rattle.qs_lower.specs.WordLaws.{lowered_function, IsInReach}
 use Rattle.qs_lower.proofs.UnitWords.{lowered_sizes_are_kept}
-use Rattle.qs_frames.specs.Layout.{total, kept, layout}
+use Rattle.qs_frames.specs.Layout.{total, outgoing_words, kept, layout}
 use Rattle.qs_frames.proofs.FrameLaws.{frames_are_laid_out, no_more_is_kept}
 use Rattle.std.proofs.lemmas.Option.{slice_get_within}
 use Rattle.qs_emit.specs.Relation.{function_at}
-use Rattle.qs_compile.proofs.FitLaws.{function_found, accepted_of}
+use Rattle.qs_emit.specs.Images.{no_record}
+use Rattle.qs_emit_selection.specs.Data.{data_address}
+use Rattle.qs_emit_selection.specs.Units.{selected}
+use Rattle.qs_emit_selection.proofs.Sizes.{units_keep_words}
+use Rattle.qs_compile.proofs.FitLaws.{function_found, accepted_of, all_pass_few}
 use Rattle.qs_image.specs.Image.{Image, FunctionRecord}
 use Rattle.qs_machine.specs.Arguments.{words_of}
 use Rattle.qs_machine.specs.Run.{machine, least_stack_pointer}
@@ -43,12 +53,12 @@ use Rattle.std.proofs.lemmas.List.{length-map}
 use Rattle.qs_typing_findings.specs.TypedOf.{typed_tree}
 use Rattle.qs_typing_findings.specs.declared.typed_unit.TypedUnit.{TypedUnit}
 use Rattle.qs_typing_findings.proofs.TypedLaws.{is_read}
-use Rattle.qs_compile.proofs.SmallUnits.{stands, cost_is, accepted_at}
+use Rattle.qs_compile.proofs.SmallUnits.{all_found, stands, cost_is, accepted_at}
 use Rattle.qs_compile.specs.AgreesWithCore.{values_of, HasStack, DoesAsCore}
 use Rattle.qs_compile.specs.Built.{IsBuiltFrom}
 use Rattle.qs_compile.specs.Units.{linear, MainReturns}
 use Rattle.qs_compile.specs.Compiled.{SourceHasStack, DoesAsSource, AreCostsOfPacked, IsCompiled, IsImageOfSource, BuiltImagesAreCompiled, UnitsPassNoSize}
-use Rattle.qs_compile.proofs.UnitSizes.{words_total, passes_none}
+use Rattle.qs_compile.proofs.UnitSizes.{all_more, words_total, passes_none}
 
 -- ---- cores
 
@@ -116,9 +126,9 @@ needed_in [] i f is = absurd (cc)
 needed_in (g ∷ fs) zero f is = ap needed (some_same g f is)
 needed_in (g ∷ fs) (suc i) f is = needed_in fs i f is
 
-frame_below : (g : TacFunctionTree) (p : PlacesTree) (bytes values : ℕ) → total g.blocks ≡ bytes → kept p ≤ values
-    → (layout g p).cost ≤ frame_size bytes values
-frame_below g p bytes values e le = let bound = (frames_are_laid_out g p).bound in omega (arith, bound, e, le)
+frame_below : (g : TacFunctionTree) (p : PlacesTree) (bytes values passed : ℕ) → total g.blocks ≡ bytes → kept p ≤ values → outgoing_words g ≤ passed
+    → (layout g p).cost ≤ frame_size bytes (values + passed)
+frame_below g p bytes values passed e le few = let bound = (frames_are_laid_out g p).bound in omega (arith, bound, e, le, few)
 
 module _ (unit : UnitTree) (u : CoreUnitTree) (image : Image) (read : IsRead unit) (well : WellTyped unit) (limits : IsWithinLimits unit) (is : core_of unit ≡ Some u) (built : IsBuiltFrom u image) where
   abbrev t : TacUnitTree
@@ -133,7 +143,8 @@ module _ (unit : UnitTree) (u : CoreUnitTree) (image : Image) (read : IsRead uni
       let blocks : total (lowered_function f).blocks ≡ bytes_in_words f.blocks = ap total sizes.blocks ∙ sym (words_total f.blocks) in
       let few = no_more_is_kept (lowered_function f) (slice_index_or built.places i no_places) (accepted_at u fits built.places (accepted_of t built.places built.packed) i f there) in
       let less = sizes.values in
-      frame_below (lowered_function f) (slice_index_or built.places i no_places) (bytes_in_words f.blocks) (values f) blocks (omega (arith, few, less))
+      let passed = sizes.passed in
+      frame_below (lowered_function f) (slice_index_or built.places i no_places) (bytes_in_words f.blocks) (values f) (most_passed f) blocks (omega (arith, few, less)) (omega (arith, passed))
 
   as_many : length (map (λ (r : FunctionRecord). r.cost) image.functions) ≡ length (map needed u.functions)
   as_many =
@@ -152,7 +163,7 @@ module _ (unit : UnitTree) (u : CoreUnitTree) (image : Image) (read : IsRead uni
       let linear_many : length t.functions ≡ length image.functions = sym built.code.count in
       let s = stands u.functions i (omega (arith, less, many, functions)) in
       let in_image : i < length image.functions = omega (arith, less, records) in
-      let cost = cost_in image.functions (record { name = []; address = 0; cost = 0 }) i in_image in
+      let cost = cost_in image.functions no_record i in_image in
       let at = built.code.costs i (omega (arith, in_image, linear_many)) in
       let frame = cost_is u fits built.places i s.function s.is in
       let below = frame_needed i s.function s.is in
@@ -174,6 +185,19 @@ module _ (unit : UnitTree) (u : CoreUnitTree) (image : Image) (read : IsRead uni
         omega (arith, cost, same, bound);
   }
 
+  -- what is held of parts of expressions is in reach, so the words are those that core counts; and these are few
+  code_few : length image.code ≤ 24 * unit_count unit + 32 * length (functions_in unit)
+  code_few =
+      let ps = built.places in
+      let items = selected t ps in
+      let reach = all_more (λ (f : CoreFunctionTree). held_in_all f.body ≤ held_limit) IsInReach u.functions (λ f h. omega (arith, h)) (held_values_are_few unit u read well limits is) in
+      let parameters = parameters_are_few unit u read well limits is in
+      let assembled = assembly_length items image.code built.code.code in
+      let selected_words = (units_keep_words t ps (data_address t.data_blocks) (accepted_of t ps built.packed) (all_pass_few u fits parameters)).items in
+      let lowered = (lowered_sizes_are_kept u fits).words (λ f g there. all_found IsInReach u.functions f g reach there) in
+      let core_words = source_words_are_few unit u well is in
+      omega (arith, assembled, selected_words, lowered, core_words)
+
   returns : MainReturns u
   returns = record { returns = λ arguments input n left may ended. main_returns unit u read well limits is arguments input n left ended }
 
@@ -189,6 +213,7 @@ module _ (unit : UnitTree) (u : CoreUnitTree) (image : Image) (read : IsRead uni
         built = built;
         capped = capped;
         costs_packed = costs_packed;
+        code_few = code_few;
         does = does_as_source u h.typed image (core_follows unit u h is) d;
         emitted = d.emitted;
       }

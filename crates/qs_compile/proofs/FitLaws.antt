@@ -8,6 +8,7 @@ use Rattle.std.proofs.lemmas.List.{length-map}
 use Rattle.std.proofs.lemmas.List.Elements.{All-nil, All-cons, All-head, All-tail}
 use Rattle.std.proofs.lemmas.Option.{slice_get-map}
 use Rattle.qs_base.specs.Words.{wrap}
+use Rattle.qs_base.specs.Parameters.{stack_arguments, most_stack_arguments}
 use Rattle.qs_memory.proofs.Options.{some_same}
 use Rattle.qs_memory.specs.Values.{Value, integer, address, has_type}
 use Rattle.qs_memory.specs.Memory.{Memory}
@@ -25,10 +26,11 @@ use Rattle.qs_core.specs.Units.{data_block, initial_memory, main_run}
 use Rattle.qs_core.specs.Interfaces.{parameter_types, signature, interface_of, types_of_main, main_types}
 use Rattle.qs_core.specs.Ranges.{result_type_at}
 use Rattle.qs_core.specs.Fits as core
-use Rattle.qs_core.proofs.FitLaws.{both, all_at, unit_parts}
+use Rattle.qs_core.proofs.FitLaws.{both, all_at, unit_parts, function_at_fits}
 use Rattle.qs_core.proofs.InitialLaws.{initial_memory_is_ready}
 use Rattle.qs_core.proofs.RangeLaws.{runs_leave_sound}
-use Rattle.qs_tac.specs.Trees.{InstructionTree, call, TacFunctionTree, TacUnitTree}
+use Rattle.qs_tac.specs.Trees.{InstructionTree, move, unary, binary, convert, address_of, load, store, copy, fill, call, jump, branch, return, TacFunctionTree, TacUnitTree}
+use Rattle.qs_tac.specs.Sizes.{arguments_of, most_passed}
 use Rattle.qs_tac.specs.Fits.{takes, callee_fits, taken_fits, operand_fits, instruction_fits, function_fits, data_fits, unit_fits}
 use Rattle.qs_tac.specs.declared.operands.Operand.{Operand}
 use Rattle.qs_tac.specs.Laws.{AreAccepted, ArePacked}
@@ -37,13 +39,13 @@ use Rattle.qs_image.specs.Image.{Image}
 use Rattle.qs_machine.specs.State.{stack_limit}
 use Rattle.qs_lower_expressions.specs.Threads.{threaded_function}
 use Rattle.qs_lower.specs.Units.{straight_function, lower_data}
-use Rattle.qs_lower.proofs.UnitFits.{lowered_fits}
-use Rattle.qs_emit_selection.specs.Laws.{HasFewArguments}
+use Rattle.qs_lower.proofs.UnitFits.{lowered_fits, types_count, function_there}
+use Rattle.qs_emit_selection.specs.Laws.{HasFewArguments, AllPassFew}
 use Rattle.qs_emit.specs.Relation.{no_function, function_at, cost_at, IsEmittable}
 use Rattle.qs_emit.specs.Images.{data_of, IsFirstMemory}
 use Rattle.qs_emit.specs.Emitted.{IsInteger}
 use Rattle.qs_emit.proofs.EmissionLaws.{found_or_none}
-use Rattle.qs_compile.specs.Units.{linear, most_parameters, IsWithinSizes, start_of, MainReturns}
+use Rattle.qs_compile.specs.Units.{linear, most_main_parameters, most_parameters, IsWithinSizes, start_of, MainReturns}
 use Rattle.qs_compile.specs.Built.{IsBuiltFrom}
 
 -- ---- functions of linear code
@@ -54,13 +56,36 @@ function_found [] f g is = cc
 function_found (x ∷ fs) zero g is = some_same x g is
 function_found (x ∷ fs) (suc f) g is = function_found fs f g is
 
-pub few_parameters : (cs : List CoreFunctionTree) (f : ℕ) → All (λ (c : CoreFunctionTree). length c.parameters ≤ 8) cs → length (slice_index_or (map threaded_function (map straight_function cs)) f no_function).parameters ≤ 8
+pub few_parameters : (cs : List CoreFunctionTree) (f : ℕ) → All (λ (c : CoreFunctionTree). length c.parameters ≤ most_parameters) cs → length (slice_index_or (map threaded_function (map straight_function cs)) f no_function).parameters ≤ most_parameters
 few_parameters [] f all = omega arith
 few_parameters (c ∷ cs) zero all =
     let same = length-map c.parameters (λ (p : CoreParameterTree). p.place) in
-    let few = All-head (λ (c : CoreFunctionTree). length c.parameters ≤ 8) c cs all in
+    let few = All-head (λ (c : CoreFunctionTree). length c.parameters ≤ most_parameters) c cs all in
     omega (arith, same, few)
-few_parameters (c ∷ cs) (suc f) all = few_parameters cs f (All-tail (λ (c : CoreFunctionTree). length c.parameters ≤ 8) c cs all)
+few_parameters (c ∷ cs) (suc f) all = few_parameters cs f (All-tail (λ (c : CoreFunctionTree). length c.parameters ≤ most_parameters) c cs all)
+
+-- arguments that are few are few on the stack
+few_passed : (i : InstructionTree) → HasFewArguments i → stack_arguments (arguments_of i) ≤ most_stack_arguments
+few_passed (move x o) h = omega arith
+few_passed (unary op x o) h = omega arith
+few_passed (binary op x o p) h = omega arith
+few_passed (convert s x o) h = omega arith
+few_passed (address_of x p) h = omega arith
+few_passed (load s x p) h = omega arith
+few_passed (store s p o) h = omega arith
+few_passed (copy size alignment p q) h = omega arith
+few_passed (fill blank p) h = omega arith
+few_passed (call x g os) h = let few = h x g os refl in omega (arith, few)
+few_passed (jump to) h = omega arith
+few_passed (branch c to) h = omega arith
+few_passed (return o) h = omega arith
+
+all_passed : (code : List InstructionTree) → ((k : ℕ) (i : InstructionTree) → slice_get code k ≡ Some i → HasFewArguments i) → most_passed code ≤ most_stack_arguments
+all_passed [] h = omega arith
+all_passed (i ∷ code) h =
+    let first = few_passed i (h 0 i refl) in
+    let rest = all_passed code (λ k j at. h (suc k) j at) in
+    omega (arith, first, rest)
 
 -- ---- the memory to start from
 
@@ -119,7 +144,7 @@ module _ (u : CoreUnitTree) (fits : core.unit_fits u ≡ true) where
   abbrev t : TacUnitTree
   t = linear u
 
-  linear_fits : unit_fits t ≡ true
+  pub linear_fits : unit_fits t ≡ true
   linear_fits = lowered_fits u fits
 
   functions_fit : list_all (function_fits t) t.functions ≡ true
@@ -134,6 +159,19 @@ module _ (u : CoreUnitTree) (fits : core.unit_fits u ≡ true) where
           let two = both _ (list_all is_promoted (parameter_types g)) h in
           let one = both _ (is_type g.result_type scalars.Int) two.0 in
           record { function = g; is = is; result_type = type_is g.result_type scalars.Int one.1; promoted = two.1 }
+
+  main_linear : function_at t u.main ≡ threaded_function (straight_function is_main.function)
+  main_linear =
+      function_found t.functions u.main (threaded_function (straight_function is_main.function))
+      (function_there u fits u.main ∙ ap (option_map (λ (g : CoreFunctionTree). threaded_function (straight_function g))) is_main.is)
+
+  -- main has as many parameters in linear code
+  pub main_count : length (main_types u) ≡ length (function_at t u.main).parameters
+  main_count =
+      ap (λ (o : Option CoreFunctionTree). length (types_of_main o)) is_main.is
+      ∙ types_count is_main.function.blocks 0 is_main.function.parameters is_main.function.variables (function_at_fits u fits u.main is_main.function is_main.is).parameters
+      ∙ sym (length-map is_main.function.parameters (λ (p : CoreParameterTree). p.place))
+      ∙ ap (λ (g : TacFunctionTree). length g.parameters) (sym main_linear)
 
   signature_is : slice_get (interface_of u).functions u.main ≡ Some (signature is_main.function)
   signature_is = slice_get-map signature u.functions u.main ∙ ap (option_map signature) is_main.is
@@ -163,13 +201,13 @@ module _ (u : CoreUnitTree) (fits : core.unit_fits u ≡ true) where
   }
 
   module _ (few : All (λ (c : CoreFunctionTree). length c.parameters ≤ most_parameters) u.functions) where
-    parameters_few : (f : ℕ) → length (function_at t f).parameters ≤ 8
+    parameters_few : (f : ℕ) → length (function_at t f).parameters ≤ most_parameters
     parameters_few f = few_parameters u.functions f few
 
-    passed_few : (to : Callee) (os : List Operand) → callee_fits t to os ≡ true → length os ≤ 8
+    passed_few : (to : Callee) (os : List Operand) → callee_fits t to os ≡ true → length os ≤ most_parameters
     passed_few (Function k) os h = by (slice_get t.functions k.0) refl h
       where
-        by : (o : Option TacFunctionTree) → slice_get t.functions k.0 ≡ o → takes o os ≡ true → length os ≤ 8
+        by : (o : Option TacFunctionTree) → slice_get t.functions k.0 ≡ o → takes o os ≡ true → length os ≤ most_parameters
         by None is h = cc
         by (Some g) is h =
             let same = ap (λ (x : TacFunctionTree). length x.parameters) (function_found t.functions k.0 g is) in
@@ -194,15 +232,19 @@ module _ (u : CoreUnitTree) (fits : core.unit_fits u ≡ true) where
         by (inl is) = calls_short f (function_at t f) is k i at
         by (inr none) = let nothing : None ≡ Some i = sym (ap (λ (x : TacFunctionTree). slice_get x.code k) none) ∙ at in cc
 
+    pub all_pass_few : AllPassFew t
+    all_pass_few f g is = all_passed g.code (λ k i at. calls_short f g is k i at)
+
     linear_count : length t.functions ≡ length u.functions
     linear_count = length-map (map straight_function u.functions) threaded_function ∙ length-map u.functions straight_function
 
-    pub emittable : (ps : List PlacesTree) → AreAccepted t ps → ((f : ℕ) → f < length u.functions → cost_at t ps f ≤ stack_limit) → IsEmittable t ps
-    emittable ps accepted frames = record {
+    pub emittable : length (main_types u) ≤ most_main_parameters → (ps : List PlacesTree) → AreAccepted t ps → ((f : ℕ) → f < length u.functions → cost_at t ps f ≤ stack_limit) → IsEmittable t ps
+    emittable main_few ps accepted frames = record {
       fits = linear_fits;
       places = accepted;
       cost = λ f lt. let count = linear_count in frames f (omega (arith, count, lt));
       parameters = parameters_few;
+      main_parameters = let count = main_count in omega (arith, count, main_few);
       arguments = few_arguments;
     }
 
@@ -213,7 +255,7 @@ accepted_of t ps packed f g is = keep_values (packed f g is).keep_values
 -- an image that is built from the unit has code that is emitted
 pub built_emittable : (u : CoreUnitTree) (image : Image) → core.unit_fits u ≡ true → IsWithinSizes u image → (built : IsBuiltFrom u image) → IsEmittable (linear u) built.places
 built_emittable u image fits sizes built =
-    emittable u fits sizes.parameters built.places (accepted_of (linear u) built.places built.packed) (λ f lt.
+    emittable u fits sizes.parameters sizes.main_parameters built.places (accepted_of (linear u) built.places built.packed) (λ f lt.
     let count = length-map (map straight_function u.functions) threaded_function ∙ length-map u.functions straight_function in
     let cost = built.code.costs f (omega (arith, count, lt)) in
     let most = sizes.frames f lt in

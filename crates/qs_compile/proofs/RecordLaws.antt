@@ -1,5 +1,5 @@
 -- The records of functions, by their numbers.
-use Rattle.std.proofs.Common.{◌≡◌, ◌⊎◌, inl, inr, ℕ, ◌+◌, ◌<◌, ◌≤◌, List, [], ◌∷◌, ◌++◌, length, map, drop, append-nil, get_or, Option, refl, sym, ap, ◌∙◌, arith}
+use Rattle.std.proofs.Common.{◌≡◌, ◌⊎◌, inl, inr, ℕ, ◌+◌, ◌<◌, ◌≤◌, List, [], ◌∷◌, ◌++◌, length, map, drop, append-nil, get_or, Option, Some, refl, sym, ap, ◌∙◌, arith}
 use Rattle.std.specs.Prelude.{slice_index_or, unwrap_or}
 use Rattle.std.proofs.Math.ListN.{drop_of_length-le}
 use Rattle.std.proofs.lemmas.Bool.{cases_lt}
@@ -39,6 +39,7 @@ have_records functions linear places items labels addresses costs records same o
       costs = λ f lt.
           sym (get_or-map (λ (r : FunctionRecord). r.cost) records f no_record 0 (omega (arith, lt, count)))
           ∙ ap (λ (l : List ℕ). slice_index_or l f 0) are.costs ∙ take.each f lt;
+      counts = are.counts;
     }
 
 -- ---- in code
@@ -72,11 +73,30 @@ names_in_trees : (fs : List CoreFunction) → map (λ (f : CoreFunction). f.name
 names_in_trees [] = refl
 names_in_trees (f ∷ fs) = ap (λ (names : List (List ℕ)). f.name ∷ names) (names_in_trees fs)
 
+-- what the record of a function says of its parameters
+abbrev pub said_parameters : CoreFunction → Option ℕ
+said_parameters f = Some (length f.parameters.items)
+
+counts_in_trees : (fs : List CoreFunction) → map said_parameters fs ≡ map (λ (g : CoreFunctionTree). Some (length g.parameters)) (map core.function_tree fs)
+counts_in_trees [] = refl
+counts_in_trees (f ∷ fs) =
+    let first : said_parameters f ≡ Some (length (core.function_tree f).parameters) = ap Some (sym (length-map f.parameters.items core.parameter_tree)) in
+    let rest = counts_in_trees fs in
+    cc
+
+mapped_done :
+    {X : Type 0} (of : CoreFunction → X) (done : List X) (fs : List CoreFunction) (n : ℕ) → length fs ≤ n → done ++ map of (drop n fs) ≡ map of fs
+    → done ≡ map of fs
+mapped_done of done fs n le is =
+    sym (append-nil done) ∙ sym (ap (λ (rest : List CoreFunction). done ++ map of rest) (drop_of_length-le fs le)) ∙ is
+
 pub names_done :
     (done : List (List ℕ)) (fs : List CoreFunction) (n : ℕ) → length fs ≤ n
     → done ++ map (λ (f : CoreFunction). f.name) (drop n fs) ≡ map (λ (f : CoreFunction). f.name) fs
     → done ≡ map (λ (g : CoreFunctionTree). g.name) (map core.function_tree fs)
-names_done done fs n le is =
-    sym (append-nil done)
-    ∙ sym (ap (λ (rest : List CoreFunction). done ++ map (λ (f : CoreFunction). f.name) rest) (drop_of_length-le fs le))
-    ∙ is ∙ names_in_trees fs
+names_done done fs n le is = mapped_done (λ (f : CoreFunction). f.name) done fs n le is ∙ names_in_trees fs
+
+pub counts_done :
+    (done : List (Option ℕ)) (fs : List CoreFunction) (n : ℕ) → length fs ≤ n → done ++ map said_parameters (drop n fs) ≡ map said_parameters fs
+    → done ≡ map (λ (g : CoreFunctionTree). Some (length g.parameters)) (map core.function_tree fs)
+counts_done done fs n le is = mapped_done said_parameters done fs n le is ∙ counts_in_trees fs

@@ -20,6 +20,7 @@ use Rattle.qs_lower.specs.WordLaws.{lowered_function, IsInReach, UnitKeepsSizes}
 use Rattle.qs_lower.proofs.UnitWords.{lowered_sizes_are_kept}
 use Rattle.qs_frames.specs.Layout.{total, layout}
 use Rattle.qs_frames.proofs.FrameLaws.{frames_are_laid_out, no_more_is_kept}
+use Rattle.qs_emit_selection.specs.Laws.{PassesFew}
 use Rattle.qs_emit_selection.specs.Data.{data_sizes, data_address}
 use Rattle.qs_emit_selection.specs.Limits.{largest_data, first_fault}
 use Rattle.qs_emit_selection.specs.Units.{selected}
@@ -33,11 +34,11 @@ use Rattle.qs_compile.specs.Limits.{IsRefused, Passes}
 use Rattle.qs_compile.specs.Small.{most_block_bytes, most_values, IsSmall, SmallUnitsPassNoSize}
 use Rattle.qs_compile.specs.declared.fault.BuildFault.{BuildFault}
 use Rattle.qs_compile.specs.declared.fault.BuildFault.TheVariants.{NoMemory, TooManyFunctions, NamesTooLong, TooManyParameters, FrameTooLarge, DataTooLarge, CodeTooLong}
-use Rattle.qs_compile.proofs.FitLaws.{function_found, accepted_of, emittable}
+use Rattle.qs_compile.proofs.FitLaws.{function_found, accepted_of, all_pass_few, emittable}
 
 -- ---- lists
 
-all_found : {A : Type 0} (P : A → Type 0) (xs : List A) (i : ℕ) (x : A) → All P xs → slice_get xs i ≡ Some x → P x
+pub all_found : {A : Type 0} (P : A → Type 0) (xs : List A) (i : ℕ) (x : A) → All P xs → slice_get xs i ≡ Some x → P x
 all_found P [] i x all is = absurd (cc)
 all_found P (y ∷ ys) zero x all is = subst P (some_same y x is) (All-head P y ys all)
 all_found P (y ∷ ys) (suc i) x all is = all_found P ys i x (All-tail P y ys all) is
@@ -54,11 +55,11 @@ stands (f ∷ fs) (suc i) h = let s = stands fs i (omega (arith, h)) in record {
 
 -- ---- frames and data
 
-frame_is_small : (g : TacFunctionTree) (p : PlacesTree) → Accepted g p → total g.blocks ≤ most_block_bytes → tac.values g ≤ most_values → (layout g p).cost ≤ stack_limit
-frame_is_small g p accepted blocks values =
+frame_is_small : (g : TacFunctionTree) (p : PlacesTree) → Accepted g p → total g.blocks ≤ most_block_bytes → tac.values g ≤ most_values → PassesFew g → (layout g p).cost ≤ stack_limit
+frame_is_small g p accepted blocks values passes =
     let bound = (frames_are_laid_out g p).bound in
     let few = no_more_is_kept g p accepted in
-    omega (arith, bound, few, blocks, values)
+    omega (arith, bound, few, blocks, values, passes)
 
 sizes_same : (ds : List DataBlockTree) → data_sizes (map lower_data ds) ≡ map (λ (d : DataBlockTree). (data_block d).size) ds
 sizes_same [] = refl
@@ -93,11 +94,11 @@ module _ (u : CoreUnitTree) (fits : unit_fits u ≡ true) where
         let less = sizes.values in
         let same = cost_is ps f s.function s.is in
         let few =
-        frame_is_small (lowered_function s.function) (slice_index_or ps f no_places) (accepted_at ps accepted f s.function s.is) (subst (λ (l : List ℕ). total l ≤ most_block_bytes) (sym sizes.blocks) blocks) (omega (arith, less, values)) in
+        frame_is_small (lowered_function s.function) (slice_index_or ps f no_places) (accepted_at ps accepted f s.function s.is) (subst (λ (l : List ℕ). total l ≤ most_block_bytes) (sym sizes.blocks) blocks) (omega (arith, less, values)) (all_pass_few u fits small.parameters f (lowered_function s.function) (keeps.there f s.function s.is)) in
         omega (arith, same, few)
 
     emitted : IsEmittable t ps
-    emitted = emittable u fits small.parameters ps accepted frame_small
+    emitted = emittable u fits small.parameters small.main_parameters ps accepted frame_small
 
     no_selection_fault : first_fault t ps ≡ None
     no_selection_fault =
@@ -106,7 +107,7 @@ module _ (u : CoreUnitTree) (fits : unit_fits u ≡ true) where
 
     code_is_short : sum_by item_words (selected t ps) < reached_words
     code_is_short =
-        let items = (units_keep_words t ps (data_address t.data_blocks) emitted.places).items in
+        let items = (units_keep_words t ps (data_address t.data_blocks) emitted.places (all_pass_few u fits small.parameters)).items in
         let words = keeps.words (λ f g is. all_found IsInReach u.functions f g small.held is) in
         let code = small.code in
         omega (arith, items, words, code)

@@ -13,7 +13,9 @@ use Rattle.qs_core.specs.Fits.{unit_fits}
 use Rattle.qs_core.specs.Sizes.{values, held_in_all}
 use Rattle.qs_elaborate_bodies.specs.Units.{core_of}
 use Rattle.qs_elaborate_limits.specs.Measures.{bytes_in_words, data_end, data_size}
+use Rattle.qs_elaborate_limits.specs.Laws.{held_limit}
 use Rattle.qs_elaborate_limits.proofs.CoreUnits.{functions_are_few, parameters_are_few, code_is_small, held_values_are_few}
+use Rattle.qs_elaborate_limits.proofs.MainParameters.{main_parameters_are_few}
 use Rattle.qs_elaborate_limits.proofs.CoreBytes.{placed_bytes_are_few, data_bytes_are_few}
 use Rattle.qs_elaborate_limits.proofs.ValueLimits.{values_are_limited}
 use Rattle.qs_lower.specs.WordLaws.{IsInReach}
@@ -25,7 +27,7 @@ use Rattle.qs_compile.specs.Names.{HasRoomForNames}
 use Rattle.qs_compile.proofs.CoreNames.{core_name_bytes}
 
 -- what holds of each where more holds of each
-all_more : {A : Type 0} (P Q : A → Type 0) (xs : List A) → ((x : A) → P x → Q x) → All P xs → All Q xs
+pub all_more : {A : Type 0} (P Q : A → Type 0) (xs : List A) → ((x : A) → P x → Q x) → All P xs → All Q xs
 all_more P Q [] h all = All-nil Q
 all_more P Q (x ∷ xs) h all = All-cons Q x xs (h x (All-head P x xs all)) (all_more P Q xs h (All-tail P x xs all))
 
@@ -60,6 +62,7 @@ units_are_small unit core read well limits is room = record {
   functions = functions_are_few unit core read well limits is;
   names = let same = core_name_bytes unit core is in omega (arith, same, room);
   parameters = parameters_are_few unit core read well limits is;
+  main_parameters = main_parameters_are_few unit core read well limits is;
   blocks =
       all_more (λ (f : CoreFunctionTree). bytes_in_words f.blocks ≤ 1048576) (λ (f : CoreFunctionTree). total f.blocks ≤ most_block_bytes) core.functions
       (λ f h. let e = words_total f.blocks in omega (arith, e, h)) (placed_bytes_are_few unit core read well limits is);
@@ -67,7 +70,7 @@ units_are_small unit core read well limits is room = record {
       all_more (λ (f : CoreFunctionTree). values f ≤ 30000) (λ (f : CoreFunctionTree). values f ≤ most_values) core.functions
       (λ f h. omega (arith, h)) (values_are_limited unit core read well limits is);
   held =
-      all_more (λ (f : CoreFunctionTree). held_in_all f.body ≤ 136) IsInReach core.functions
+      all_more (λ (f : CoreFunctionTree). held_in_all f.body ≤ held_limit) IsInReach core.functions
       (λ f h. omega (arith, h)) (held_values_are_few unit core read well limits is);
   code = let few = code_is_small unit core read well limits is in omega (arith, few);
   data_bytes = data_total (map data_size core.data_blocks) (data_bytes_are_few unit core read well limits is);

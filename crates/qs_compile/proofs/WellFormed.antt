@@ -1,8 +1,9 @@
 -- An image that is built from a unit keeps to its form.
-use Rattle.std.proofs.Common.{◌≡◌, ◌≢◌, ℕ, zero, suc, ◌/◌, ◌^◌, ◌-◌, ◌<◌, ◌≤◌, true, false, List, [], ◌∷◌, ◌++◌, length, map, Option, Some, None, refl, sym, ap, ◌∙◌, subst, arith, length-append}
+use Rattle.std.proofs.Common.{◌≡◌, ◌≢◌, ◌⊎◌, inl, inr, ℕ, zero, suc, ◌/◌, ◌^◌, ◌-◌, ◌<◌, ◌≤◌, true, false, List, [], ◌∷◌, ◌++◌, length, map, Option, Some, None, refl, sym, ap, ◌∙◌, subst, arith, length-append}
 use Rattle.std.specs.Prelude.{◌&&◌, not, bytes_eq, codes, slice_index, slice_index_or, unwrap_or, All}
 use Rattle.std.specs.List.{slice_get, list_all}
 use Rattle.std.specs.Option.{option_map}
+use Rattle.std.proofs.lemmas.Bool.{cases_order}
 use Rattle.std.proofs.lemmas.List.{length-map}
 use Rattle.std.proofs.lemmas.List.Elements.{All-from_get_or}
 use Rattle.std.proofs.lemmas.Option.{slice_get-map, slice_get-get_or, slice_get_within, get_or_from_slice_get}
@@ -12,18 +13,20 @@ use Rattle.qs_memory.specs.Scalars.{is_type}
 use Rattle.qs_memory.proofs.Options.{some_same}
 use Rattle.qs_core.specs.Trees.{CoreFunctionTree, CoreUnitTree}
 use Rattle.qs_core.specs.Units.{initial_memory}
+use Rattle.qs_core.specs.Interfaces.{types_of_main}
 use Rattle.qs_core.specs.Fits.{differ, main_name, is_main, unit_fits}
 use Rattle.qs_core.proofs.FitLaws.{both, function_at_fits, unit_parts}
 use Rattle.qs_isa.specs.Addresses.{code_start}
 use Rattle.qs_asm.specs.Assembly.{label_offset}
-use Rattle.qs_image.specs.Image.{Image, FunctionRecord, joined_names, IsAddress, IsCost, IsWellFormed}
+use Rattle.qs_image.specs.declared.version.Version.{Version}
+use Rattle.qs_image.specs.Image.{Image, FunctionRecord, joined_names, HasCount, HasParameters, IsAddress, IsCost, IsWellFormed}
+use Rattle.qs_lower.proofs.UnitFits.{types_count}
 use Rattle.qs_tac.specs.Trees.{TacUnitTree}
 use Rattle.qs_tac.specs.Places.{PlacesTree}
 use Rattle.qs_frames.proofs.FrameLaws.{frames_are_laid_out}
 use Rattle.qs_emit_selection.specs.Emission.{first_label, enter, save, take_parameters}
 use Rattle.qs_emit_selection.specs.Pieces.{move_stack}
 use Rattle.qs_emit_selection.specs.Operands.{frame_of, stored}
-use Rattle.qs_isa.specs.Registers.{a0}
 use Rattle.qs_emit_selection.specs.Data.{data_address}
 use Rattle.qs_emit_selection.specs.Units.{selected}
 use Rattle.qs_emit.specs.Machine.{instruction_at}
@@ -148,7 +151,7 @@ module _ (u : CoreUnitTree) (image : Image) (fits : unit_fits u ≡ true) (sizes
   enters_by_some f =
       let c = context s f in
       let moved = moved_by_some (2 ^ 32 - (frame_of c).cost) in
-      let all = length-append (move_stack (2 ^ 32 - (frame_of c).cost)) (save (stored c) 0 ++ take_parameters c a0 c.function.parameters) in
+      let all = length-append (move_stack (2 ^ 32 - (frame_of c).cost)) (save (frame_of c).outgoing (stored c) 0 ++ take_parameters c 0 c.function.parameters) in
       omega (arith, moved, all)
 
   address_is : (f : ℕ) → f < length t.functions → IsAddress (length image.code) (record_at image f).address
@@ -169,6 +172,7 @@ module _ (u : CoreUnitTree) (image : Image) (fits : unit_fits u ≡ true) (sizes
     function : CoreFunctionTree
     is : slice_get u.functions k ≡ Some function
     named : r.name ≡ function.name
+    counted : r.parameters ≡ Some (length function.parameters)
 
   known : (k : ℕ) (d : FunctionRecord) → k < length image.functions → Known k (slice_index_or image.functions k d)
   known k d lt = by (slice_get u.functions k) refl
@@ -182,15 +186,69 @@ module _ (u : CoreUnitTree) (image : Image) (fits : unit_fits u ≡ true) (sizes
           ∙ slice_get-map (λ (f : FunctionRecord). f.name) image.functions k
           ∙ ap (option_map (λ (f : FunctionRecord). f.name)) (slice_get-get_or image.functions k d lt)
 
+      count_there : slice_get (map (λ (g : CoreFunctionTree). Some (length g.parameters)) u.functions) k ≡ Some r.parameters
+      count_there =
+          ap (λ (counts : List (Option ℕ)). slice_get counts k) (sym built.counts)
+          ∙ slice_get-map (λ (f : FunctionRecord). f.parameters) image.functions k
+          ∙ ap (option_map (λ (f : FunctionRecord). f.parameters)) (slice_get-get_or image.functions k d lt)
+
       by : (o : Option CoreFunctionTree) → slice_get u.functions k ≡ o → Known k (slice_index_or image.functions k d)
       by None is = let none : None ≡ Some r.name = sym (slice_get-map (λ (g : CoreFunctionTree). g.name) u.functions k ∙ ap (option_map (λ (g : CoreFunctionTree). g.name)) is) ∙ name_there in cc
       by (Some g) is =
           let some : Some g.name ≡ Some r.name = sym (slice_get-map (λ (g : CoreFunctionTree). g.name) u.functions k ∙ ap (option_map (λ (g : CoreFunctionTree). g.name)) is) ∙ name_there in
-          record { function = g; is = is; named = sym (some_same g.name r.name some) }
+          let counted : Some (Some (length g.parameters)) ≡ Some r.parameters =
+          sym (slice_get-map (λ (g : CoreFunctionTree). Some (length g.parameters)) u.functions k ∙ ap (option_map (λ (g : CoreFunctionTree). Some (length g.parameters))) is) ∙ count_there in
+          record { function = g; is = is; named = sym (some_same g.name r.name some); counted = sym (some_same (Some (length g.parameters)) r.parameters counted) }
 
   -- the record with a number, whatever stands for one that there isn't
   record_is : (k : ℕ) (d : FunctionRecord) → k < length image.functions → record_at image k ≡ slice_index_or image.functions k d
   record_is k d lt = get_or_from_slice_get image.functions k (slice_index_or image.functions k d) no_record (slice_get-get_or image.functions k d lt)
+
+  -- ---- counts of parameters
+
+  few_parameters : (k : ℕ) (g : CoreFunctionTree) → slice_get u.functions k ≡ Some g → length g.parameters ≤ 16
+  few_parameters k g is =
+      let most = sizes.parameters k g (slice_get_within u.functions k g is) in
+      let same = ap (λ (f : CoreFunctionTree). length f.parameters) (get_or_from_slice_get u.functions k g g is) in
+      omega (arith, most, same)
+
+  -- of a function that is named as main
+  main_parameters : (k : ℕ) (g : CoreFunctionTree) → slice_get u.functions k ≡ Some g → g.name ≡ codes "main" → length g.parameters ≡ image.parameters
+  main_parameters k g is named = by (cases_order k u.main)
+    where
+      main : MainNamed u
+      main = main_named u fits
+
+      names : List (List ℕ)
+      names = map (λ (f : CoreFunctionTree). f.name) u.functions
+
+      at : (i : ℕ) (f : CoreFunctionTree) → slice_get u.functions i ≡ Some f → slice_get names i ≡ Some f.name
+      at i f there = slice_get-map (λ (g : CoreFunctionTree). g.name) u.functions i ∙ ap (option_map (λ (g : CoreFunctionTree). g.name)) there
+
+      differ_in : (i j : ℕ) (a b : List ℕ) → i < j → slice_get names i ≡ Some a → slice_get names j ≡ Some b → a ≢ b
+      differ_in i j a b lt = pairs_differ names i j a b (unit_parts u fits).different lt
+
+      count : length main.function.parameters ≡ image.parameters
+      count =
+          sym (types_count main.function.blocks 0 main.function.parameters main.function.variables (function_at_fits u fits u.main main.function main.is).parameters)
+          ∙ sym (ap (λ (o : Option CoreFunctionTree). length (types_of_main o)) main.is) ∙ sym built.parameters
+
+      by : (k ≡ u.main) ⊎ ((k < u.main) ⊎ (u.main < k)) → length g.parameters ≡ image.parameters
+      by (inl same) =
+          let there : Some g ≡ Some main.function = sym is ∙ ap (λ (i : ℕ). slice_get u.functions i) same ∙ main.is in
+          ap (λ (f : CoreFunctionTree). length f.parameters) (some_same g main.function there) ∙ count
+      by (inr (inl before)) = absurd (differ_in k u.main g.name main.function.name before (at k g is) (at u.main main.function main.is) (named ∙ sym main.named))
+      by (inr (inr behind)) = absurd (differ_in u.main k main.function.name g.name behind (at u.main main.function main.is) (at k g is) (main.named ∙ sym named))
+
+  count_is : (k : ℕ) (d : FunctionRecord) → k < length image.functions → HasCount image.parameters (slice_index_or image.functions k d)
+  count_is k d lt =
+      let r = known k d lt in
+      record {
+        count = length r.function.parameters;
+        is = r.counted;
+        most = few_parameters k r.function r.is;
+        main = λ named. main_parameters k r.function r.is (sym r.named ∙ named);
+      }
 
   linear_count : length t.functions ≡ length image.functions
   linear_count = sym built.code.count
@@ -246,6 +304,7 @@ module _ (u : CoreUnitTree) (image : Image) (fits : unit_fits u ≡ true) (sizes
         entry = record { k = 0; below = omega (arith, below); at = built.code.entry };
         addresses = λ k d lt. subst (λ (r : FunctionRecord). IsAddress (length image.code) r.address) (record_is k d lt) (address_is k (omega (arith, lt, counted)));
         costs = λ k d lt. subst (λ (r : FunctionRecord). IsCost r.cost) (record_is k d lt) (cost_is k (omega (arith, lt, counted)));
+        counts = subst (λ (v : Version). All (λ (f : FunctionRecord). HasParameters v image.parameters f) image.functions) (sym built.version) count_is;
         words = words;
         octets = All-from_get_or (λ (byte : ℕ). byte < 256) image.bytes 0 (λ i lt.
             let is = ap (λ (bytes : List ℕ). slice_index bytes i) built.code.bytes in

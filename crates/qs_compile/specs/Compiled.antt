@@ -1,7 +1,8 @@
 -- The image of a source: what it is made of, what its calls cost, and that it does what the source does.
-use Rattle.std.specs.Prelude.{◌≡◌, ℕ, ◌+◌, ◌*◌, ◌/◌, ◌<◌, ◌≤◌, ℤ, List, map, All, Some, slice_index_or}
+use Rattle.std.specs.Prelude.{◌≡◌, ℕ, ◌+◌, ◌*◌, ◌/◌, ◌<◌, ◌≤◌, ℤ, List, length, map, All, Some, slice_index_or}
 use Rattle.std.specs.List.{slice_get}
 use Rattle.qs_syntax.specs.Trees.{UnitTree}
+use Rattle.qs_syntax.specs.Nodes.{unit_count}
 use Rattle.qs_syntax.specs.Units.{IsRead}
 use Rattle.qs_types.specs.Limits.{IsWithinLimits}
 use Rattle.qs_types.specs.WellTyped.{WellTyped}
@@ -11,7 +12,7 @@ use Rattle.qs_typing_findings.specs.declared.typed_unit.TypedUnit.{TypedUnit}
 use Rattle.qs_core.specs.Trees.{CoreUnitTree}
 use Rattle.qs_core.specs.Units.{initial_memory}
 use Rattle.qs_meaning.specs.Typed.{TypedProgram}
-use Rattle.qs_meaning.specs.Units.{typed_of}
+use Rattle.qs_meaning.specs.Units.{functions_in, typed_of}
 use Rattle.qs_meaning.specs.Runs.{main_run, source_run}
 use Rattle.qs_elaborate_bodies.specs.Units.{core_of}
 use Rattle.qs_elaborate_limits.specs.Caps.{caps, EachBelow}
@@ -24,7 +25,7 @@ use Rattle.qs_emit.specs.Emitted.{Emitted}
 use Rattle.qs_tac.specs.Trees.{TacFunctionTree, TacUnitTree}
 use Rattle.qs_tac.specs.Places.{PlacesTree, no_places}
 use Rattle.qs_tac.specs.Laws.{ArePacked}
-use Rattle.qs_frames.specs.Layout.{total, kept}
+use Rattle.qs_frames.specs.Layout.{total, outgoing_words, kept}
 use Rattle.qs_emit.specs.Images.{AreCosts, record_at}
 use Rattle.qs_compile.specs.AgreesWithCore.{values_of, DoesAsCore}
 use Rattle.qs_compile.specs.Built.{IsBuiltFrom}
@@ -59,13 +60,15 @@ pub record DoesAsSource (program : TypedProgram) (image : Image) : Type 0 where
 -- ---- costs
 
 -- What a call costs is at most the bytes of a frame of places that are packed, rounded up to 16: the return address, the
--- blocks, and a word for each temporary in a slot and for each register that is given back.
+-- blocks, and a word for each temporary in a slot, for each register that is given back, and for each argument past the
+-- eighth of one call.
 pub record AreCostsOfPacked (t : TacUnitTree) (image : Image) : Type 0 where
   pub places : List PlacesTree
   pub packed : ArePacked t places
   pub each :
       (f : ℕ) (g : TacFunctionTree) → slice_get t.functions f ≡ Some g
-      → (record_at image f).cost ≤ 16 * ((4 + total g.blocks + 4 * kept (slice_index_or places f no_places) + 15) / 16)
+      → (record_at image f).cost
+      ≤ 16 * ((4 + total g.blocks + 4 * (kept (slice_index_or places f no_places) + outgoing_words g) + 15) / 16)
 
 -- ---- the whole
 
@@ -79,6 +82,8 @@ pub record IsCompiled (unit : UnitTree) (image : Image) : Type 0 where
   -- what a call of a function costs is at most the cap of its source
   pub capped : EachBelow (map (λ f. f.cost) image.functions) (caps unit)
   pub costs_packed : AreCostsOfPacked (linear core) image
+  -- its code has at most 24 words for each node of the source, and 32 for each function with a body
+  pub code_few : length image.code ≤ 24 * unit_count unit + 32 * length (functions_in unit)
   pub does : DoesAsSource program image
   -- each function does what its linear code does
   pub emitted : Emitted (linear core) (initial_memory core) image

@@ -1,5 +1,5 @@
 -- The records of functions: where each begins, and the bytes of its frame.
-use Rattle.std.specs.Prelude.{◌≡◌, ℕ, ◌+◌, ◌<◌, ◌≤◌, List, length, map, Option, unwrap_or, slice_index_or}
+use Rattle.std.specs.Prelude.{◌≡◌, ℕ, ◌+◌, ◌<◌, ◌≤◌, List, length, map, Option, Some, unwrap_or, slice_index_or}
 use Rattle.qs_isa.specs.Addresses.{code_start}
 use Rattle.qs_asm.specs.declared.item.Item.{Item}
 use Rattle.qs_asm.specs.Assembly.{label_at}
@@ -35,12 +35,13 @@ pub record AreFrameCosts (functions : List TacFunctionTree) (places : List Place
   pub count : length costs ≡ length functions
   pub each : (f : ℕ) → f < length functions → slice_index_or costs f 0 ≡ frame_bytes functions places f
 
--- records with the functions' names, these addresses and these costs
+-- records with the functions' names and counts of parameters, these addresses and these costs
 pub record AreRecords (functions : List CoreFunctionTree) (starts amounts : List ℕ) (records : List FunctionRecord)
     : Type 0 where
   pub names : map (λ r. r.name) records ≡ map (λ f. f.name) functions
   pub addresses : map (λ r. r.address) records ≡ starts
   pub costs : map (λ r. r.cost) records ≡ amounts
+  pub counts : map (λ r. r.parameters) records ≡ map (λ f. Some (length f.parameters)) functions
 
 -- ---- the records of a unit
 
@@ -48,7 +49,8 @@ pub record AreRecords (functions : List CoreFunctionTree) (starts amounts : List
 abbrev pub record_in : List FunctionRecord → (f : ℕ) → FunctionRecord
 record_in records f = slice_index_or records f no_record
 
--- each function has the record of its number, with its name, the address of its label, and the bytes of its frame
+-- each function has the record of its number, with its name, the address of its label, the bytes of its frame, and the
+-- count of its parameters
 pub record HaveRecords (functions : List CoreFunctionTree) (linear : List TacFunctionTree) (places : List PlacesTree)
     (items : List Item) (records : List FunctionRecord) : Type 0 where
   pub names : map (λ r. r.name) records ≡ map (λ f. f.name) functions
@@ -56,3 +58,4 @@ pub record HaveRecords (functions : List CoreFunctionTree) (linear : List TacFun
       (f : ℕ) → f < length linear
       → (record_in records f).address ≡ label_at items code_start (first_label linear f)
   pub costs : (f : ℕ) → f < length linear → (record_in records f).cost ≡ frame_bytes linear places f
+  pub counts : map (λ r. r.parameters) records ≡ map (λ f. Some (length f.parameters)) functions

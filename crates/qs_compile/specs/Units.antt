@@ -10,10 +10,10 @@ use Rattle.qs_calls.specs.World.{World}
 use Rattle.qs_calls.specs.Starts.{MayStart}
 use Rattle.qs_core.specs.Trees.{CoreUnitTree}
 use Rattle.qs_core.specs.Units.{initial_memory, main_run}
-use Rattle.qs_core.specs.Interfaces.{interface_of}
+use Rattle.qs_core.specs.Interfaces.{main_types, interface_of}
 use Rattle.qs_tac.specs.Trees.{TacUnitTree}
 use Rattle.qs_lower.specs.Units.{lower_unit}
-pub use Rattle.qs_base.specs.Parameters.{most_parameters}
+pub use Rattle.qs_base.specs.Parameters.{most_main_parameters, most_parameters}
 use Rattle.qs_machine.specs.State.{stack_limit}
 use Rattle.qs_image.specs.Image.{Image}
 use Rattle.qs_emit.specs.Images.{record_at}
@@ -30,9 +30,11 @@ set_of (s ∷ types) = (if same_scalar s scalars.Unsigned then 1 else 0) + 2 * s
 
 -- ---- what has an image
 
--- no function has more parameters than main may have, nor a record in the image with more bytes than the largest stack
+-- no function has more parameters than one may have, nor main more than it is given, nor a record in the image more bytes than
+-- the largest stack
 pub record IsWithinSizes (u : CoreUnitTree) (image : Image) : Type 0 where
   pub parameters : All (λ f. length f.parameters ≤ most_parameters) u.functions
+  pub main_parameters : length (main_types u) ≤ most_main_parameters
   pub frames : (f : ℕ) → f < length u.functions → (record_at image f).cost ≤ stack_limit
 
 -- where main starts

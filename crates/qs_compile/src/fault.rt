@@ -16,8 +16,8 @@ pub enum BuildFault {
     /// The names of the functions have more than `MOST_NAME_BYTES` bytes together.
     #[error("the names of the functions are too long")]
     NamesTooLong,
-    /// A function has more than the eight parameters that registers hold.
-    #[error("more than 8 parameters")]
+    /// A function has more than 16 parameters, or `main` more than 8.
+    #[error("too many parameters")]
     TooManyParameters,
     /// A frame has more than `LARGEST_COST` bytes.
     #[error("a frame is too large")]

@@ -25,7 +25,7 @@ pub fn images_do_as_core()
 {}
 
 /// A unit of core that is small enough has an image, where memory suffices: at most 512 functions
-/// whose names have at most 1,048,576 bytes, 8 parameters, 2^27 bytes of blocks, 2^24 values, of
+/// whose names have at most 1,048,576 bytes, 16 parameters, 8 of main, 2^27 bytes of blocks, 2^24 values, of
 /// which those for parts of expressions lie in reach, less than 2^18 words by the count of core,
 /// and 16,777,216 bytes of data.
 pub fn small_units_pass_no_size()

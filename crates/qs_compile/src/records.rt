@@ -77,6 +77,7 @@ pub fn records(
             name: function.name.copy(alloc)?,
             address: addresses[f],
             cost: costs[f],
+            parameters: count(function.parameters.len())?,
         })?;
     }
     Ok(all)

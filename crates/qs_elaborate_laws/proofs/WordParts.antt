@@ -1,5 +1,5 @@
 -- What the parts of expressions give needs few words: 24 for each node, with so many to spare.
-use Rattle.std.proofs.Common.{◌≡◌, ◌≤◌, ℕ, ◌+◌, ◌*◌, Bool, true, false, List, [], ◌∷◌, ◌++◌, Some, None, refl, arith, if◌then◌else◌}
+use Rattle.std.proofs.Common.{◌≡◌, ◌≤◌, ℕ, ◌+◌, ◌*◌, Bool, true, false, List, [], ◌∷◌, ◌++◌, Some, None, length, refl, arith, if◌then◌else◌}
 use Rattle.qs_memory.specs.declared.scalar.Scalar.{Scalar}
 use Rattle.qs_memory.specs.declared.operation.BinaryOperation.{BinaryOperation}
 use Rattle.qs_calls.specs.declared.callee.Callee.{Callee}
@@ -133,8 +133,9 @@ choice_joined_few second third c a b l m n g h k =
 
 -- ---- calls
 
+-- with a word to spare for each, where it goes on the stack
 abbrev pub AllFew : ValuedAll → (n : ℕ) → Type 0
-AllFew v n = list_words v.statements + all_taken_words v.values ≤ 24 * n
+AllFew v n = list_words v.statements + all_taken_words v.values + length v.values ≤ 24 * n
 
 pub argument_few : (c : Conversion) (a : Valued) (rest : ValuedAll) (m n : ℕ) → Kept a m → AllFew rest n → AllFew (argument_before c a rest) (m + n)
 argument_few c a rest m n h k =

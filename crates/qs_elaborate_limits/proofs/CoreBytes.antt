@@ -8,9 +8,8 @@ use Rattle.qs_meaning.proofs.FitReadings.{read_is_as_read}
 use Rattle.qs_meaning.proofs.FitBlocks.{all_exact, typed_data_is_good, typed_data_is_whole}
 use Rattle.qs_elaborate_bodies.specs.Names.{FunctionNames, names_in}
 use Rattle.qs_elaborate_bodies.specs.Units.{functions_core}
-use Rattle.qs_elaborate_limits.specs.Measures.{bytes_in_words, data_end, data_size}
+use Rattle.qs_elaborate_limits.specs.Measures.{highest, bytes_in_words, data_end, data_size}
 use Rattle.qs_elaborate_limits.specs.Laws.{PlacedBytesAreFew, DataBytesAreFew}
-use Rattle.qs_elaborate_limits.proofs.SourceHeights.{highest}
 use Rattle.qs_elaborate_limits.proofs.PlacedBytes.{placed_of, placed_is_counted}
 use Rattle.qs_elaborate_limits.proofs.DataBytes.{ends_are, sizes_kept}
 use Rattle.qs_elaborate_limits.proofs.CoreUnits.{made, functions_are, all_below}

@@ -5,14 +5,15 @@ use Rattle.std.specs.List.{list_all}
 use Rattle.std.proofs.lemmas.List.Elements.{All-nil, All-cons}
 use Rattle.std.proofs.lemmas.Bool.{and_parts}
 use Rattle.std.proofs.lemmas.Option.{same_Some}
+use Rattle.qs_base.specs.Parameters.{most_parameters}
 use Rattle.qs_syntax.specs.Trees.{UnitTree}
 use Rattle.qs_syntax.specs.Units.{height_limit, IsRead}
 use Rattle.qs_memory.proofs.Options.{followed}
-use Rattle.qs_types.specs.Limits.{function_limit, parameter_limit, IsWithinLimits}
+use Rattle.qs_types.specs.Limits.{function_limit, IsWithinLimits}
 use Rattle.qs_types.specs.WellTyped.{WellTyped}
 use Rattle.qs_types.proofs.LimitLaws.{keeps_limits}
 use Rattle.qs_core.specs.Trees.{CoreFunctionTree, CoreUnitTree}
-use Rattle.qs_core.specs.Sizes.{held_in_all}
+use Rattle.qs_core.specs.Sizes.{held_in_all, most_arguments_in}
 use Rattle.qs_core.specs.Fits.{function_fits, unit_fits}
 use Rattle.qs_core.proofs.FitLaws.{function_parts, unit_parts}
 use Rattle.qs_meaning.specs.Typed.{Function, TypedProgram}
@@ -24,8 +25,7 @@ use Rattle.qs_elaborate_laws.proofs.CountedUnits.{unit_counted, source_words_are
 use Rattle.qs_elaborate_laws.proofs.FitCore.{units_have_cores}
 use Rattle.qs_elaborate_limits.specs.Laws.{nesting_limit, FunctionsAreFew, ParametersAreFew, ArgumentsAreFew, CodeIsSmall, HeldValuesAreFew, StatementsNestLittle}
 use Rattle.qs_core.specs.Nesting.{functions_nesting}
-use Rattle.qs_elaborate_limits.specs.Measures.{arguments_in_all}
-use Rattle.qs_elaborate_limits.proofs.SourceHeights.{highest}
+use Rattle.qs_elaborate_limits.specs.Measures.{highest}
 use Rattle.qs_elaborate_limits.proofs.NumberedHeights.{read_units_are_low}
 use Rattle.qs_elaborate_limits.proofs.UnitHeights.{typed_units_are_low}
 use Rattle.qs_elaborate_limits.proofs.MostHeld.{most_in_all, core_parameters, calls_few, body_few, body_arguments}
@@ -81,37 +81,37 @@ pub all_below : {A : Type 0} (of : A → ℕ) (n : ℕ) (xs : List A) → highes
 all_below of n [] h = All-nil (λ x. of x ≤ n)
 all_below of n (x ∷ xs) h = All-cons (λ x. of x ≤ n) x xs (omega arith) (all_below of n xs (omega arith))
 
-most_parameters : (unit : UnitTree) (core : CoreUnitTree) → IsRead unit → IsWithinLimits unit → (m : Made unit core) → highest core_parameters core.functions ≤ parameter_limit
-most_parameters unit core read limits m =
+parameters_below : (unit : UnitTree) (core : CoreUnitTree) → IsRead unit → IsWithinLimits unit → (m : Made unit core) → highest core_parameters core.functions ≤ most_parameters
+parameters_below unit core read limits m =
     let typed = typed_units_are_low unit m.typed m.tree in
     let cores = functions_few (names_in unit) m.typed.functions in
     let count = (keeps_limits unit read limits).parameters in
-    subst (λ fs. highest core_parameters fs ≤ parameter_limit) (functions_are unit core m) (omega (arith, typed.parameters, cores.parameters, count))
+    subst (λ fs. highest core_parameters fs ≤ most_parameters) (functions_are unit core m) (omega (arith, typed.parameters, cores.parameters, count))
 
 pub parameters_are_few : ParametersAreFew
-parameters_are_few unit core read well limits q = all_below core_parameters parameter_limit core.functions (most_parameters unit core read limits (made unit core q))
+parameters_are_few unit core read well limits q = all_below core_parameters most_parameters core.functions (parameters_below unit core read limits (made unit core q))
 
 -- each argument but the last waits for the others
 abbrev waiting_limit : ℕ
-waiting_limit = parameter_limit - 1
+waiting_limit = most_parameters - 1
 
 all_arguments :
-    (u : CoreUnitTree) → highest core_parameters u.functions ≤ parameter_limit
-    → (fs : List CoreFunctionTree) → list_all (function_fits u) fs ≡ true → All (λ f. arguments_in_all f.body ≤ parameter_limit) fs
-all_arguments u most [] fit = All-nil (λ f. arguments_in_all f.body ≤ parameter_limit)
+    (u : CoreUnitTree) → highest core_parameters u.functions ≤ most_parameters
+    → (fs : List CoreFunctionTree) → list_all (function_fits u) fs ≡ true → All (λ f. most_arguments_in f.body ≤ most_parameters) fs
+all_arguments u most [] fit = All-nil (λ f. most_arguments_in f.body ≤ most_parameters)
 all_arguments u most (f ∷ fs) fit =
     let two = and_parts (function_fits u f) (list_all (function_fits u) fs) fit in
     let h = body_arguments u waiting_limit (calls_few u waiting_limit most) f false false f.body (function_parts u f two.0).body in
-    All-cons (λ f. arguments_in_all f.body ≤ parameter_limit) f fs (omega arith) (all_arguments u most fs two.1)
+    All-cons (λ f. most_arguments_in f.body ≤ most_parameters) f fs (omega arith) (all_arguments u most fs two.1)
 
 pub arguments_are_few : ArgumentsAreFew
 arguments_are_few unit core read well limits q =
-    all_arguments core (most_parameters unit core read limits (made unit core q)) core.functions (unit_parts core (core_fits unit core read well limits q)).functions
+    all_arguments core (parameters_below unit core read limits (made unit core q)) core.functions (unit_parts core (core_fits unit core read well limits q)).functions
 
 -- ---- values that hold parts of expressions
 
 all_held_few :
-    (u : CoreUnitTree) (n : ℕ) → highest core_parameters u.functions ≤ parameter_limit
+    (u : CoreUnitTree) (n : ℕ) → highest core_parameters u.functions ≤ most_parameters
     → (fs : List CoreFunctionTree) → list_all (function_fits u) fs ≡ true → highest (λ f. most_in_all f.body) fs ≤ n
     → All (λ f. held_in_all f.body ≤ n + waiting_limit) fs
 all_held_few u n most [] fit low = All-nil (λ f. held_in_all f.body ≤ n + waiting_limit)
@@ -126,7 +126,7 @@ held_values_are_few unit core read well limits q =
     let typed = typed_units_are_low unit m.typed m.tree in
     let cores = functions_few (names_in unit) m.typed.functions in
     let height = read_units_are_low unit read in
-    all_held_few core (1 + height_limit) (most_parameters unit core read limits m)
+    all_held_few core (1 + height_limit) (parameters_below unit core read limits m)
     core.functions (unit_parts core (core_fits unit core read well limits q)).functions
     (subst (λ fs. highest (λ f. most_in_all f.body) fs ≤ 1 + height_limit) (functions_are unit core m) (omega (arith, typed.bodies, cores.bodies, height)))
 

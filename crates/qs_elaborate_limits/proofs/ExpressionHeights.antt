@@ -15,7 +15,8 @@ use Rattle.qs_meaning.specs.Forms.{Form, lvalue, TypedExpr}
 use Rattle.qs_meaning.specs.Names.{Scope, Locals, local_lvalue, place_among, entity_lvalue, designated}
 use Rattle.qs_meaning.specs.Expressions.{arguments_of, call_form, typed, form_of, all_typed}
 use Rattle.qs_meaning.proofs.Options.{nothing}
-use Rattle.qs_elaborate_limits.proofs.SourceHeights.{highest, expr_height, shape_height, exprs_height}
+use Rattle.qs_elaborate_limits.specs.Measures.{highest}
+use Rattle.qs_elaborate_limits.proofs.SourceHeights.{expr_height, shape_height, exprs_height}
 use Rattle.qs_elaborate_limits.proofs.TypedHeights.{lvalue_height, arguments_height}
 use Rattle.qs_elaborate_limits.proofs.FormHeights.{form_height, height_in_use, form_as, value_in_use_low, subscript_low, binary_low, unary_low, member_low, size_low, cast_low, conditional_low, comma_low, step_low, assign_low}
 

@@ -1,6 +1,7 @@
 -- Frames are no larger than the caps of their functions.
 use Rattle.std.proofs.Common.{◌≡◌, ◌≤◌, ℕ, ◌+◌, ◌*◌, true, List, [], ◌∷◌, ◌++◌, map, length, Option, Some, None, is_some, refl, sym, ap, ◌∙◌, subst, arith}
 use Rattle.std.specs.List.{list_all}
+use Rattle.qs_base.specs.Parameters.{stack_arguments}
 use Rattle.std.proofs.lemmas.List.{map-append}
 use Rattle.std.specs.Cmp.{first_so, second_so}
 use Rattle.std.proofs.lemmas.Option.{same_Some}
@@ -12,7 +13,7 @@ use Rattle.qs_types.specs.Rules.{faults_of}
 use Rattle.qs_types.specs.Limits.{placed_bytes}
 use Rattle.qs_types.specs.Placed.{Local, addressed_in, statements_locals}
 use Rattle.qs_types.specs.UnitRules.{parameter_types, header_tests, parameters_faults, body_context, body_faults, after_declaration, declaration_faults, declarations_faults}
-use Rattle.qs_core.specs.Sizes.{values}
+use Rattle.qs_core.specs.Sizes.{values, most_passed}
 use Rattle.qs_meaning.specs.Typed.{Function, TypedProgram}
 use Rattle.qs_meaning.specs.Names.{Scope, within}
 use Rattle.qs_meaning.specs.Statements.{statements_typed}
@@ -31,16 +32,20 @@ use Rattle.qs_elaborate_bodies.specs.Names.{FunctionNames, names_in}
 use Rattle.qs_elaborate_bodies.specs.Units.{function_core, no_names, functions_core}
 use Rattle.qs_elaborate_laws.proofs.SizeFunctions.{values_are_few}
 use Rattle.qs_elaborate_laws.proofs.CountedParts.{statements_parts}
-use Rattle.qs_elaborate_limits.specs.Caps.{frame_size, variable_count, cap, body_cap, caps_from, caps, needed, EachBelow}
+use Rattle.qs_elaborate_limits.specs.Caps.{frame_size, variable_count, passed_in, cap, body_cap, caps_from, caps, needed, EachBelow}
 use Rattle.qs_elaborate_limits.specs.Measures.{bytes_in_words}
+use Rattle.qs_elaborate_limits.specs.Arguments.{stmts_arguments}
 use Rattle.qs_elaborate_limits.specs.Laws.{CapsAreKept}
+use Rattle.qs_elaborate_limits.proofs.TypedArguments.{statements_arguments}
+use Rattle.qs_elaborate_limits.proofs.StatementArguments.{statements_few}
+use Rattle.qs_elaborate_limits.proofs.CoreArguments.{body_few}
 use Rattle.qs_elaborate_limits.proofs.PlacedBytes.{blocks_are}
 use Rattle.qs_elaborate_limits.proofs.CoreUnits.{made, functions_are}
 
 -- ---- sizes of frames
 
-larger_frame : (bytes values more : ℕ) → values ≤ more → frame_size bytes values ≤ frame_size bytes more
-larger_frame bytes values more h = omega arith
+larger_frame : (bytes words more : ℕ) → words ≤ more → frame_size bytes words ≤ frame_size bytes more
+larger_frame bytes words more h = omega arith
 
 below_both : (ns ms ks ls : List ℕ) → EachBelow ns ms → EachBelow ks ls → EachBelow (ns ++ ks) (ms ++ ls)
 below_both [] [] ks ls h k = k
@@ -60,11 +65,18 @@ below_through (n ∷ ns) (m ∷ ms) (l ∷ ls) h k = (through h.0 k.0, below_thr
 
 -- ---- what a function needs, by its typed tree
 
+abbrev typed_passed : Function → ℕ
+typed_passed g = stack_arguments (statements_arguments g.body)
+
 abbrev typed_need : Function → ℕ
-typed_need g = frame_size (bytes_in_words g.blocks) (length g.variables + 2 * expressions_in g)
+typed_need g = frame_size (bytes_in_words g.blocks) (length g.variables + 2 * expressions_in g + typed_passed g)
 
 core_need : (names : FunctionNames) (g : Function) → needed (function_core names g) ≤ typed_need g
-core_need names g = larger_frame (bytes_in_words g.blocks) (values (function_core names g)) (length g.variables + 2 * expressions_in g) (values_are_few names g)
+core_need names g =
+    let v = values_are_few names g in
+    let a = body_few names g in
+    larger_frame (bytes_in_words g.blocks) (values (function_core names g) + most_passed (function_core names g))
+    (length g.variables + 2 * expressions_in g + typed_passed g) (omega (arith, v, a))
 
 cores_need : (names : List FunctionNames) (gs : List Function) → EachBelow (map needed (functions_core names gs)) (map typed_need gs)
 cores_need names [] = tt
@@ -99,14 +111,16 @@ function_capped s table named f (Some body) gs filled faults q =
     let vars = sym (ap (λ (g : Function). length g.variables) is) ∙ scalars_length (variables_among addressed ps ls) y.value y.first in
     let parts = statements_parts body (in_body s f (locals_of addressed ps ls)) w.value faults w.first in
     let most = subst (λ (g : Function). expressions_in g ≤ stmts_expressions body) is parts in
+    let arguments = statements_few body (in_body s f (locals_of addressed ps ls)) w.value w.first in
+    let few = subst (λ (g : Function). statements_arguments g.body ≤ stmts_arguments body) is arguments in
     subst (λ z. EachBelow (map typed_need z) (cap s.context f body ∷ [])) (same_Some _ gs g.then) (
       capped (bytes_in_words g.value.blocks) (placed_bytes s.context f body) (length g.value.variables) (variable_count s.context f body)
-          (expressions_in g.value) (stmts_expressions body) bytes vars most,
+          (expressions_in g.value) (stmts_expressions body) (typed_passed g.value) (passed_in body) bytes vars most (omega (arith, few)),
       tt,
     )
   where
-    capped : (b p v w e m : ℕ) → b ≡ p → v ≡ w → e ≤ m → frame_size b (v + 2 * e) ≤ frame_size p (w + 2 * m)
-    capped b p v w e m i j k = omega arith
+    capped : (b p v w e m a n : ℕ) → b ≡ p → v ≡ w → e ≤ m → a ≤ n → frame_size b (v + 2 * e + a) ≤ frame_size p (w + 2 * m + n)
+    capped b p v w e m a n i j k l = omega (arith, i, j, k, l)
 
 -- ---- units
 

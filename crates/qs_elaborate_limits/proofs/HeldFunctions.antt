@@ -12,7 +12,7 @@ use Rattle.qs_elaborate_bodies.specs.Names.{FunctionNames}
 use Rattle.qs_elaborate_bodies.specs.Units.{end_of_body, body_core, function_core, no_names, functions_core}
 use Rattle.qs_elaborate_laws.proofs.SizeFacts.{converted_below}
 use Rattle.qs_elaborate_laws.proofs.WordFunctions.{named_length}
-use Rattle.qs_elaborate_limits.proofs.SourceHeights.{highest}
+use Rattle.qs_elaborate_limits.specs.Measures.{highest}
 use Rattle.qs_elaborate_limits.proofs.TypedHeights.{height, statement_height, statements_height}
 use Rattle.qs_elaborate_limits.proofs.UnitHeights.{body_height, parameters_of}
 use Rattle.qs_elaborate_limits.proofs.MostHeld.{most_in_all, list_most, most-append, most_one, core_parameters}

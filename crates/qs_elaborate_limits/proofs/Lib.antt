@@ -6,6 +6,11 @@ mod FormHeights
 mod ExpressionHeights
 mod StatementHeights
 mod UnitHeights
+mod TypedArguments
+mod FormArguments
+mod ExpressionArguments
+mod StatementArguments
+mod CoreArguments
 mod MostHeld
 mod HeldParts
 mod HeldExpressions
@@ -15,6 +20,7 @@ mod FewNames
 pub mod CoreUnits
 mod GivenValues
 pub mod MainReturns
+pub mod MainParameters
 mod PlacedBytes
 mod DataBytes
 pub mod CoreBytes

@@ -201,14 +201,14 @@ root_leaves functions n zero root g at is gives xs w = λ end e. absurd (not_sho
 root_leaves functions n (suc depth) root g at is gives xs w = call_leaves functions n depth root (slice_get functions root) g at is gives xs w
 
 -- main is the first function that is marked
-record IsMain (gs : List Function) (k m : ℕ) : Type 0 where
-  number : ℕ
-  place : m ≡ k + number
-  main : Function
-  there : slice_get gs number ≡ Some main
-  marked : main.is_main ≡ true
+pub record IsMain (gs : List Function) (k m : ℕ) : Type 0 where
+  pub number : ℕ
+  pub place : m ≡ k + number
+  pub main : Function
+  pub there : slice_get gs number ≡ Some main
+  pub marked : main.is_main ≡ true
 
-main_at : (k m : ℕ) (gs : List Function) → main_from k gs ≡ Some m → IsMain gs k m
+pub main_at : (k m : ℕ) (gs : List Function) → main_from k gs ≡ Some m → IsMain gs k m
 main_at k m [] h = nothing m h
 main_at k m (g ∷ gs) h = by g.is_main refl h (main_at (k + 1) m gs)
   where
@@ -225,7 +225,7 @@ gives_at [] k g all at = nothing g at
 gives_at (f ∷ gs) zero g all at = subst GivesIfMain (same_Some f g at) (all 0 f (omega arith))
 gives_at (f ∷ gs) (suc k) g all at = gives_at gs k g (λ i h lt. all (suc i) h (omega arith)) at
 
-at_place : (gs : List Function) (m number : ℕ) (g : Function) → m ≡ 0 + number → slice_get gs number ≡ Some g → slice_get gs m ≡ Some g
+pub at_place : (gs : List Function) (m number : ℕ) (g : Function) → m ≡ 0 + number → slice_get gs number ≡ Some g → slice_get gs m ≡ Some g
 at_place gs m number g e h = subst (λ k. slice_get gs k ≡ Some g) (number_is m number e) h
   where
     number_is : (m number : ℕ) → m ≡ 0 + number → number ≡ m

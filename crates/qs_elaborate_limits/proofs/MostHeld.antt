@@ -13,12 +13,11 @@ use Rattle.qs_memory.specs.Scalars.{same_scalars}
 use Rattle.qs_memory.proofs.ScalarLaws.{scalars_same}
 use Rattle.qs_core.specs.Interfaces.{types_of, signature, interface_of}
 use Rattle.qs_core.specs.Fits.{expr_fits, exprs_fit, destination_fits, call_fits, stmt_fits, stmts_fit}
-use Rattle.qs_core.specs.Sizes.{held, all_held, option_held, held_in, held_in_all}
+use Rattle.qs_core.specs.Sizes.{held, all_held, option_held, held_in, held_in_all, most_arguments, most_arguments_in}
 use Rattle.qs_elaborate_bodies.specs.Parts.{one_statement}
 use Rattle.qs_elaborate_laws.proofs.SizeFacts.{own_small, own_held, parts_small}
 use Rattle.qs_meaning.proofs.Options.{never, nothing}
-use Rattle.qs_elaborate_limits.specs.Measures.{arguments_in, arguments_in_all}
-use Rattle.qs_elaborate_limits.proofs.SourceHeights.{highest}
+use Rattle.qs_elaborate_limits.specs.Measures.{highest}
 
 abbrev pub most_held : List CoreExprTree → ℕ
 most_held [] = 0
@@ -133,7 +132,7 @@ call_arguments k f x (Some s) es few h =
 
 module _ (u : CoreUnitTree) (k : ℕ) (few : (g : Callee) → TakesFew k (signature_of (interface_of u) g)) (f : CoreFunctionTree) where
   mutual
-    statement_arguments : (b c : Bool) (s : CoreStmtTree) → stmt_fits u f b c s ≡ true → arguments_in s ≤ k + 1
+    statement_arguments : (b c : Bool) (s : CoreStmtTree) → stmt_fits u f b c s ≡ true → most_arguments s ≤ k + 1
     statement_arguments b c skip h = omega arith
     statement_arguments b c (seq ss) h = body_arguments b c ss h
     statement_arguments b c (assign x e) h = omega arith
@@ -157,7 +156,7 @@ module _ (u : CoreUnitTree) (k : ℕ) (few : (g : Callee) → TakesFew k (signat
     statement_arguments b c continue h = omega arith
     statement_arguments b c (return e) h = omega arith
 
-    pub body_arguments : (b c : Bool) (ss : CoreStmts) → stmts_fit u f b c ss ≡ true → arguments_in_all ss ≤ k + 1
+    pub body_arguments : (b c : Bool) (ss : CoreStmts) → stmts_fit u f b c ss ≡ true → most_arguments_in ss ≤ k + 1
     body_arguments b c no_stmts h = omega arith
     body_arguments b c (stmt_and s ss) h =
         let two = and_parts (stmt_fits u f b c s) (stmts_fit u f b c ss) h in
@@ -170,7 +169,7 @@ module _ (u : CoreUnitTree) (k : ℕ) (few : (g : Callee) → TakesFew k (signat
 abbrev pub core_parameters : CoreFunctionTree → ℕ
 core_parameters f = length f.parameters
 
-types_few : (ps : List CoreParameterTree) (vs : List CoreVariableTree) → length (types_of ps vs) ≤ length ps
+pub types_few : (ps : List CoreParameterTree) (vs : List CoreVariableTree) → length (types_of ps vs) ≤ length ps
 types_few [] vs = omega arith
 types_few (p ∷ ps) [] = omega arith
 types_few (p ∷ ps) (v ∷ vs) = let h = types_few ps vs in omega arith

@@ -17,7 +17,7 @@ use Rattle.qs_elaborate_bodies.specs.Statements.{tested, guarded, looped, labels
 use Rattle.qs_elaborate_bodies.specs.Names.{FunctionNames}
 use Rattle.qs_elaborate_bodies.specs.Units.{end_of_body, body_core, function_core, no_names, functions_core}
 use Rattle.qs_meaning.specs.Typed.{unchanged}
-use Rattle.qs_elaborate_limits.proofs.SourceHeights.{highest}
+use Rattle.qs_elaborate_limits.specs.Measures.{highest}
 use Rattle.qs_elaborate_limits.proofs.TypedHeights.{height, lvalue_height, arguments_height, assignment_height, effect_height, statement_height, statements_height}
 use Rattle.qs_elaborate_limits.proofs.UnitHeights.{body_height}
 

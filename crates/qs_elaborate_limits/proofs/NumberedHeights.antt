@@ -6,7 +6,8 @@ use Rattle.qs_syntax.specs.Trees.{ExprTree, expr, ShapeTree, constant, text, nam
 use Rattle.qs_syntax.specs.Nodes.{all_count, option_count, expr_count, declarator_count, initialiser_count, variable_count, parameter_count, start_count, stmt_count, decl_count}
 use Rattle.qs_syntax.specs.Numbering.{Relabelling, relabel_all, relabel_option, relabel_expr, relabel_shape, relabel_exprs, relabel_initialiser, relabel_initialisers, relabel_variable, relabel_declaration, relabel_start, relabel_stmt, relabel_stmts, relabel_else, relabel_decl, relabel_unit, numbered}
 use Rattle.qs_syntax.specs.Units.{height_limit, Reading, IsRead}
-use Rattle.qs_elaborate_limits.proofs.SourceHeights.{highest, option_height, expr_height, shape_height, exprs_height, initialiser_height, initialisers_height, variable_height, declaration_height, start_height, stmt_height, stmts_height, else_height, decl_height, unit_height}
+use Rattle.qs_elaborate_limits.specs.Measures.{highest, option_highest}
+use Rattle.qs_elaborate_limits.proofs.SourceHeights.{expr_height, shape_height, exprs_height, initialiser_height, initialisers_height, variable_height, declaration_height, start_height, stmt_height, stmts_height, else_height, decl_height, unit_height}
 use Rattle.qs_elaborate_limits.proofs.ReadHeights.{unit_low}
 
 module _ {A : Type 0} (f : Relabelling) (count height : A → ℕ) (relabel : ℕ → A → A) (keeps : (n : ℕ) (x : A) → height (relabel n x) ≡ height x) where
@@ -15,7 +16,7 @@ module _ {A : Type 0} (f : Relabelling) (count height : A → ℕ) (relabel : �
   all_keeps n (x ∷ xs) = rw (keeps n x, all_keeps (f.onward n (count x)) xs) refl
 
 module _ {A : Type 0} (height : A → ℕ) (relabel : ℕ → A → A) (keeps : (n : ℕ) (x : A) → height (relabel n x) ≡ height x) where
-  option_keeps : (n : ℕ) (o : Option A) → option_height height (relabel_option relabel n o) ≡ option_height height o
+  option_keeps : (n : ℕ) (o : Option A) → option_highest height (relabel_option relabel n o) ≡ option_highest height o
   option_keeps n None = refl
   option_keeps n (Some x) = keeps n x
 
@@ -65,7 +66,7 @@ module _ (f : Relabelling) where
   start_keeps n (start_expression e) = expr_keeps n e
   start_keeps n (start_declaration d) = declaration_keeps n d
 
-  maybe_keeps : (n : ℕ) (o : Option ExprTree) → option_height expr_height (relabel_option (relabel_expr f) n o) ≡ option_height expr_height o
+  maybe_keeps : (n : ℕ) (o : Option ExprTree) → option_highest expr_height (relabel_option (relabel_expr f) n o) ≡ option_highest expr_height o
   maybe_keeps n o = option_keeps expr_height (relabel_expr f) expr_keeps n o
 
   mutual

@@ -30,8 +30,7 @@ use Rattle.qs_meaning.proofs.FitFunctions.{parameters_small, with_parameters_nam
 use Rattle.qs_meaning.proofs.FitSignatures.{file_after}
 use Rattle.qs_meaning.proofs.FitBlocks.{table_after, start_small, named_after, start_named}
 use Rattle.qs_meaning.proofs.DeclaredSizes.{declared_size}
-use Rattle.qs_elaborate_limits.specs.Measures.{bytes_in_words}
-use Rattle.qs_elaborate_limits.proofs.SourceHeights.{highest}
+use Rattle.qs_elaborate_limits.specs.Measures.{highest, bytes_in_words}
 use Rattle.qs_elaborate_limits.proofs.UnitHeights.{highest_joined}
 
 -- ---- the sizes of locals

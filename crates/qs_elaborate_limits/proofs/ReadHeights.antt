@@ -7,7 +7,8 @@ use Rattle.qs_syntax.specs.ReadsDeclarations.{ReadsInitialiser, a_value, a_list,
 use Rattle.qs_syntax.specs.ReadsStatements.{ReadsOptional, nothing_there, something_there, ReadsStart, a_start_declaration, a_start_expression, no_start_at_all, ReadsStatement, a_block, an_empty, an_expression, an_if, an_if_with_else, a_while, a_do, a_for, a_switch, a_break, a_continue, a_return, ReadsItem, a_statement, a_declared, ReadsItems, no_item, an_item, ReadsSwitchBlock, in_braces, ReadsSwitchItem, a_label, a_switch_statement, a_switch_declaration, ReadsSwitchItems, no_switch_item, a_switch_item, ReadsLabel, a_case, a_default}
 use Rattle.qs_syntax_vocabulary.specs.Marks.{NameSet}
 use Rattle.qs_syntax.specs.ReadsUnits.{ReadsPlain, a_struct_with_members, a_forward, a_header, a_definition, some_variables, ReadsExternal, a_plain_external, a_typedef, ReadsExternals, a_last_external, an_external}
-use Rattle.qs_elaborate_limits.proofs.SourceHeights.{highest, option_height, expr_height, exprs_height, initialiser_height, initialisers_height, variable_height, declaration_height, start_height, stmt_height, stmts_height, decl_height, unit_height}
+use Rattle.qs_elaborate_limits.specs.Measures.{highest, option_highest}
+use Rattle.qs_elaborate_limits.proofs.SourceHeights.{expr_height, exprs_height, initialiser_height, initialisers_height, variable_height, declaration_height, start_height, stmt_height, stmts_height, decl_height, unit_height}
 
 -- ---- expressions
 
@@ -69,7 +70,7 @@ declaration_low (a_declaration s t r) = variables_low r
 
 -- ---- statements
 
-optional_low : {h : ℕ} {ts : List Terminal} {e : Option ExprTree} → ReadsOptional h ts e → option_height expr_height e ≤ h
+optional_low : {h : ℕ} {ts : List Terminal} {e : Option ExprTree} → ReadsOptional h ts e → option_highest expr_height e ≤ h
 optional_low nothing_there = omega arith
 optional_low (something_there r) = expr_low r
 

@@ -1,15 +1,8 @@
 -- How high the expressions are that a tree of the source evaluates, and the statements that choose or repeat: such a node is 1 higher
 -- than its highest part. Other statements and lists are as high as the highest thing in them.
-use Rattle.std.specs.Prelude.{ℕ, ◌+◌, max, List, [], ◌∷◌, Option, Some, None}
+use Rattle.std.specs.Prelude.{ℕ, ◌+◌, max}
+use Rattle.qs_elaborate_limits.specs.Measures.{highest, option_highest}
 use Rattle.qs_syntax.specs.Trees.{ExprTree, expr, ShapeTree, constant, text, name, unary, step, cast, sizeof_type, sizeof_expr, binary, assign, conditional, comma, subscript, member, call, Exprs, no_exprs, expr_and, InitialiserTree, value, list, Initialisers, no_initialisers, initialiser_and, VariableTree, DeclarationTree, StartTree, no_start, start_expression, start_declaration, StmtTree, empty, expression, declaration, block, switch, case_label, default_label, branch, while_loop, do_loop, for_loop, break, continue, return, Stmts, no_stmts, stmt_and, Else, no_else, else_by, DeclTree, structure, forward, function, variables, UnitTree, typedef}
-
-abbrev pub highest : {A : Type 0} → (A → ℕ) → List A → ℕ
-highest height [] = 0
-highest height (x ∷ xs) = max (height x) (highest height xs)
-
-abbrev pub option_height : {A : Type 0} → (A → ℕ) → Option A → ℕ
-option_height height None = 0
-option_height height (Some x) = height x
 
 -- ---- expressions
 
@@ -50,7 +43,7 @@ abbrev mutual
   initialisers_height (initialiser_and i is) = max (initialiser_height i) (initialisers_height is)
 
 abbrev pub variable_height : VariableTree → ℕ
-variable_height v = option_height initialiser_height v.initialiser
+variable_height v = option_highest initialiser_height v.initialiser
 
 abbrev pub declaration_height : DeclarationTree → ℕ
 declaration_height d = highest variable_height d.variables
@@ -75,10 +68,10 @@ abbrev mutual
   stmt_height (while_loop node e s) = 1 + max (expr_height e) (stmt_height s)
   stmt_height (do_loop node s e) = 1 + max (stmt_height s) (expr_height e)
   stmt_height (for_loop node a e u s) =
-      1 + max (start_height a) (max (option_height expr_height e) (max (option_height expr_height u) (stmt_height s)))
+      1 + max (start_height a) (max (option_highest expr_height e) (max (option_highest expr_height u) (stmt_height s)))
   stmt_height (break node) = 0
   stmt_height (continue node) = 0
-  stmt_height (return node e) = option_height expr_height e
+  stmt_height (return node e) = option_highest expr_height e
 
   pub stmts_height : Stmts → ℕ
   stmts_height no_stmts = 0
@@ -94,7 +87,7 @@ abbrev pub decl_height : DeclTree → ℕ
 decl_height (structure s) = 0
 decl_height (forward f) = 0
 decl_height (typedef f) = 0
-decl_height (function f) = option_height stmts_height f.body
+decl_height (function f) = option_highest stmts_height f.body
 decl_height (variables d) = 0
 
 abbrev pub unit_height : UnitTree → ℕ

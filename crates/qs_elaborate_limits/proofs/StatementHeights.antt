@@ -18,7 +18,8 @@ use Rattle.qs_meaning.specs.Expressions.{typed, plain_form}
 use Rattle.qs_meaning.specs.Blanks.{blank_of}
 use Rattle.qs_meaning.specs.Initialisers.{part_offset, Piece, pieces, pieces_from, text_set, assigned_set, piece_set, pieces_set, object_set, local_set}
 use Rattle.qs_meaning.specs.Statements.{initialised, behind_variable, variable_typed, variables_typed, effect_typed, option_effect, condition_typed, option_condition, start_typed, return_typed, inner, in_switch, loop_body, in_for, statement_typed, statements_typed, else_typed}
-use Rattle.qs_elaborate_limits.proofs.SourceHeights.{highest, option_height, expr_height, initialiser_height, initialisers_height, variable_height, start_height, stmt_height, stmts_height, else_height}
+use Rattle.qs_elaborate_limits.specs.Measures.{highest, option_highest}
+use Rattle.qs_elaborate_limits.proofs.SourceHeights.{expr_height, initialiser_height, initialisers_height, variable_height, start_height, stmt_height, stmts_height, else_height}
 use Rattle.qs_elaborate_limits.proofs.TypedHeights.{height, effect_height, condition_height, statement_height, statements_height}
 use Rattle.qs_elaborate_limits.proofs.FormHeights.{height_in_use, value_in_use_low, effect_low, effect_in_use_low, address_low, plain_low}
 use Rattle.qs_elaborate_limits.proofs.ExpressionHeights.{local_low, expression_low}
@@ -128,7 +129,7 @@ module _ (s : Scope) where
 
 initialised_low :
     (s : Scope) (node : ℕ) (t : TypeTree) (init : Option InitialiserTree) (set : Effect) → initialised s node t init ≡ Some set
-    → effect_height set ≤ option_height initialiser_height init
+    → effect_height set ≤ option_highest initialiser_height init
 initialised_low s node t None set q = effect_as 0 _ set q (omega arith)
 initialised_low s node t (Some init) set q =
     local_set_low s (record { type = t; form = lvalue (local_lvalue s.locals node) }) init set (local_low s.locals node) q
@@ -153,7 +154,7 @@ effect_typed_low s e set q =
     let i = effect_in_use_low a.value in
     effect_as (expr_height e) _ set a.then (omega arith)
 
-option_effect_low : (s : Scope) (e : Option ExprTree) (set : Effect) → option_effect s e ≡ Some set → effect_height set ≤ option_height expr_height e
+option_effect_low : (s : Scope) (e : Option ExprTree) (set : Effect) → option_effect s e ≡ Some set → effect_height set ≤ option_highest expr_height e
 option_effect_low s None set q = effect_as 0 _ set q (omega arith)
 option_effect_low s (Some e) set q = effect_typed_low s e set q
 
@@ -165,13 +166,13 @@ condition_low s e x q =
     value_as (expr_height e) _ x a.then (omega arith)
 
 option_condition_low :
-    (s : Scope) (e : Option ExprTree) (x : Option Expr) → option_condition s e ≡ Some x → condition_height x ≤ option_height expr_height e
+    (s : Scope) (e : Option ExprTree) (x : Option Expr) → option_condition s e ≡ Some x → condition_height x ≤ option_highest expr_height e
 option_condition_low s None x q = subst (λ z. condition_height z ≤ 0) (same_Some _ x q) (omega arith)
 option_condition_low s (Some e) x q =
     let y = followed (condition_typed s e) _ x q in
     subst (λ z. condition_height z ≤ expr_height e) (same_Some _ x y.then) (condition_low s e y.value y.first)
 
-return_low : (s : Scope) (e : Option ExprTree) (a : Stmt) → return_typed s e ≡ Some a → statement_height a ≤ option_height expr_height e
+return_low : (s : Scope) (e : Option ExprTree) (a : Stmt) → return_typed s e ≡ Some a → statement_height a ≤ option_highest expr_height e
 return_low s None a q = statement_as 0 _ a q (omega arith)
 return_low s (Some e) a q =
     let t = followed s.context.result _ a q in
@@ -238,7 +239,7 @@ mutual
       let i = option_condition_low behind e x.value x.first in
       let j = option_effect_low behind u y.value y.first in
       let k = statement_low t (loop_body behind) z.value z.first in
-      statement_as (1 + max (start_height start) (max (option_height expr_height e) (max (option_height expr_height u) (stmt_height t)))) _ a z.then (omega arith)
+      statement_as (1 + max (start_height start) (max (option_highest expr_height e) (max (option_highest expr_height u) (stmt_height t)))) _ a z.then (omega arith)
   statement_low (break node) s a q = statement_as 0 _ a q (omega arith)
   statement_low (continue node) s a q = statement_as 0 _ a q (omega arith)
   statement_low (return node e) s a q = return_low s e a q

@@ -25,7 +25,7 @@ use Rattle.qs_elaborate_bodies.specs.Units.{no_names, functions_core}
 use Rattle.qs_elaborate_laws.proofs.SizeFunctions.{values_are_few}
 use Rattle.qs_elaborate_laws.proofs.CountedParts.{statements_parts}
 use Rattle.qs_elaborate_limits.specs.Laws.{value_limit, ValuesAreLimited}
-use Rattle.qs_elaborate_limits.proofs.SourceHeights.{highest}
+use Rattle.qs_elaborate_limits.specs.Measures.{highest}
 use Rattle.qs_elaborate_limits.proofs.UnitHeights.{highest_joined}
 use Rattle.qs_elaborate_limits.proofs.CoreUnits.{made, functions_are, all_below}
 use Rattle.qs_elaborate_limits.proofs.FrameCaps.{scalars_length}

@@ -1,19 +1,21 @@
 -- What is promised of the core of a unit that is read from tokens, is well typed and is within the limits: it is within limits of its own.
 use Rattle.std.specs.Prelude.{◌≡◌, ◌≢◌, ◌≤◌, ℕ, ◌+◌, ◌*◌, List, Some, None, All, length, map}
+use Rattle.qs_base.specs.Parameters.{most_main_parameters, most_parameters}
 use Rattle.qs_syntax.specs.Trees.{UnitTree}
 use Rattle.qs_syntax.specs.Units.{height_limit, IsRead}
 use Rattle.qs_memory.specs.Values.{Value}
 use Rattle.qs_memory.specs.Memory.{Memory}
 use Rattle.qs_events.specs.Runs.{Left, has_ended, ending_of}
-use Rattle.qs_types.specs.Limits.{node_limit, function_limit, parameter_limit, global_limit, local_limit, IsWithinLimits}
+use Rattle.qs_types.specs.Limits.{node_limit, function_limit, global_limit, local_limit, IsWithinLimits}
 use Rattle.qs_types.specs.WellTyped.{WellTyped}
 use Rattle.qs_core.specs.Trees.{CoreUnitTree}
 use Rattle.qs_core.specs.Units.{main_run}
-use Rattle.qs_core.specs.Sizes.{held_in_all, values, unit_words}
+use Rattle.qs_core.specs.Interfaces.{main_types}
+use Rattle.qs_core.specs.Sizes.{held_in_all, values, most_arguments_in, unit_words}
 use Rattle.qs_core.specs.Nesting.{unit_nesting}
 use Rattle.qs_elaborate_bodies.specs.Units.{core_of}
 use Rattle.qs_elaborate_limits.specs.Caps.{caps, needed, EachBelow}
-use Rattle.qs_elaborate_limits.specs.Measures.{arguments_in_all, bytes_in_words, data_end, data_size}
+use Rattle.qs_elaborate_limits.specs.Measures.{bytes_in_words, data_end, data_size}
 
 -- this holds of the core of each such unit
 abbrev pub OfEachCore : (CoreUnitTree → Type 0) → Type 0
@@ -26,10 +28,14 @@ abbrev pub FunctionsAreFew : Type 0
 FunctionsAreFew = OfEachCore (λ core. length core.functions ≤ function_limit)
 
 abbrev pub ParametersAreFew : Type 0
-ParametersAreFew = OfEachCore (λ core. All (λ f. length f.parameters ≤ parameter_limit) core.functions)
+ParametersAreFew = OfEachCore (λ core. All (λ f. length f.parameters ≤ most_parameters) core.functions)
+
+-- main is given its arguments in registers
+abbrev pub MainParametersAreFew : Type 0
+MainParametersAreFew = OfEachCore (λ core. length (main_types core) ≤ most_main_parameters)
 
 abbrev pub ArgumentsAreFew : Type 0
-ArgumentsAreFew = OfEachCore (λ core. All (λ f. arguments_in_all f.body ≤ parameter_limit) core.functions)
+ArgumentsAreFew = OfEachCore (λ core. All (λ f. most_arguments_in f.body ≤ most_parameters) core.functions)
 
 -- the words of its machine code
 abbrev pub code_limit : ℕ
@@ -42,7 +48,7 @@ CodeIsSmall = OfEachCore (λ core. unit_words core ≤ code_limit)
 
 -- one value for each level of a reading, where a left operand waits for a right one, and one for each argument of a call
 abbrev pub held_limit : ℕ
-held_limit = height_limit + parameter_limit
+held_limit = height_limit + most_parameters
 
 abbrev pub HeldValuesAreFew : Type 0
 HeldValuesAreFew = OfEachCore (λ core. All (λ f. held_in_all f.body ≤ held_limit) core.functions)

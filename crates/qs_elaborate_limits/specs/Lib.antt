@@ -1,3 +1,4 @@
 pub mod Measures
+pub mod Arguments
 pub mod Caps
 pub mod Laws

@@ -1,30 +1,18 @@
--- What is counted of a unit of core, beside its values and words: the arguments of its calls, and the bytes of its blocks.
-use Rattle.std.specs.Prelude.{ℕ, ◌+◌, max, List, [], ◌∷◌, length, sum_by}
+-- What is counted of a unit of core, beside its values, words and arguments: the bytes of its blocks.
+use Rattle.std.specs.Prelude.{ℕ, ◌+◌, max, List, [], ◌∷◌, Option, Some, None, sum_by}
 use Rattle.qs_types.specs.Layout.{rounded_up}
 use Rattle.qs_types.specs.Limits.{word_size}
-use Rattle.qs_core.specs.Trees.{CoreStmtTree, skip, seq, assign, store, copy, fill, call, branch, loop, switch, break, continue, return, CoreStmts, no_stmts, stmt_and, DataBlockTree}
+use Rattle.qs_core.specs.Trees.{DataBlockTree}
 use Rattle.qs_core.specs.Units.{data_block}
 
--- the most arguments of one call
-abbrev mutual
-  pub arguments_in : CoreStmtTree → ℕ
-  arguments_in skip = 0
-  arguments_in (seq ss) = arguments_in_all ss
-  arguments_in (assign x e) = 0
-  arguments_in (store s a b) = 0
-  arguments_in (copy size alignment a b) = 0
-  arguments_in (fill blank a) = 0
-  arguments_in (call x f es) = length es
-  arguments_in (branch e a b) = max (arguments_in a) (arguments_in b)
-  arguments_in (loop body step) = max (arguments_in body) (arguments_in step)
-  arguments_in (switch e labels ss) = arguments_in_all ss
-  arguments_in break = 0
-  arguments_in continue = 0
-  arguments_in (return e) = 0
+-- the highest number that one of these has, or 0
+abbrev pub highest : {A : Type 0} → (A → ℕ) → List A → ℕ
+highest number [] = 0
+highest number (x ∷ xs) = max (number x) (highest number xs)
 
-  pub arguments_in_all : CoreStmts → ℕ
-  arguments_in_all no_stmts = 0
-  arguments_in_all (stmt_and s ss) = max (arguments_in s) (arguments_in_all ss)
+abbrev pub option_highest : {A : Type 0} → (A → ℕ) → Option A → ℕ
+option_highest number None = 0
+option_highest number (Some x) = number x
 
 -- the bytes of the blocks of a call, each in whole words
 abbrev pub bytes_in_words : (sizes : List ℕ) → ℕ

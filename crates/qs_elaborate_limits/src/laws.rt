@@ -1,6 +1,6 @@
 // The laws of limits. Each is the contract of an empty function, and speaks of the core of a unit
 // that is read from tokens, is well typed and is within the limits.
-ghost use Rattle.qs_elaborate_limits.specs.Laws.{FunctionsAreFew, ParametersAreFew, ArgumentsAreFew};
+ghost use Rattle.qs_elaborate_limits.specs.Laws.{FunctionsAreFew, ParametersAreFew, MainParametersAreFew, ArgumentsAreFew};
 ghost use Rattle.qs_elaborate_limits.specs.Laws.{CodeIsSmall, HeldValuesAreFew, ValuesAreLimited};
 ghost use Rattle.qs_elaborate_limits.specs.Laws.{PlacedBytesAreFew, StatementsNestLittle, DataBytesAreFew};
 ghost use Rattle.qs_elaborate_limits.specs.Laws.{MainReturns, CapsAreKept};
@@ -10,12 +10,17 @@ pub fn functions_are_few()
     ensures { FunctionsAreFew }
 {}
 
-/// A function has at most 8 parameters.
+/// A function has at most 16 parameters.
 pub fn parameters_are_few()
     ensures { ParametersAreFew }
 {}
 
-/// A call has at most 8 arguments.
+/// `main` has at most 8 parameters.
+pub fn main_parameters_are_few()
+    ensures { MainParametersAreFew }
+{}
+
+/// A call has at most 16 arguments.
 pub fn arguments_are_few()
     ensures { ArgumentsAreFew }
 {}
@@ -26,8 +31,8 @@ pub fn code_is_small()
     ensures { CodeIsSmall }
 {}
 
-/// While the expressions of a body are computed, at most 136 values are held at once: 128, the
-/// greatest height of a reading, and 8, the most parameters of a function.
+/// While the expressions of a body are computed, at most 144 values are held at once: 128, the
+/// greatest height of a reading, and 16, the most parameters of a function.
 pub fn held_values_are_few()
     ensures { HeldValuesAreFew }
 {}
@@ -60,8 +65,8 @@ pub fn data_bytes_are_few()
 {}
 
 /// A function needs at most the cap of its source: the least multiple of 16 bytes that has room for
-/// a return address, its placed locals and parameters, and a word for each variable and two for
-/// each expression in its body.
+/// a return address, its placed locals and parameters, a word for each variable, two for each
+/// expression in its body, and one for each argument past the eighth of one call in it.
 pub fn caps_are_kept()
     ensures { CapsAreKept }
 {}

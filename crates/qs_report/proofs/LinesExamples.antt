@@ -213,6 +213,10 @@ image_cost = refl
 image_names : fault_line (codes "a.img") [] (Image image.Names) ≡ ended (codes "a.img: image names")
 image_names = refl
 
+image_params : fault_line (codes "a.img") [] (Image (image.Params 2)) ≡ ended (codes "a.img: image params 2")
+unfolding digits
+image_params = refl
+
 trap_overflow : fault_line [] [] (Trapped cause.Overflow 0x0001a0bc) ≡ ended (codes "trap overflow at 0x0001a0bc")
 unfolding encode_with
 trap_overflow = refl

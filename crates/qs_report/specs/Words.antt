@@ -44,7 +44,7 @@ proof_file_word proof_file.TooDeep = codes "too deep"
 proof_file_word proof_file.Duplicate = codes "duplicate"
 proof_file_word proof_file.NoSuchFunction = codes "no such function"
 
--- what is wrong with the bytes of an image; a count has the number of its word, a cost that of its record
+-- what is wrong with the bytes of an image; a count has the number of its word, a cost and parameters that of their record
 abbrev pub image_text : ImageFault → List ℕ
 image_text image.Short = codes "short"
 image_text image.Magic = codes "magic"
@@ -53,6 +53,7 @@ image_text image.Trailing = codes "trailing"
 image_text image.Entry = codes "entry"
 image_text (image.Cost number) = codes "cost " ++ decimal number
 image_text image.Names = codes "names"
+image_text (image.Params number) = codes "params " ++ decimal number
 
 -- the cause of a trap
 abbrev pub trap_word : Cause → List ℕ

@@ -97,6 +97,7 @@ fn put_image<K: Sink>(log: &mut K, file: &[u8], fault: ImageFault) -> Result<(),
         ImageFault::Entry => put_two(log, file, b": image entry"),
         ImageFault::Cost(record) => put_image_count(log, file, b"cost ", record),
         ImageFault::Names => put_two(log, file, b": image names"),
+        ImageFault::Params(record) => put_image_count(log, file, b"params ", record),
     }
 }
 

@@ -1,13 +1,13 @@
 -- The node at which each count passes its limit, at small limits and at those of the language.
-use Rattle.std.proofs.Common.{◌≡◌, ℕ, true, false, List, [], ◌∷◌, Some, None, replicate, refl}
+use Rattle.std.proofs.Common.{◌≡◌, ℕ, true, false, List, [], ◌∷◌, map, Some, None, replicate, refl}
 use Rattle.qs_syntax_vocabulary.specs.declared.operators.UnaryOperator.TheVariants as unaries
 use Rattle.qs_syntax.specs.declared.types.Base.TheVariants as bases
 use Rattle.qs_syntax.specs.Trees.{ExprTree, ParameterTree, unnumbered, UnitTree}
 use Rattle.qs_syntax.specs.Trees as trees
 use Rattle.qs_syntax.specs.Numbering.{numbered_unit}
-use Rattle.qs_types.specs.GivenFunctions.{putchar_name}
+use Rattle.qs_types.specs.GivenFunctions.{putchar_name, main_name}
 use Rattle.qs_syntax.specs.Units.{height_limit}
-use Rattle.qs_types.specs.Limits.{function_count, parameter_count, data_bytes, most_placed, node_limit, first_past_nodes, function_limit, first_past_functions, parameter_limit, first_past_parameters, first_past_globals, global_limit, first_past_locals, local_limit}
+use Rattle.qs_types.specs.Limits.{function_count, parameter_count, main_parameter_count, data_bytes, most_placed, node_limit, first_past_nodes, function_limit, first_past_functions, parameter_limit, first_past_parameters, first_past_globals, global_limit, first_past_locals, local_limit}
 use Rattle.qs_types.specs.WellTyped.{first_undefined, has_main}
 use Rattle.qs_types.proofs.RuleTrees.{e, number, a, call_f, one, many, global, local, valued, parameter, header, body, g, eval, f_name}
 
@@ -54,10 +54,10 @@ parameters = numbered_unit (header bases.Void f_name (parameter bases.Int 0 None
 most_parameters : parameter_count parameters ≡ 3
 most_parameters = refl
 
-parameters_at : first_past_parameters 3 parameters ≡ None
+parameters_at : first_past_parameters (λ name. 3) parameters ≡ None
 parameters_at = refl
 
-parameters_past : first_past_parameters 2 parameters ≡ Some 5
+parameters_past : first_past_parameters (λ name. 2) parameters ≡ Some 5
 parameters_past = refl
 
 -- ---- the numbers of the language
@@ -68,8 +68,8 @@ node_limit_is = refl
 function_limit_is : function_limit ≡ 512
 function_limit_is = refl
 
-parameter_limit_is : parameter_limit ≡ 8
-parameter_limit_is = refl
+parameter_limits : map parameter_limit (f_name ∷ main_name ∷ []) ≡ 16 ∷ 8 ∷ []
+parameter_limits = refl
 
 global_limit_is : global_limit ≡ 16777216
 global_limit_is = refl
@@ -83,13 +83,24 @@ height_limit_is = refl
 abbrev int_parameters : ℕ → List ParameterTree
 int_parameters n = replicate n (parameter bases.Int 0 None)
 
--- void f(int,int,int,int,int,int,int,int);
-eight_parameters : first_past_parameters parameter_limit (numbered_unit (header bases.Void f_name (int_parameters 8) ∷ [])) ≡ None
-eight_parameters = refl
+-- a header with so many parameters of type `int`
+abbrev int_header : (name : List ℕ) → ℕ → UnitTree
+int_header name n = numbered_unit (header bases.Int name (int_parameters n) ∷ [])
 
--- void f(int,int,int,int,int,int,int,int,int);
-nine_parameters : first_past_parameters parameter_limit (numbered_unit (header bases.Void f_name (int_parameters 9) ∷ [])) ≡ Some 9
-nine_parameters = refl
+sixteen_parameters : first_past_parameters parameter_limit (int_header f_name 16) ≡ None
+sixteen_parameters = refl
+
+seventeen_parameters : first_past_parameters parameter_limit (int_header f_name 17) ≡ Some 17
+seventeen_parameters = refl
+
+eight_of_main : first_past_parameters parameter_limit (int_header main_name 8) ≡ None
+eight_of_main = refl
+
+nine_of_main : first_past_parameters parameter_limit (int_header main_name 9) ≡ Some 9
+nine_of_main = refl
+
+parameters_of_main : map main_parameter_count (int_header f_name 9 ∷ int_header main_name 9 ∷ []) ≡ 0 ∷ 9 ∷ []
+parameters_of_main = refl
 
 -- ---- data
 

@@ -8,10 +8,13 @@ use Rattle.qs_syntax.specs.Units.{IsRead}
 use Rattle.qs_syntax.specs.Trees.{ParameterTree, FunctionTree, Stmts, structure, forward, typedef, function, variables, UnitTree}
 use Rattle.qs_types.specs.Types.{Structs}
 use Rattle.qs_types.specs.Layout.{rounded_up}
+use Rattle.qs_base.specs.Bytes.{same_bytes}
+use Rattle.qs_base.specs.Parameters.{most_main_parameters, most_parameters}
+use Rattle.qs_types.specs.GivenFunctions.{main_name}
 use Rattle.qs_types.specs.Contexts.{Context, start_context}
 use Rattle.qs_types.specs.Placed.{Local, placed_in}
 use Rattle.qs_types.specs.UnitRules.{is_name_in, with_name_once, after_declaration}
-use Rattle.qs_types.specs.Limits.{first_past_nodes, names_from, function_count, header_past, first_past_functions, parameter_count, node_of_parameter, first_past_parameters, word_size, Block, block_end, blocks_end, block_past, data_blocks, data_bytes, first_past_globals, type_size, local_block, local_blocks, placed_bytes, body_bytes, placed_from, most_placed, local_past, local_past_from, first_past_locals, node_limit, function_limit, parameter_limit, global_limit, local_limit, KeepsLimits, IsWithinLimits}
+use Rattle.qs_types.specs.Limits.{first_past_nodes, names_from, function_count, header_past, first_past_functions, parameter_count, main_parameter_count, node_of_parameter, first_past_parameters, word_size, Block, block_end, blocks_end, block_past, data_blocks, data_bytes, first_past_globals, type_size, local_block, local_blocks, placed_bytes, body_bytes, placed_from, most_placed, local_past, local_past_from, first_past_locals, node_limit, function_limit, parameter_limit, global_limit, local_limit, KeepsLimits, IsWithinLimits}
 use Rattle.qs_types.proofs.Rounding.{rounds}
 
 -- ---- nodes
@@ -91,16 +94,31 @@ one_past (suc i) (p ∷ ps) = one_past i ps ∙ by i (length ps)
     by : (n m : ℕ) → nat_lt n m ≡ nat_lt (suc n) (suc m)
     by n m = grind (arith, nat_tests)
 
-pub parameters_past : (limit : ℕ) (unit : UnitTree) → is_some (first_past_parameters limit unit) ≡ nat_lt limit (parameter_count unit)
-parameters_past limit [] = grind (arith, nat_tests)
-parameters_past limit (structure s ∷ ds) = parameters_past limit ds
-parameters_past limit (forward f ∷ ds) = parameters_past limit ds
-parameters_past limit (typedef t ∷ ds) = parameters_past limit ds
-parameters_past limit (function f ∷ ds) =
-    either_past (node_of_parameter (slice_get f.parameters limit)) (first_past_parameters limit ds)
-    ∙ (λ i. one_past limit f.parameters i || parameters_past limit ds i)
-    ∙ past_one limit (length f.parameters) (parameter_count ds)
-parameters_past limit (variables d ∷ ds) = parameters_past limit ds
+-- of a header of main the limit is less
+main_past : (n m k : ℕ) → (nat_lt 8 n || (nat_lt 16 m || nat_lt 8 k)) ≡ (nat_lt 16 (max n m) || nat_lt 8 (max n k))
+main_past n m k = grind (arith, nat_tests)
+
+other_past : (n m k : ℕ) → (nat_lt 16 n || (nat_lt 16 m || nat_lt 8 k)) ≡ (nat_lt 16 (max n m) || nat_lt 8 (max 0 k))
+other_past n m k = grind (arith, nat_tests)
+
+pub parameters_past :
+    (unit : UnitTree)
+    → is_some (first_past_parameters parameter_limit unit) ≡ (nat_lt most_parameters (parameter_count unit) || nat_lt most_main_parameters (main_parameter_count unit))
+parameters_past [] = grind (arith, nat_tests)
+parameters_past (structure s ∷ ds) = parameters_past ds
+parameters_past (forward f ∷ ds) = parameters_past ds
+parameters_past (typedef t ∷ ds) = parameters_past ds
+parameters_past (function f ∷ ds) =
+    either_past (node_of_parameter (slice_get f.parameters (parameter_limit f.name))) (first_past_parameters parameter_limit ds)
+    ∙ (λ i. one_past (parameter_limit f.name) f.parameters i || parameters_past ds i)
+    ∙ by (same_bytes f.name main_name)
+  where
+    by : (b : Bool)
+        → (nat_lt (if b then 8 else 16) (length f.parameters) || (nat_lt 16 (parameter_count ds) || nat_lt 8 (main_parameter_count ds)))
+        ≡ (nat_lt 16 (max (length f.parameters) (parameter_count ds)) || nat_lt 8 (max (if b then length f.parameters else 0) (main_parameter_count ds)))
+    by true = main_past (length f.parameters) (parameter_count ds) (main_parameter_count ds)
+    by false = other_past (length f.parameters) (parameter_count ds) (main_parameter_count ds)
+parameters_past (variables d ∷ ds) = parameters_past ds
 
 -- ---- data
 
@@ -187,11 +205,34 @@ there_none (Some n) limit count e h = absurd (by limit count e h)
     by : (n m : ℕ) → true ≡ nat_lt n m → m ≤ n → ⊥
     by n m i le = grind (arith, nat_tests)
 
+-- neither of two counts passes its limit
+record BothWithin (n m limit other : ℕ) : Type 0 where
+  first : n ≤ limit
+  second : m ≤ other
+
+neither_there : (o : Option ℕ) (limit n other m : ℕ) → is_some o ≡ (nat_lt limit n || nat_lt other m) → o ≡ None → BothWithin n m limit other
+neither_there o limit n other m e h = by limit n other m (sym e ∙ ap is_some h)
+  where
+    by : (limit n other m : ℕ) → (nat_lt limit n || nat_lt other m) ≡ false → BothWithin n m limit other
+    by limit n other m i = record { first = grind (arith, nat_tests, i); second = grind (arith, nat_tests, i) }
+
+there_neither : (o : Option ℕ) (limit n other m : ℕ) → is_some o ≡ (nat_lt limit n || nat_lt other m) → n ≤ limit → m ≤ other → o ≡ None
+there_neither None limit n other m e h k = refl
+there_neither (Some x) limit n other m e h k = absurd (by limit n other m e h k)
+  where
+    by : (limit n other m : ℕ) → true ≡ (nat_lt limit n || nat_lt other m) → n ≤ limit → m ≤ other → ⊥
+    by limit n other m i h k = grind (arith, nat_tests)
+
+parameters_within : (unit : UnitTree) → first_past_parameters parameter_limit unit ≡ None → BothWithin (parameter_count unit) (main_parameter_count unit) most_parameters most_main_parameters
+parameters_within unit h =
+    neither_there (first_past_parameters parameter_limit unit) most_parameters (parameter_count unit) most_main_parameters (main_parameter_count unit) (parameters_past unit) h
+
 pub keeps_limits : (unit : UnitTree) → IsRead unit → IsWithinLimits unit → KeepsLimits unit
 keeps_limits unit read w = record {
   nodes = none_there (first_past_nodes node_limit unit) node_limit (unit_count unit) (nodes_past node_limit unit) w.nodes;
   functions = none_there (first_past_functions function_limit unit) function_limit (function_count unit) (functions_past function_limit unit) w.functions;
-  parameters = none_there (first_past_parameters parameter_limit unit) parameter_limit (parameter_count unit) (parameters_past parameter_limit unit) w.parameters;
+  parameters = (parameters_within unit w.parameters).first;
+  main_parameters = (parameters_within unit w.parameters).second;
   globals = none_there (first_past_globals global_limit unit) global_limit (data_bytes unit) (globals_past global_limit unit) w.globals;
   locals = none_there (first_past_locals local_limit unit) local_limit (most_placed unit) (locals_past local_limit unit) w.locals;
   height = read;
@@ -201,7 +242,9 @@ pub is_within_limits : (unit : UnitTree) → KeepsLimits unit → IsWithinLimits
 is_within_limits unit k = record {
   nodes = there_none (first_past_nodes node_limit unit) node_limit (unit_count unit) (nodes_past node_limit unit) k.nodes;
   functions = there_none (first_past_functions function_limit unit) function_limit (function_count unit) (functions_past function_limit unit) k.functions;
-  parameters = there_none (first_past_parameters parameter_limit unit) parameter_limit (parameter_count unit) (parameters_past parameter_limit unit) k.parameters;
+  parameters =
+      there_neither (first_past_parameters parameter_limit unit) most_parameters (parameter_count unit) most_main_parameters (main_parameter_count unit) (parameters_past unit)
+      k.parameters k.main_parameters;
   globals = there_none (first_past_globals global_limit unit) global_limit (data_bytes unit) (globals_past global_limit unit) k.globals;
   locals = there_none (first_past_locals local_limit unit) local_limit (most_placed unit) (locals_past local_limit unit) k.locals;
 }

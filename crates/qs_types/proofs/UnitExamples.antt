@@ -39,10 +39,10 @@ mixed = numbered_unit (
 counts : function_count mixed ∷ parameter_count mixed ∷ data_bytes mixed ∷ most_placed mixed ∷ [] ≡ 3 ∷ 2 ∷ 4 ∷ 4 ∷ []
 counts = refl
 
-none_past : first_past_functions 3 mixed ∷ first_past_parameters 2 mixed ∷ first_past_globals 4 mixed ∷ first_past_locals 4 mixed ∷ [] ≡ replicate 4 None
+none_past : first_past_functions 3 mixed ∷ first_past_parameters (λ name. 2) mixed ∷ first_past_globals 4 mixed ∷ first_past_locals 4 mixed ∷ [] ≡ replicate 4 None
 none_past = refl
 
-one_past : first_past_functions 2 mixed ∷ first_past_parameters 1 mixed ∷ first_past_globals 3 mixed ∷ first_past_locals 3 mixed ∷ [] ≡ Some 9 ∷ Some 8 ∷ Some 3 ∷ Some 10 ∷ []
+one_past : first_past_functions 2 mixed ∷ first_past_parameters (λ name. 1) mixed ∷ first_past_globals 3 mixed ∷ first_past_locals 3 mixed ∷ [] ≡ Some 9 ∷ Some 8 ∷ Some 3 ∷ Some 10 ∷ []
 one_past = refl
 
 called_without_body : first_undefined mixed ≡ Some 4

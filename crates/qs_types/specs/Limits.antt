@@ -3,7 +3,8 @@
 use Rattle.std.specs.Prelude.{◌≡◌, ◌≤◌, ℕ, ◌+◌, max, nat_lt, true, List, [], ◌∷◌, ◌++◌, Option, Some, None, length, map, sum_by, if◌then◌else◌}
 use Rattle.std.specs.List.{slice_get}
 use Rattle.std.specs.Option.{option_or}
-use Rattle.qs_base.specs.Parameters.{most_parameters}
+use Rattle.qs_base.specs.Bytes.{same_bytes}
+use Rattle.qs_base.specs.Parameters.{most_main_parameters, most_parameters}
 use Rattle.qs_syntax.specs.Nodes.{unit_count}
 use Rattle.qs_syntax.specs.Units.{IsRead}
 use Rattle.qs_syntax.specs.declared.types.Base.{Base}
@@ -11,6 +12,7 @@ use Rattle.qs_syntax.specs.Trees.{VariableTree, ParameterTree, FunctionTree, Stm
 use Rattle.qs_types.specs.Types.{TypeTree, Structs}
 use Rattle.qs_types.specs.declared.extent.Extent.{Extent}
 use Rattle.qs_types.specs.Layout.{and_then, layout_of, sized_by, rounded_up}
+use Rattle.qs_types.specs.GivenFunctions.{main_name}
 use Rattle.qs_types.specs.Contexts.{Context, start_context}
 use Rattle.qs_types.specs.Declarations.{variable_declared}
 use Rattle.qs_types.specs.StatementRules.{after_variable}
@@ -57,8 +59,9 @@ first_past_functions limit unit = header_past limit [] unit
 
 -- ---- parameters of a header
 
-abbrev pub parameter_limit : ℕ
-parameter_limit = most_parameters
+-- main may have fewer than others
+abbrev pub parameter_limit : (name : List ℕ) → ℕ
+parameter_limit name = if same_bytes name main_name then most_main_parameters else most_parameters
 
 -- the most of one header
 abbrev pub parameter_count : UnitTree → ℕ
@@ -69,14 +72,24 @@ parameter_count (typedef t ∷ ds) = parameter_count ds
 parameter_count (function f ∷ ds) = max (length f.parameters) (parameter_count ds)
 parameter_count (variables d ∷ ds) = parameter_count ds
 
+-- and the most of one header of main
+abbrev pub main_parameter_count : UnitTree → ℕ
+main_parameter_count [] = 0
+main_parameter_count (structure s ∷ ds) = main_parameter_count ds
+main_parameter_count (forward f ∷ ds) = main_parameter_count ds
+main_parameter_count (typedef t ∷ ds) = main_parameter_count ds
+main_parameter_count (function f ∷ ds) =
+    max (if same_bytes f.name main_name then length f.parameters else 0) (main_parameter_count ds)
+main_parameter_count (variables d ∷ ds) = main_parameter_count ds
+
 abbrev pub node_of_parameter : Option ParameterTree → Option ℕ
 node_of_parameter None = None
 node_of_parameter (Some p) = Some p.node.id
 
-abbrev pub parameter_past : (limit : ℕ) → FunctionTree → Option ℕ
-parameter_past limit f = node_of_parameter (slice_get f.parameters limit)
+abbrev pub parameter_past : (limit : List ℕ → ℕ) → FunctionTree → Option ℕ
+parameter_past limit f = node_of_parameter (slice_get f.parameters (limit f.name))
 
-abbrev pub first_past_parameters : (limit : ℕ) → UnitTree → Option ℕ
+abbrev pub first_past_parameters : (limit : List ℕ → ℕ) → UnitTree → Option ℕ
 first_past_parameters limit [] = None
 first_past_parameters limit (structure s ∷ ds) = first_past_parameters limit ds
 first_past_parameters limit (forward f ∷ ds) = first_past_parameters limit ds
@@ -200,7 +213,8 @@ first_past_locals limit unit = local_past_from limit start_context unit
 pub record KeepsLimits (unit : UnitTree) : Type 0 where
   pub nodes : unit_count unit ≤ node_limit
   pub functions : function_count unit ≤ function_limit
-  pub parameters : parameter_count unit ≤ parameter_limit
+  pub parameters : parameter_count unit ≤ most_parameters
+  pub main_parameters : main_parameter_count unit ≤ most_main_parameters
   pub globals : data_bytes unit ≤ global_limit
   pub locals : most_placed unit ≤ local_limit
   pub height : IsRead unit

@@ -17,7 +17,7 @@ ghost use Rattle.qs_typing_findings.specs.declared.type_fault.TypeFault.TheVaria
 
 use crate::units::walk_declarations;
 use indexmap::IndexSet;
-use qs_base::{MOST_PARAMETERS, Name, NoMemory};
+use qs_base::{MOST_MAIN_PARAMETERS, MOST_PARAMETERS, Name, NoMemory};
 use qs_syntax::{Decl, Function, Unit};
 use qs_syntax_copies::copy_unit;
 use qs_types::LimitKind;
@@ -60,10 +60,21 @@ fn first_past_functions(alloc: Global, ds: &[Decl]) -> Result<Option<u32>, NoMem
     Ok(None)
 }
 
-fn ninth_parameter(f: &Function) -> Option<u32>
+/// How many parameters the function may have.
+fn parameter_limit(f: &Function) -> usize
+    ensures { result ≡ limits.parameter_limit (function_tree f.now).name }
+{
+    if f.name.bytes() == b"main".as_slice() {
+        MOST_MAIN_PARAMETERS as usize
+    } else {
+        MOST_PARAMETERS as usize
+    }
+}
+
+fn parameter_past(f: &Function) -> Option<u32>
     ensures { result ≡ limits.parameter_past limits.parameter_limit (function_tree f.now) }
 {
-    Some(f.parameters.get(MOST_PARAMETERS as usize)?.node.id)
+    Some(f.parameters.get(parameter_limit(f))?.node.id)
 }
 
 fn first_past_parameters(ds: &[Decl]) -> Option<u32>
@@ -71,7 +82,7 @@ fn first_past_parameters(ds: &[Decl]) -> Option<u32>
 {
     for d in ds {
         if let Decl::Function(f) = d {
-            if let Some(node) = ninth_parameter(f) {
+            if let Some(node) = parameter_past(f) {
                 return Some(node);
             }
         }

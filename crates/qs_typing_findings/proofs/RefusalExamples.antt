@@ -1,5 +1,5 @@
 -- The first cause to refuse a unit.
-use Rattle.std.proofs.Common.{◌≡◌, List, [], ◌∷◌, Option, Some, None, refl}
+use Rattle.std.proofs.Common.{◌≡◌, List, [], ◌∷◌, Option, Some, None, replicate, refl}
 use Rattle.qs_types.specs.declared.limits.LimitKind.TheVariants as kinds
 use Rattle.qs_syntax_vocabulary.specs.declared.operators.BinaryOperator.TheVariants as binaries
 use Rattle.qs_syntax.specs.declared.types.Base.TheVariants as bases
@@ -48,13 +48,8 @@ two_rules = refl
 
 -- ---- the order of causes
 
--- int f(int,int,int,int,int,int,int,int,int);int main(void){return a;}
-abbrev nine : List trees.ParameterTree
-nine =
-    parameter ∷ parameter ∷ parameter ∷ parameter ∷ parameter
-    ∷ parameter ∷ parameter ∷ parameter ∷ parameter ∷ []
-
-parameters_before_rules : refusal (header bases.Int f_name nine ∷ main (returns a ∷ []) ∷ []) ≡ Some (faults.Limit kinds.Parameters 9)
+-- int f(int,int,int,int,int,int,int,int,int,int,int,int,int,int,int,int,int);int main(void){return a;}
+parameters_before_rules : refusal (header bases.Int f_name (replicate 17 parameter) ∷ main (returns a ∷ []) ∷ []) ≡ Some (faults.Limit kinds.Parameters 17)
 parameters_before_rules = refl
 
 -- void f(void){return a;}

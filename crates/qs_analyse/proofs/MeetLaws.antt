@@ -25,7 +25,9 @@ use Rattle.qs_triples.specs.Entries.{order_told, mentions_fault, entry_told, sco
 use Rattle.qs_triples.specs.ExpressionTerms.{expression_condition}
 use Rattle.qs_triples.specs.Filled.{Filled}
 use Rattle.qs_triples.specs.Mentions.{in_body, in_pre, in_post, first_other, first_of_destination, first_without_argument, plain_variable, pre_images, post_images, as_plain}
-use Rattle.qs_triples.specs.Rules.{Place, DerivFault, shape, mentions, certificate, no_spec, entry, bad_order, Answer, fault_below, part, unless, unless_of, by_verdict, certified, Posts, Scope, with_next, replaced, returned_rule, leaf_rule, step_posts, body_posts, either, with_frame, around, at_call, is_balanced, is_consequence, count_stmts, in_precondition, in_postcondition, CallSite, Known, of_sequence, of_branch, of_loop, of_switch, switch_posts, before_part, switched, of_call, of_spec, known_callee, call_rule, balanced_rule, pre, sequence_pre, parts_pre}
+use Rattle.qs_triples.specs.declared.resource.Resource.{Resource}
+use Rattle.qs_triples.specs.declared.resource.Resource.TheVariants.{Stack, Calls}
+use Rattle.qs_triples.specs.Rules.{Place, DerivFault, shape, mentions, certificate, no_spec, entry, bad_order, Answer, fault_below, part, unless, unless_of, where_given_back, by_verdict, certified, Posts, Scope, with_next, replaced, returned_rule, leaf_rule, step_posts, body_posts, either, with_frame, with_frame_behind, around, at_call, is_balanced, is_consequence, count_stmts, in_precondition, in_postcondition, CallSite, Known, of_sequence, of_branch, of_loop, of_switch, switch_posts, before_part, switched, of_call, of_spec, known_callee, call_rule, balanced_rule, pre, sequence_pre, parts_pre}
 use Rattle.qs_callgraph.proofs.MemberLaws.{member_first, member_kept, member_behind}
 use Rattle.qs_callgraph.proofs.UnitCalls.{calls_within}
 use Rattle.qs_analyse.specs.Laws.{CallsMeetSpecs}
@@ -61,6 +63,10 @@ meets_unless_of g (Some x) next h = meets_err _ refl
 
 meets_unless : (found : Option Var) (next : Answer) → Meets next → Meets (unless found next)
 meets_unless found next h = meets_unless_of None found next h
+
+meets_given_back : (resource : Resource) (answer : Answer) → Meets answer → Meets (where_given_back resource answer)
+meets_given_back Stack answer h = h
+meets_given_back Calls answer h = meets_shape
 
 meets_verdict : (found : Option certificates.CertFault) (r : AssertionTree) → Meets (by_verdict found r)
 meets_verdict None r = meets_ok r
@@ -140,7 +146,7 @@ meets_call c a w q site g =
     let callee : Option ℕ = Some site.function in
     let before = pre_images g.function site.arguments in
     let behind = post_images g.function site.destination site.arguments in
-    let last = certified c.defines w (with_frame site.function (at_call behind g.spec.post) a) q.next (with_frame site.function (at_call before g.spec.pre) a) in
+    let last = certified c.defines w (with_frame_behind c.resource site.function (at_call behind g.spec.post) a) q.next (with_frame site.function (at_call before g.spec.pre) a) in
     let fifth = unless_of callee (first_without behind g.spec.post) last in
     let fourth = unless_of callee (option_map plain_variable (first_without_argument behind g.spec.post)) fifth in
     let third = unless_of callee (first_without before g.spec.pre) fourth in
@@ -150,7 +156,7 @@ meets_call c a w q site g =
     (meets_unless_of callee (first_without before g.spec.pre) fourth
     (meets_unless_of callee (option_map plain_variable (first_without_argument behind g.spec.post)) fifth
     (meets_unless_of callee (first_without behind g.spec.post) last
-    (meets_certified c.defines w (with_frame site.function (at_call behind g.spec.post) a) q.next (with_frame site.function (at_call before g.spec.pre) a))))))
+    (meets_certified c.defines w (with_frame_behind c.resource site.function (at_call behind g.spec.post) a) q.next (with_frame site.function (at_call before g.spec.pre) a))))))
 
 meets_balanced : (q : Posts) (site : CallSite) (g : Known) → Meets (balanced_rule q site g)
 meets_balanced q site g =
@@ -292,7 +298,8 @@ mutual
   meets_pre (call a w) c s q k =
       meets_site c s (λ site. known_callee c site (call_rule c a w q site)) k (λ site has. meets_known c site (call_rule c a w q site) has (meets_call c a w q site))
   meets_pre balanced_call c s q k =
-      meets_site c s (λ site. known_callee c site (balanced_rule q site)) k (λ site has. meets_known c site (balanced_rule q site) has (meets_balanced q site))
+      meets_given_back c.resource _
+      (meets_site c s (λ site. known_callee c site (balanced_rule q site)) k (λ site has. meets_known c site (balanced_rule q site) has (meets_balanced q site)))
   meets_pre (consequence r w d) c s q k =
       meets_require (not (is_consequence d)) (unless (first_other c.function (in_body c.function) r) (bind (pre d c s q) (λ p. certified c.defines w r p r)))
       (meets_unless (first_other c.function (in_body c.function) r) (bind (pre d c s q) (λ p. certified c.defines w r p r))

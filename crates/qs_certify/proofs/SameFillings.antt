@@ -24,6 +24,7 @@ use Rattle.qs_triples.specs.Derivations.{EntryTree, ProofsTree, SpecTree, is_ent
 use Rattle.qs_triples.specs.Entries.{mentions_fault, order_told, entry_told, result_at_end, function_posts, scope_of, fault_in, fault_of_known, has_entry}
 use Rattle.qs_triples.specs.Filled.{open_definition, pre_in, pre_of, path_pre, HasBoth, Filled}
 use Rattle.qs_triples.specs.Mentions.{in_pre, in_post, first_other, as_plain}
+use Rattle.qs_triples.specs.declared.resource.Resource.TheVariants.{Stack}
 use Rattle.qs_triples.specs.Rules.{DerivFault, in_precondition, in_postcondition, pre}
 use Rattle.qs_callgraph.specs.CallLists.{numbers}
 use Rattle.qs_callgraph.specs.Orders.{CalleesFirst}
@@ -258,7 +259,7 @@ module _ (u : CoreUnitTree) (fits : unit_fits u ≡ true) (given p q : ProofsTre
 
     body_same : (f : CoreFunctionTree) (e : EntryTree) → pre e.body (scope_of u p f) (core.seq f.body) (function_posts e.spec.post) ≡ pre e.body (scope_of u q f) (core.seq f.body) (function_posts e.spec.post)
     body_same f e =
-        ap (λ (specs : ℕ → Option SpecTree). pre e.body (record { function = f; functions = u.functions; specs = specs; defines = p.defines }) (core.seq f.body) (function_posts e.spec.post)) (fun_ext same)
+        ap (λ (specs : ℕ → Option SpecTree). pre e.body (record { resource = Stack; function = f; functions = u.functions; specs = specs; defines = p.defines }) (core.seq f.body) (function_posts e.spec.post)) (fun_ext same)
         ∙ pre_same p.defines q.defines alike f u.functions (spec_of q) e.body (core.seq f.body) (function_posts e.spec.post)
 
     fault_same : (f : CoreFunctionTree) (e : EntryTree) → fault_in u p f e ≡ fault_in u q f e

@@ -23,6 +23,7 @@ use Rattle.qs_triples.specs.Derivations.{DerivationTree, leaf, sequence, conditi
 use Rattle.qs_triples.specs.ExpressionTerms.{expression_condition}
 use Rattle.qs_triples.specs.Mentions.{in_body, first_other, first_of_destination, pre_images, post_images, first_without_argument, plain_variable}
 use Rattle.qs_triples.specs.Rules as derivations
+use Rattle.qs_triples.specs.declared.resource.Resource.TheVariants.{Stack}
 use Rattle.qs_triples.specs.Rules.{Answer, shape, part, unless, unless_of, by_verdict, certified, Posts, Scope, with_next, either, step_posts, body_posts, with_frame, at_call, of_sequence, of_branch, of_loop, of_switch, switch_posts, before_part, switched, CallSite, of_call, of_spec, is_consequence, count_stmts, call_rule, pre, sequence_pre, parts_pre}
 
 module _ (ds es : List Define) (alike : (n : List ℕ) → definition ds n ≡ definition es n) where
@@ -101,10 +102,10 @@ module _ (ds es : List Define) (alike : (n : List ℕ) → definition ds n ≡ d
 
   module _ (f : CoreFunctionTree) (fs : List CoreFunctionTree) (specs : (function : ℕ) → Option SpecTree) where
     abbrev before : Scope
-    before = record { function = f; functions = fs; specs = specs; defines = ds }
+    before = record { resource = Stack; function = f; functions = fs; specs = specs; defines = ds }
 
     abbrev after : Scope
-    after = record { function = f; functions = fs; specs = specs; defines = es }
+    after = record { resource = Stack; function = f; functions = fs; specs = specs; defines = es }
 
     call_same : (a : AssertionTree) (w : CertTree) (q : Posts) (site : CallSite) (g : derivations.Known) → call_rule before a w q site g ≡ call_rule after a w q site g
     call_same a w q site g =

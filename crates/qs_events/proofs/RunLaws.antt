@@ -3,7 +3,7 @@ use Rattle.std.proofs.Common.{◌≡◌, ◌≢◌, ℕ, ◌≤◌, List, [], �
 use Rattle.qs_events.specs.Events.{Event, Calls, Returns, Takes, TakesEnd, Puts, output_of}
 use Rattle.qs_events.specs.BoundedRun.{after}
 use Rattle.qs_events.specs.Runs.{Run, emit, ended, undefined, short, events_of, Ending, has_ended, is_undefined, is_short, ending_of, followed_by, Within, seen}
-use Rattle.qs_events.specs.Weights.{Costs, weight_from, run_weight, IsFront}
+use Rattle.qs_events.specs.Weights.{Costs, Metric, of_stack, weight_from, run_weight, run_weight_by, IsFront}
 use Rattle.qs_events.specs.Laws.{RunsGrow, LongerRunsWeighMore, RunsFollow, BoundedIsSeen}
 
 pub within_same : {End : Type 0} → (o : Run End) → Within o o
@@ -52,20 +52,24 @@ runs_grow End = record { same = within_same; next = within_next; over = within_o
 
 -- ---- weights of longer runs
 
-pub weight_from_more : (cost : Costs) (e : Event) (m n : ℕ) → m ≤ n → weight_from cost e m ≤ weight_from cost e n
-weight_from_more cost (Calls f) m n h = omega arith
-weight_from_more cost (Returns f) m n h = omega arith
-weight_from_more cost (Takes x) m n h = h
-weight_from_more cost TakesEnd m n h = h
-weight_from_more cost (Puts x) m n h = h
+pub weight_from_more : (metric : Metric) (e : Event) (m n : ℕ) → m ≤ n → weight_from metric e m ≤ weight_from metric e n
+weight_from_more metric (Calls f) m n h = omega arith
+weight_from_more metric (Returns f) m n h = omega arith
+weight_from_more metric (Takes x) m n h = h
+weight_from_more metric TakesEnd m n h = h
+weight_from_more metric (Puts x) m n h = h
 
-pub longer_runs_weigh_more : (End : Type 0) → LongerRunsWeighMore End
-longer_runs_weigh_more End cost (emit e o) p h =
-    subst (λ (q : Run End). weight_from cost e (run_weight cost o) ≤ run_weight cost q) (sym h.1)
-    (weight_from_more cost e _ _ (longer_runs_weigh_more End cost o h.0 h.2))
-longer_runs_weigh_more End cost (ended x) p h = omega arith
-longer_runs_weigh_more End cost undefined p h = omega arith
-longer_runs_weigh_more End cost short p h = omega arith
+pub longer_runs_weigh_more_by : (End : Type 0) → LongerRunsWeighMore End
+longer_runs_weigh_more_by End metric (emit e o) p h =
+    subst (λ (q : Run End). weight_from metric e (run_weight_by metric o) ≤ run_weight_by metric q) (sym h.1)
+    (weight_from_more metric e _ _ (longer_runs_weigh_more_by End metric o h.0 h.2))
+longer_runs_weigh_more_by End metric (ended x) p h = omega arith
+longer_runs_weigh_more_by End metric undefined p h = omega arith
+longer_runs_weigh_more_by End metric short p h = omega arith
+
+-- of the stack
+pub longer_runs_weigh_more : (End : Type 0) (cost : Costs) (o p : Run End) → Within o p → run_weight cost o ≤ run_weight cost p
+longer_runs_weigh_more End cost o p h = longer_runs_weigh_more_by End (of_stack cost) o p h
 
 -- ---- what follows
 

@@ -2,7 +2,7 @@
 use Rattle.std.specs.Prelude.{◌≡◌, ◌≢◌, ◌⊎◌, ℕ, ◌≤◌, pos, ◌+ℤ◌, ◌≤ℤ◌, List, ◌++◌}
 use Rattle.qs_events.specs.Events.{Event, output_of}
 use Rattle.qs_events.specs.Runs.{Run, ended, events_of, has_ended, is_short, ending_of, followed_by, Within, bounded, seen}
-use Rattle.qs_events.specs.Weights.{Costs, sum, weight, run_weight, IsGreatestSum, IsFront}
+use Rattle.qs_events.specs.Weights.{Metric, of_calls, sum, weight_by, run_weight_by, calls_in, IsGreatestSum, IsFront}
 
 -- ---- longer runs
 
@@ -17,7 +17,7 @@ pub record RunsGrow (End : Type 0) : Type 0 where
 
 -- a longer run weighs no less
 abbrev pub LongerRunsWeighMore : Type 0 → Type 0
-LongerRunsWeighMore End = (cost : Costs) (o p : Run End) → Within o p → run_weight cost o ≤ run_weight cost p
+LongerRunsWeighMore End = (metric : Metric) (o p : Run End) → Within o p → run_weight_by metric o ≤ run_weight_by metric p
 
 -- ---- what follows
 
@@ -33,17 +33,21 @@ pub record RunsFollow (A B C : Type 0) : Type 0 where
 
 -- the weight bounds the sum of each front, and one front attains it
 abbrev pub WeightIsGreatest : Type 0
-WeightIsGreatest = (cost : Costs) (trace : List Event) → IsGreatestSum cost trace (weight cost trace)
+WeightIsGreatest = (metric : Metric) (trace : List Event) → IsGreatestSum metric trace (weight_by metric trace)
 
 -- the weight of two traces, one behind the other: that of the first, or its sum and the weight of the second, whichever is greater
-pub record WeighsJoined (cost : Costs) (front back : List Event) : Type 0 where
-  pub sums : sum cost (front ++ back) ≡ sum cost front +ℤ sum cost back
-  pub first : weight cost front ≤ weight cost (front ++ back)
-  pub second : (sum cost front +ℤ pos (weight cost back)) ≤ℤ pos (weight cost (front ++ back))
-  pub one : (weight cost (front ++ back) ≡ weight cost front) ⊎ (pos (weight cost (front ++ back)) ≡ sum cost front +ℤ pos (weight cost back))
+pub record WeighsJoined (metric : Metric) (front back : List Event) : Type 0 where
+  pub sums : sum metric (front ++ back) ≡ sum metric front +ℤ sum metric back
+  pub first : weight_by metric front ≤ weight_by metric (front ++ back)
+  pub second : (sum metric front +ℤ pos (weight_by metric back)) ≤ℤ pos (weight_by metric (front ++ back))
+  pub one : (weight_by metric (front ++ back) ≡ weight_by metric front) ⊎ (pos (weight_by metric (front ++ back)) ≡ sum metric front +ℤ pos (weight_by metric back))
 
 abbrev pub JoinedTracesWeigh : Type 0
-JoinedTracesWeigh = (cost : Costs) (front back : List Event) → WeighsJoined cost front back
+JoinedTracesWeigh = (metric : Metric) (front back : List Event) → WeighsJoined metric front back
+
+-- where each call costs 1, what they cost together is how many they are
+abbrev pub CallsAreCounted : Type 0
+CallsAreCounted = (trace : List Event) → weight_by (of_calls (λ f. 1)) trace ≡ calls_in trace
 
 -- ---- what agreement sees
 

@@ -1,5 +1,6 @@
 // The laws of runs, traces and weights. Each is the contract of an empty function.
-ghost use Rattle.qs_events.specs.Laws.{RunsGrow, LongerRunsWeighMore, RunsFollow, WeightIsGreatest, JoinedTracesWeigh, BoundedIsSeen};
+ghost use Rattle.qs_events.specs.Laws.{RunsGrow, LongerRunsWeighMore, RunsFollow, BoundedIsSeen};
+ghost use Rattle.qs_events.specs.Laws.{WeightIsGreatest, JoinedTracesWeigh, CallsAreCounted};
 
 /// A greater bound keeps what has ended or is undefined, and extends the trace of what is short.
 pub fn runs_grow<End>()
@@ -24,6 +25,11 @@ pub fn weight_is_greatest()
 /// What two traces weigh, one behind the other.
 pub fn joined_traces_weigh()
     ensures { JoinedTracesWeigh }
+{}
+
+/// Where each call costs 1, what the calls of a trace cost together is how many they are.
+pub fn calls_are_counted()
+    ensures { CallsAreCounted }
 {}
 
 /// Agreement sees the events of a run and how it ends.

@@ -13,10 +13,12 @@ use Rattle.qs_entail.specs.Faults as certificates
 use Rattle.qs_core.specs.declared.labels.CoreLabel.{CoreLabel}
 use Rattle.qs_core.specs.Trees as core
 use Rattle.qs_core.specs.Trees.{CoreExprTree, CoreStmtTree, CoreStmts, CoreFunctionTree}
+use Rattle.qs_triples.specs.declared.resource.Resource.{Resource}
+use Rattle.qs_triples.specs.declared.resource.Resource.TheVariants.{Stack, Calls}
 use Rattle.qs_triples.specs.declared.failure.Failure.{Failure}
 use Rattle.qs_triples.specs.declared.failure.Failure.TheVariants as failures
 use Rattle.qs_triples.specs.Derivations.{SpecTree}
-use Rattle.qs_triples.specs.Rules.{DerivFault, Answer, part, unless, unless_of, by_verdict, of_sequence, of_branch, of_loop, of_switch, CallSite, of_call, Known, of_spec}
+use Rattle.qs_triples.specs.Rules.{DerivFault, Answer, part, unless, unless_of, where_given_back, by_verdict, of_sequence, of_branch, of_loop, of_switch, CallSite, of_call, Known, of_spec}
 use Rattle.qs_triples.specs.Told.{FailsAs, Follows}
 pub use Rattle.std.proofs.lemmas.Bool.{not-false as not_false}
 
@@ -45,6 +47,10 @@ unless_of_ok g (Some x) r a h = cc
 
 pub unless_ok : (o : Option Var) (r : Answer) (a : AssertionTree) → Gives (unless o r) a → (o ≡ None) × Gives r a
 unless_ok o r a h = unless_of_ok None o r a h
+
+pub given_back_ok : (resource : Resource) (r : Answer) (a : AssertionTree) → Gives (where_given_back resource r) a → (resource ≡ Stack) × Gives r a
+given_back_ok Stack r a h = (refl, h)
+given_back_ok Calls r a h = cc
 
 pub by_verdict_ok : (v : Option certificates.CertFault) (r a : AssertionTree) → Gives (by_verdict v r) a → (v ≡ None) × (r ≡ a)
 by_verdict_ok None r a h = (refl, ok_same r a h)

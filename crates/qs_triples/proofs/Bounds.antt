@@ -2,7 +2,7 @@
 use Rattle.std.proofs.Common.{◌≡◌, ℕ, ◌+◌, ◌-◌, ◌≤◌, Option, Some, None, refl, subst, arith}
 use Rattle.std.specs.Prelude.{if◌then◌else◌, Bool, true, false}
 use Rattle.qs_events.specs.Runs.{given}
-use Rattle.qs_events.specs.Weights.{Costs, run_weight}
+use Rattle.qs_events.specs.Weights.{Metric, run_weight_by}
 use Rattle.qs_calls.specs.World.{RootRun}
 use Rattle.qs_assert.specs.Values.{Extended, finite, infinite, plus, greater}
 use Rattle.qs_entail.specs.Meaning.{AtLeast}
@@ -25,27 +25,34 @@ pub below_at : (n x : ℕ) {a b : Extended} → a ≡ b → IsBelow n a x → Is
 below_at n x e h = subst (λ (a : Extended). IsBelow n a x) e h
 
 pub given_below :
-    (cost : Costs) {A : Type 0} (o : Option A) (g : A → RootRun) (a : Extended) (x : ℕ)
-    → ((v : A) → o ≡ Some v → IsBelow (run_weight cost (g v)) a x) → IsBelow (run_weight cost (given o g)) a x
-given_below cost None g a x h = zero_below a x
-given_below cost (Some v) g a x h = h v refl
+    (metric : Metric) {A : Type 0} (o : Option A) (g : A → RootRun) (a : Extended) (x : ℕ)
+    → ((v : A) → o ≡ Some v → IsBelow (run_weight_by metric (g v)) a x) → IsBelow (run_weight_by metric (given o g)) a x
+given_below metric None g a x h = zero_below a x
+given_below metric (Some v) g a x h = h v refl
 
 pub choice_below :
-    (cost : Costs) (b : Bool) (o p : RootRun) (a : Extended) (x : ℕ)
-    → (b ≡ true → IsBelow (run_weight cost o) a x) → (b ≡ false → IsBelow (run_weight cost p) a x)
-    → IsBelow (run_weight cost (if b then o else p)) a x
-choice_below cost true o p a x h k = h refl
-choice_below cost false o p a x h k = k refl
+    (metric : Metric) (b : Bool) (o p : RootRun) (a : Extended) (x : ℕ)
+    → (b ≡ true → IsBelow (run_weight_by metric o) a x) → (b ≡ false → IsBelow (run_weight_by metric p) a x)
+    → IsBelow (run_weight_by metric (if b then o else p)) a x
+choice_below metric true o p a x h k = h refl
+choice_below metric false o p a x h k = k refl
 
 -- ---- calls, where c is the cost of the function
 
--- what is free behind a call with a frame: what it leaves, its own cost, and the frame
+-- what is free behind a call with a frame: what it leaves, the cost that it gives back, and the frame
 pub framed :
     (n c a x : ℕ) (r v : Extended) → IsBelow n v x → AtLeast (plus (finite c) (plus r (plus (finite a) (finite 0)))) v
     → IsBelow n r (c + (a + x))
 framed n c a x infinite v h k = tt
 framed n c a x (finite r) infinite h k = absurd k
 framed n c a x (finite r) (finite v) h k = omega arith
+
+-- the same where it gives nothing back
+pub framed_alone :
+    (n a x : ℕ) (r v : Extended) → IsBelow n v x → AtLeast (plus r (plus (finite a) (finite 0))) v → IsBelow n r (0 + (a + x))
+framed_alone n a x infinite v h k = tt
+framed_alone n a x (finite r) infinite h k = absurd k
+framed_alone n a x (finite r) (finite v) h k = omega arith
 
 pub with_frame_below :
     (n c x : ℕ) (p a : Extended) → ((y : ℕ) → a ≡ finite y → IsBelow n p (c + (y + x)))

@@ -21,7 +21,8 @@ use Rattle.qs_core.specs.Trees as core
 use Rattle.qs_core.specs.Trees.{CoreExprTree, CoreFunctionTree, CoreUnitTree, stmts_of}
 use Rattle.qs_triples.specs.Derivations.{DerivationTree, leaf, sequence, conditional, loop, call, balanced_call, consequence, no_derivations, derivation_and, SpecTree, EntryTree, ProofsTree}
 use Rattle.qs_triples.specs.Rules.{in_precondition, in_postcondition, at_node, DerivFault, shape, mentions, certificate, no_spec, entry, bad_order}
-use Rattle.qs_triples.specs.Entries.{entry_fault}
+use Rattle.qs_triples.specs.Entries.{entry_fault, entry_fault_for}
+use Rattle.qs_triples.specs.declared.resource.Resource.TheVariants.{Calls}
 use Rattle.qs_triples.specs.Mentions.{in_body}
 
 -- ---- the unit
@@ -49,7 +50,7 @@ f = record {
 }
 
 -- int main(unsigned n) { f(n); return 0; }
-abbrev main : CoreFunctionTree
+abbrev pub main : CoreFunctionTree
 main = record {
   name = codes "main";
   parameters = record { name = codes "n"; place = Plain 0 } ∷ [];
@@ -64,7 +65,7 @@ main = record {
       ∷ []);
 }
 
-abbrev unit : CoreUnitTree
+abbrev pub unit : CoreUnitTree
 unit = record { functions = f ∷ main ∷ []; main = 1; data_blocks = [] }
 
 -- ---- the proofs
@@ -290,6 +291,76 @@ calls_f a = record {
 
 a_result_without_destination : entry_fault unit (with_spec (record { pre = natural 0; post = num (of kinds.Returned) })) (calls_f (natural 0)) ≡ Some (mentions (at_node (0 ∷ [])) (Some 0) (unsigned_variable kinds.Returned))
 a_result_without_destination = refl
+
+-- ---- calls are counted: no call gives anything back, so nothing is left at an end
+
+abbrev in_calls : ProofsTree → EntryTree → Option DerivFault
+in_calls p e = entry_fault_for Calls unit p e
+
+-- at the end nothing is needed, and where n is 0 nothing else is
+abbrev by_cases_counted : CertTree
+by_cases_counted =
+    split (eq (of (kinds.Plain 0)) (number (pos 0)))
+    (fact (num_bounds (of (kinds.Plain 0))) (fact (cost_range 0) (arithmetic (pair 3 5 ∷ []))))
+    counted
+
+abbrev pub counted_f : EntryTree
+counted_f = record {
+  function = 0;
+  spec = record { pre = costs (of (kinds.Plain 0)); post = natural 0 };
+  entry = by_cases_counted;
+  body = three_parts either_way (call (natural 0) (arithmetic [])) leaf;
+}
+
+abbrev pub counted_main : EntryTree
+counted_main = record {
+  function = 1;
+  spec = record { pre = more_costs (of (kinds.Plain 0)); post = natural 0 };
+  entry = arithmetic [];
+  body = three_parts (call (natural 0) (arithmetic [])) leaf leaf;
+}
+
+abbrev pub counted_proofs : ProofsTree
+counted_proofs = record { defines = []; functions = counted_f ∷ counted_main ∷ [] }
+
+f_is_counted : in_calls counted_proofs counted_f ≡ None
+f_is_counted = refl
+
+main_is_counted : in_calls counted_proofs counted_main ≡ None
+main_is_counted = refl
+
+-- on the stack the call gives back its cost, which is more than nothing by that cost
+not_on_the_stack : entry_fault unit counted_proofs counted_f ≡ Some (certificate (1 ∷ []) (step [] rules.Arithmetic))
+not_on_the_stack = refl
+
+abbrev stacked_f : EntryTree
+stacked_f = record counted_f { body = three_parts either_way (call (natural 0) (fact (cost_range 0) (arithmetic (item 1 ∷ [])))) leaf }
+
+-- with a certificate for that the same specification holds there too
+the_same_on_the_stack : entry_fault unit counted_proofs stacked_f ≡ None
+the_same_on_the_stack = refl
+
+-- and where calls are counted its cost isn't there behind the call
+no_cost_behind_a_call : in_calls counted_proofs stacked_f ≡ Some (certificate (1 ∷ []) (step (0 ∷ []) rules.Arithmetic))
+no_cost_behind_a_call = refl
+
+-- what is balanced on the stack has no rule here
+no_balanced_call : in_calls proofs (with_entry (by_cases counted) body) ≡ Some (shape (1 ∷ []))
+no_balanced_call = refl
+
+-- that comes before the callee's specification
+shape_before_spec : in_calls no_specs of_main ≡ Some (shape (0 ∷ []))
+shape_before_spec = refl
+
+a_counted_call_without_spec : in_calls no_specs counted_main ≡ Some (no_spec (0 ∷ []) 0)
+a_counted_call_without_spec = refl
+
+-- a balanced specification gives back what is never given back
+abbrev giving : ProofsTree
+giving = record { defines = []; functions = record counted_f { spec = spec } ∷ [] }
+
+nothing_to_give_back : in_calls giving (record counted_f { spec = spec }) ≡ Some (certificate (1 ∷ []) (step [] rules.Arithmetic))
+nothing_to_give_back = refl
 
 -- ---- specifications
 

@@ -18,11 +18,12 @@ use Rattle.qs_core.specs.declared.statements.CoreStmt.{CoreStmt}
 use Rattle.qs_core.specs.TreeOf.{core_stmt, core_stmts}
 use Rattle.qs_core.specs.Trees.{stmts_of, CoreFunctionTree, CoreUnitTree}
 use Rattle.qs_triples.specs.Derivations.{EntryTree, ProofsTree, entry_of}
-use Rattle.qs_triples.specs.Entries.{is_return, ends_in_return, order_told, fault_in, fault_of_known, entry_fault, fault_of_entry, function_fault, HasDerivedEntry}
+use Rattle.qs_triples.specs.Entries.{is_return, ends_in_return, order_told, fault_in_for, fault_of_known_for, entry_fault_for, fault_of_entry_for, function_fault_for, HasDerivedEntryFor}
 use Rattle.qs_triples.specs.Rules as rules
 use Rattle.qs_triples.specs.Rules.{Answer, shape, mentions, at_node, certificate, no_spec, entry}
 use Rattle.qs_triples.specs.Told.{callee_view, fault_at, FailsAs, IsDue, IsOfCertificate, Tells}
 use Rattle.qs_triples.specs.Checking.{WasDue}
+use Rattle.qs_triples.specs.declared.resource.Resource.{Resource}
 use Rattle.qs_triples.specs.declared.failure.Cause.{Cause}
 use Rattle.qs_triples.specs.declared.failure.Cause.TheVariants as causes
 use Rattle.qs_triples.specs.declared.failure.Failure.{Failure}
@@ -81,21 +82,21 @@ ends_as_last (x ∷ y ∷ ss) s h =
 
 -- ---- the function of an entry
 
-pub found_tells : (result : Result (Unit {0}) DerivFault) (u : CoreUnitTree) (proofs : ProofsTree) (e : EntryTree) (f : CoreFunctionTree) → slice_get u.functions e.function ≡ Some f → Tells result (fault_in u proofs f e) → Tells result (entry_fault u proofs e)
-found_tells result u proofs e f h k = subst (λ (o : Option CoreFunctionTree). Tells result (fault_of_known u proofs o e)) (sym h) k
+pub found_tells : (result : Result (Unit {0}) DerivFault) (resource : Resource) (u : CoreUnitTree) (proofs : ProofsTree) (e : EntryTree) (f : CoreFunctionTree) → slice_get u.functions e.function ≡ Some f → Tells result (fault_in_for resource u proofs f e) → Tells result (entry_fault_for resource u proofs e)
+found_tells result resource u proofs e f h k = subst (λ (o : Option CoreFunctionTree). Tells result (fault_of_known_for resource u proofs o e)) (sym h) k
 
-pub not_found : (u : CoreUnitTree) (proofs : ProofsTree) (e : EntryTree) → slice_get u.functions e.function ≡ None → entry_fault u proofs e ≡ Some (shape [])
-not_found u proofs e h = ap (λ (o : Option CoreFunctionTree). fault_of_known u proofs o e) h
+pub not_found : (resource : Resource) (u : CoreUnitTree) (proofs : ProofsTree) (e : EntryTree) → slice_get u.functions e.function ≡ None → entry_fault_for resource u proofs e ≡ Some (shape [])
+not_found resource u proofs e h = ap (λ (o : Option CoreFunctionTree). fault_of_known_for resource u proofs o e) h
 
 -- ---- a function whose first entry is derived
 
-derived_entry : (u : CoreUnitTree) (proofs : ProofsTree) (f : ℕ) (o : Option EntryTree) → entry_of proofs f ≡ o → fault_of_entry u proofs o ≡ None → HasDerivedEntry u proofs f
-derived_entry u proofs f None h k = absurd (let e : Some (shape []) ≡ None = k in cc)
-derived_entry u proofs f (Some e) h k = record { entry_tree = e; stands = h; derived = k }
+derived_entry : (resource : Resource) (u : CoreUnitTree) (proofs : ProofsTree) (f : ℕ) (o : Option EntryTree) → entry_of proofs f ≡ o → fault_of_entry_for resource u proofs o ≡ None → HasDerivedEntryFor resource u proofs f
+derived_entry resource u proofs f None h k = absurd (let e : Some (shape []) ≡ None = k in cc)
+derived_entry resource u proofs f (Some e) h k = record { entry_tree = e; stands = h; derived = k }
 
-pub tells_derived : (result : Result (Unit {0}) DerivFault) (u : CoreUnitTree) (proofs : ProofsTree) (f : ℕ) → Tells result (function_fault u proofs f) → OnOk result (HasDerivedEntry u proofs f)
-tells_derived (Ok done) u proofs f h = derived_entry u proofs f (entry_of proofs f) refl h
-tells_derived (Err fault) u proofs f h = tt
+pub tells_derived : (result : Result (Unit {0}) DerivFault) (resource : Resource) (u : CoreUnitTree) (proofs : ProofsTree) (f : ℕ) → Tells result (function_fault_for resource u proofs f) → OnOk result (HasDerivedEntryFor resource u proofs f)
+tells_derived (Ok done) resource u proofs f h = derived_entry resource u proofs f (entry_of proofs f) refl h
+tells_derived (Err fault) resource u proofs f h = tt
 
 -- ---- the fault of a walk that failed
 

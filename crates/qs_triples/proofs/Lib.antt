@@ -7,6 +7,7 @@ pub mod ValuationLaws
 pub mod TermLaws
 pub mod ConditionLaws
 pub mod ArgumentLaws
+pub mod PropertyLaws
 pub mod SumLaws
 pub mod MomentLaws
 pub mod CallLaws

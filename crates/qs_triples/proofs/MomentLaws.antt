@@ -13,7 +13,7 @@ use Rattle.qs_memory.specs.declared.scalar.Scalar.{Scalar}
 use Rattle.qs_memory.proofs.BlockLaws.{after_release, after_same, after_next}
 use Rattle.qs_memory.proofs.StepLaws.{memory_goes_on}
 use Rattle.qs_memory.proofs.SoundLaws.{soundness_is_kept}
-use Rattle.qs_events.specs.Weights.{Costs, run_weight}
+use Rattle.qs_events.specs.Weights.{Metric, run_weight_by}
 use Rattle.qs_calls.specs.World.{World, with_memory, Environment, no_values, with_value}
 use Rattle.qs_calls.specs.Calls.{Entered, pass}
 use Rattle.qs_calls.specs.Starts.{IsOf, AreOf, ResultIsOf, IsReady, IsReturn}
@@ -44,7 +44,7 @@ record Passed (u : CoreUnitTree) (f : CoreFunctionTree) (start : Memory) (first 
 abbrev pub entry_locals : (first : ℕ) → Environment → Locals
 entry_locals first e = record { first_block = first; variables = e; temporaries = no_values }
 
-module _ (cost : Costs) (a : Extended) (more : ℕ) (u : CoreUnitTree) (f : CoreFunctionTree) (start : Memory) (first : ℕ) where
+module _ (metric : Metric) (a : Extended) (more : ℕ) (u : CoreUnitTree) (f : CoreFunctionTree) (start : Memory) (first : ℕ) where
   abbrev From : ℕ → List CoreVariableTree → Type 0
   From i vs = (x : ℕ) → slice_get f.variables (i + x) ≡ slice_get vs x
 
@@ -61,8 +61,8 @@ module _ (cost : Costs) (a : Extended) (more : ℕ) (u : CoreUnitTree) (f : Core
   one_passed :
       (i : ℕ) (s : Scalar) (place : Parameter) (places : List Parameter) (v : Value) (vs : List Value) (e : Environment) (w : World) (k : Entered)
       → place_fits f.blocks i s place ≡ true → variable_type f i ≡ Some s → IsOf w.memory s v → Passed u f start first e w
-      → ((d : Environment) (x : World) → ComesAfter w.memory x.memory → Passed u f start first d x → passed places vs d ≡ passed (place ∷ places) (v ∷ vs) e → IsBelow (run_weight cost (pass places vs first d x k)) a more)
-      → IsBelow (run_weight cost (pass (place ∷ places) (v ∷ vs) first e w k)) a more
+      → ((d : Environment) (x : World) → ComesAfter w.memory x.memory → Passed u f start first d x → passed places vs d ≡ passed (place ∷ places) (v ∷ vs) e → IsBelow (run_weight_by metric (pass places vs first d x k)) a more)
+      → IsBelow (run_weight_by metric (pass (place ∷ places) (v ∷ vs) first e w k)) a more
   one_passed i s (Plain x) places v vs e w k fit type of is h =
       let here : i ≡ x = grind (arith, nat_tests, fit) in
       let types = ap (λ (y : ℕ). variable_type f y) (sym here) ∙ type in
@@ -73,7 +73,7 @@ module _ (cost : Costs) (a : Extended) (more : ℕ) (u : CoreUnitTree) (f : Core
         blocks = is.blocks;
       }) refl
   one_passed i s (Placed b t) places v vs e w k fit type of is h =
-      given_below cost (memory.store t w.memory (into (first + b) 0) v) _ a more (λ m stored.
+      given_below metric (memory.store t w.memory (into (first + b) 0) v) _ a more (λ m stored.
       let on = memory_goes_on.store t w.memory m (into (first + b) 0) v stored in
       let sound = soundness_is_kept.store t w.memory m (into (first + b) 0) v is.ready.sound of.sound stored in
       h e (with_memory w m) on (record {
@@ -86,8 +86,8 @@ module _ (cost : Costs) (a : Extended) (more : ℕ) (u : CoreUnitTree) (f : Core
   pass_below :
       (i : ℕ) (ps : List CoreParameterTree) (xs : List CoreVariableTree) (vs : List Value) (e : Environment) (w : World) (k : Entered)
       → From i xs → parameters_fit f.blocks i ps xs ≡ true → AreOf w.memory (types_of ps xs) vs → Passed u f start first e w
-      → ((w : World) → Passed u f start first (passed (map (λ p. p.place) ps) vs e) w → IsBelow (run_weight cost (k (passed (map (λ p. p.place) ps) vs e) w)) a more)
-      → IsBelow (run_weight cost (pass (map (λ p. p.place) ps) vs first e w k)) a more
+      → ((w : World) → Passed u f start first (passed (map (λ p. p.place) ps) vs e) w → IsBelow (run_weight_by metric (k (passed (map (λ p. p.place) ps) vs e) w)) a more)
+      → IsBelow (run_weight_by metric (pass (map (λ p. p.place) ps) vs first e w k)) a more
   pass_below i [] xs [] e w k from fit are is h = h w is
   pass_below i [] xs (v ∷ vs) e w k from fit are is h = absurd are
   pass_below i (p ∷ ps) [] vs e w k from fit are is h = cc
@@ -98,14 +98,14 @@ module _ (cost : Costs) (a : Extended) (more : ℕ) (u : CoreUnitTree) (f : Core
       one_passed i x.scalar p.place (map (λ p. p.place) ps) v vs e w k place.1 (type_from i x xs from) are.0 is
       (λ d y on passing same.
       pass_below (i + 1) ps xs vs d y k (next_from i x xs from) two.1 (are_of_later w.memory y.memory (types_of ps xs) vs on are.1) passing
-      (λ w. subst (λ (e' : Environment). (Passed u f start first e' w → IsBelow (run_weight cost (k e' w)) a more)) (sym same) (h w)))
+      (λ w. subst (λ (e' : Environment). (Passed u f start first e' w → IsBelow (run_weight_by metric (k e' w)) a more)) (sym same) (h w)))
 
   -- the body of a call begins at a moment, with the parameters' values
   pub entry_below :
       (vs : List Value) (w : World) (k : Entered) → parameters_fit f.blocks 0 f.parameters f.variables ≡ true
       → AreOf w.memory (parameter_types f) vs → IsReady (interface_of u) w → ComesAfter start w.memory → first + length f.blocks ≤ length w.memory
-      → ((w : World) → IsMoment u f start (entry_locals first (passed (map (λ p. p.place) f.parameters) vs no_values)) w → IsBelow (run_weight cost (k (passed (map (λ p. p.place) f.parameters) vs no_values) w)) a more)
-      → IsBelow (run_weight cost (pass (map (λ p. p.place) f.parameters) vs first no_values w k)) a more
+      → ((w : World) → IsMoment u f start (entry_locals first (passed (map (λ p. p.place) f.parameters) vs no_values)) w → IsBelow (run_weight_by metric (k (passed (map (λ p. p.place) f.parameters) vs no_values) w)) a more)
+      → IsBelow (run_weight_by metric (pass (map (λ p. p.place) f.parameters) vs first no_values w k)) a more
   entry_below vs w k fit are ready after room h =
       pass_below 0 f.parameters f.variables vs no_values w k (λ x. ap (slice_get f.variables) (omega arith)) fit are
       (record { variables = no_values_are_of w.memory (variable_type f); ready = ready; after = after; blocks = room })
@@ -144,7 +144,7 @@ abbrev pub IsResult : (destination : Option ℕ) → (result : Option Value) →
 IsResult None result v = Unit {0}
 IsResult (Some k) result v = result ≡ Some v
 
-module _ (cost : Costs) (a : Extended) (more : ℕ) (u : CoreUnitTree) (f : CoreFunctionTree) (start : Memory) where
+module _ (metric : Metric) (a : Extended) (more : ℕ) (u : CoreUnitTree) (f : CoreFunctionTree) (start : Memory) where
   taken :
       (result_type : Option Scalar) (k : ℕ) → taken_fits f result_type k ≡ true → (m : Memory) (v : Value) → ResultIsOf m result_type (Some v)
       → (s : Scalar) → temporary_type f k ≡ Some s → IsOf m s v
@@ -155,12 +155,12 @@ module _ (cost : Costs) (a : Extended) (more : ℕ) (u : CoreUnitTree) (f : Core
       (result_type : Option Scalar) (x : Option ℕ) (es : List CoreExprTree) → destination_fits f result_type x es ≡ true
       → (next : Continuation) (l : Locals) (w : World) → IsMoment u f start l w
       → (result : Option Value) (z : World) → IsReturn (interface_of u) result_type w.memory result z
-      → ((v : Value) → IsResult x result v → IsMoment u f start (landed x l v) z → IsBelow (run_weight cost (next (landed x l v) z)) a more)
-      → IsBelow (run_weight cost (take_result x next l result z)) a more
+      → ((v : Value) → IsResult x result v → IsMoment u f start (landed x l v) z → IsBelow (run_weight_by metric (next (landed x l v) z)) a more)
+      → IsBelow (run_weight_by metric (take_result x next l result z)) a more
   result_below result_type None es fit next l w is result z r h = h (integer 0) tt (moment_later u f start l w z is r.after r.ready)
   result_below result_type (Some k) es fit next l w is result z r h =
       let first = and_parts (taken_fits f result_type k) (not (any_mentions k es)) fit in
-      given_below cost result _ a more (λ v some.
+      given_below metric result _ a more (λ v some.
       h v some (moment_assigned u f start (targets.Temporary k) l z v
       (taken result_type k first.0 z.memory v (subst (λ (o : Option Value). ResultIsOf z.memory result_type o) some r.typed))
       (moment_later u f start l w z is r.after r.ready)))

@@ -10,7 +10,7 @@ use Rattle.qs_memory.specs.Values.{Value}
 use Rattle.qs_memory.specs.Memory.{Memory}
 use Rattle.qs_memory.specs.declared.scalar.Scalar.{Scalar}
 use Rattle.qs_events.specs.Runs.{has_ended, ending_of, Left}
-use Rattle.qs_events.specs.Weights.{Costs, run_weight}
+use Rattle.qs_events.specs.Weights.{Costs, of_stack, run_weight}
 use Rattle.qs_calls.specs.World.{World, RootRun, Return, leaves, Environment}
 use Rattle.qs_calls.specs.Calls.{CallsOf}
 use Rattle.qs_calls.specs.Relations.{Relation, Keeps}
@@ -38,6 +38,7 @@ use Rattle.qs_core.specs.Fits.{exprs_fit, call_fits, stmt_fits, stmts_fit, unit_
 use Rattle.qs_core.specs.Ranges.{result_type_at}
 use Rattle.qs_core.proofs.RangeLaws.{calls_in_range}
 use Rattle.qs_core.proofs.RelationLaws.{calls_alone}
+use Rattle.qs_triples.specs.declared.resource.Resource.TheVariants.{Stack}
 use Rattle.qs_triples.specs.Derivations.{EntryTree, ProofsTree, entry_of, spec_of}
 use Rattle.qs_triples.specs.Valuations.{number_at, within, at_entry}
 use Rattle.qs_triples.specs.ExpressionTerms.{var, expression_term, expression_condition}
@@ -86,7 +87,7 @@ call_leaves_sound u fits turns depth g vs w may left is =
 
 -- ---- bodies
 
-module _ (u : CoreUnitTree) (fits : unit_fits u ≡ true) (metric : Costs) (proofs : ProofsTree) (closed : AreClosed proofs.defines) (known : (g : ℕ) (f : CoreFunctionTree) → slice_get u.functions g ≡ Some f → (e : EntryTree) × (entry_of proofs g ≡ Some e)) (turns depth : ℕ) (keep : AllKeepSpecs metric u proofs.defines (spec_of proofs) (calls_within u turns depth)) (f : CoreFunctionTree) (start : Memory) (old : Environment) (need : AssertionTree) (none : variables need ≡ []) where
+module _ (u : CoreUnitTree) (fits : unit_fits u ≡ true) (cost : Costs) (proofs : ProofsTree) (closed : AreClosed proofs.defines) (known : (g : ℕ) (f : CoreFunctionTree) → slice_get u.functions g ≡ Some f → (e : EntryTree) × (entry_of proofs g ≡ Some e)) (turns depth : ℕ) (keep : AllKeepSpecs Stack cost u proofs.defines (spec_of proofs) (calls_within u turns depth)) (f : CoreFunctionTree) (start : Memory) (old : Environment) (need : AssertionTree) (none : variables need ≡ []) where
   abbrev ds : List Define
   ds = proofs.defines
 
@@ -94,19 +95,19 @@ module _ (u : CoreUnitTree) (fits : unit_fits u ≡ true) (metric : Costs) (proo
   calls = calls_within u turns depth
 
   abbrev at : Locals → State
-  at l = seen metric ds (number_at f (within old l))
+  at l = seen cost ds (number_at f (within old l))
 
   abbrev Enough : AssertionTree → CoreStmtTree → Type 0
-  Enough p s = IsEnough u fits metric ds closed f start old turns calls p s (function_posts need)
+  Enough p s = IsEnough u fits Stack cost ds closed f start old turns calls p s (function_posts need)
 
-  same_anywhere : (g h : Var → ℤ) → value need (seen metric ds g) ≡ value need (seen metric ds h)
-  same_anywhere g h = closed_value need (seen metric ds g) g h none
+  same_anywhere : (g h : Var → ℤ) → value need (seen cost ds g) ≡ value need (seen cost ds h)
+  same_anywhere g h = closed_value need (seen cost ds g) g h none
 
   -- what a call of g needs
   abbrev pub Pays : ℕ → Type 0
   Pays g =
       (fg : CoreFunctionTree) (e : EntryTree) (arguments : List Value) → slice_get u.functions g ≡ Some fg → entry_of proofs g ≡ Some e
-      → AtLeast (at_valuation metric ds fg (at_entry fg arguments) need) (plus (finite (metric g)) (at_valuation metric ds fg (at_entry fg arguments) e.spec.pre))
+      → AtLeast (at_valuation cost ds fg (at_entry fg arguments) need) (plus (finite (cost g)) (at_valuation cost ds fg (at_entry fg arguments) e.spec.pre))
 
   -- what is paid for in a statement
   abbrev pub PaysIn : List ℕ → Type 0
@@ -115,8 +116,8 @@ module _ (u : CoreUnitTree) (fits : unit_fits u ≡ true) (metric : Costs) (proo
   -- a leaf changes nothing
   leaf_stays : (s : CoreStmtTree) (p : AssertionTree) → Gives (leaf_rule s (function_posts need)) p → ((l : Locals) → value need (at l) ≡ value p (at l)) → Enough need s
   leaf_stays s p gives same =
-      consequence_is_enough u fits metric ds closed f start old turns calls need p s (function_posts need)
-      (leaf_is_enough u fits metric ds closed f start old turns calls s (function_posts need) p gives)
+      consequence_is_enough u fits Stack cost ds closed f start old turns calls need p s (function_posts need)
+      (leaf_is_enough u fits Stack cost ds closed f start old turns calls s (function_posts need) p gives)
       (λ l. subst (λ (v : Extended). AtLeast (value need (at l)) v) (same l) (at_least_itself (value need (at l))))
 
   unless_none : (o : Option Var) → o ≡ None → Gives (unless o (Ok need)) need
@@ -153,21 +154,21 @@ module _ (u : CoreUnitTree) (fits : unit_fits u ≡ true) (metric : Costs) (proo
       let has_spec : spec_of proofs g ≡ Some e.0.spec = ap (option_map (λ (e : EntryTree). e.spec)) e.1 in
       let type : result_type_at u g ≡ fg.0.result_type =
       ap result_type_of (slice_get-map signature u.functions g ∙ ap (option_map signature) fg.1) in
-      given_below metric (values site.arguments l w.memory) _ (value need (at l)) x (λ vs vis.
-      let called = call_fits_at u fits metric ds closed f start old turns calls (spec_of proofs) keep fg.0 site b c fg.1 fit l w moment vs vis in
+      given_below (of_stack cost) (values site.arguments l w.memory) _ (value need (at l)) x (λ vs vis.
+      let called = call_fits_at u fits Stack cost ds closed f start old turns calls (spec_of proofs) keep fg.0 site b c fg.1 fit l w moment vs vis in
       below_finite _ x (value need (at l)) (λ m is.
       let after : Return = take_result site.destination k.next l in
       let alone : RootRun = calls g vs leaves w in
       let next : Left Value Memory → RootRun = λ left. after left.result (record { memory = left.memory; input = left.input }) in
-      let weighs = followed_weighs metric alone next (m + x) (call_alone_sums metric u turns depth g vs w) (λ left ended.
-      finite_below (run_weight metric (next left)) m x (value need (at l)) is
-      (result_below metric (value need (at l)) x u f start fg.0.result_type site.destination site.arguments called.destination k.next l w moment left.result (record { memory = left.memory; input = left.input })
+      let weighs = followed_weighs cost alone next (m + x) (call_alone_sums cost u turns depth g vs w) (λ left ended.
+      finite_below (run_weight cost (next left)) m x (value need (at l)) is
+      (result_below (of_stack cost) (value need (at l)) x u f start fg.0.result_type site.destination site.arguments called.destination k.next l w moment left.result (record { memory = left.memory; input = left.input })
       (subst (λ (t : Option Scalar). IsReturn (interface_of u) t w.memory left.result (record { memory = left.memory; input = left.input })) type (call_leaves_sound u fits turns depth g vs w called.may left ended))
       (λ v some later. below_at _ x (same_anywhere (number_at f (within old (landed site.destination l v))) (number_at f (within old l))) (r.next (landed site.destination l v) _ later)))) in
-      let whole = ap (run_weight metric) (calls_alone u turns depth g vs after w) in
-      let own = keep g fg.0 e.0.spec fg.1 has_spec 0 vs leaves w called.may (λ result z ret. zero_below _ (metric g + 0)) in
-      let first : run_weight metric alone ≤ m =
-      paid (run_weight metric alone) m (metric g) (at_valuation metric ds fg.0 (at_entry fg.0 vs) e.0.spec.pre) (at_valuation metric ds fg.0 (at_entry fg.0 vs) need)
+      let whole = ap (run_weight cost) (calls_alone u turns depth g vs after w) in
+      let own = keep g fg.0 e.0.spec fg.1 has_spec 0 vs leaves w called.may (λ result z ret. zero_below _ (cost g + 0)) in
+      let first : run_weight cost alone ≤ m =
+      paid (run_weight cost alone) m (cost g) (at_valuation cost ds fg.0 (at_entry fg.0 vs) e.0.spec.pre) (at_valuation cost ds fg.0 (at_entry fg.0 vs) need)
       (same_anywhere (number_at fg.0 (at_entry fg.0 vs)) (number_at f (within old l)) ∙ is) (pays fg.0 e.0 vs fg.1 e.1) own in
       omega (arith, weighs, whole, first)))
 
@@ -201,13 +202,13 @@ module _ (u : CoreUnitTree) (fits : unit_fits u ≡ true) (metric : Costs) (proo
     stmt_stays (core.call x GetChar es) pays = leaf_stays (core.call x GetChar es) need (unless_none (first_of_destination x need) (no_destination x need none)) (λ l. refl)
     stmt_stays (core.branch e s t) pays =
         subst (λ (p : AssertionTree). Enough p (core.branch e s t)) (ap (λ b. if b then need else by_condition (expression_condition e) need need) (assertion_self need))
-        (branch_is_enough u fits metric ds closed f start old turns calls e s t need need (function_posts need)
+        (branch_is_enough u fits Stack cost ds closed f start old turns calls e s t need need (function_posts need)
         (stmt_stays s (in_first (callees s) (callees t) pays)) (stmt_stays t (in_second (callees s) (callees t) pays)))
     stmt_stays (core.loop body step) pays =
-        loop_is_enough u fits metric ds closed f start old turns calls need need need body step (function_posts need)
+        loop_is_enough u fits Stack cost ds closed f start old turns calls need need need body step (function_posts need)
         (stmt_stays body (in_first (callees body) (callees step) pays)) (stmt_stays step (in_second (callees body) (callees step) pays)) (λ l. at_least_itself (value need (at l)))
     stmt_stays (core.switch e labels ss) pays =
-        switch_is_enough u fits metric ds closed f start old turns calls need (λ part. need) e labels ss (function_posts need) (λ part. parts_stay ss part pays)
+        switch_is_enough u fits Stack cost ds closed f start old turns calls need (λ part. need) e labels ss (function_posts need) (λ part. parts_stay ss part pays)
         (λ l w n moment fit integral labels_fit i. by (chosen_part labels n) l)
       where
         by : (o : Option ℕ) (l : Locals) → AtLeast (value need (at l)) (value (before_chosen need (λ part. need) o) (at l))
@@ -218,16 +219,16 @@ module _ (u : CoreUnitTree) (fits : unit_fits u ≡ true) (metric : Costs) (proo
     stmt_stays (core.return None) pays = leaf_stays (core.return None) need (unless_none (first_of kinds.Returned need) (nothing_found need (λ y. same_kind y.kind kinds.Returned) none)) (λ l. refl)
     stmt_stays (core.return (Some e)) pays = let a = assign_stays (var kinds.Returned (type_of e)) (expression_term e) in leaf_stays (core.return (Some e)) a.0 a.1.0 a.1.1
 
-    pub stmts_stay : (ss : CoreStmts) → PaysIn (all_callees ss) → AreEnough u fits metric ds closed f start old turns calls need ss (function_posts need)
+    pub stmts_stay : (ss : CoreStmts) → PaysIn (all_callees ss) → AreEnough u fits Stack cost ds closed f start old turns calls need ss (function_posts need)
     stmts_stay no_stmts pays = λ b c fit x k r l w moment. r.next l w moment
     stmts_stay (stmt_and s ss) pays =
-        first_is_enough u fits metric ds closed f start old turns calls need need s ss (function_posts need)
+        first_is_enough u fits Stack cost ds closed f start old turns calls need need s ss (function_posts need)
         (stmt_stays s (in_first (callees s) (all_callees ss) pays)) (stmts_stay ss (in_second (callees s) (all_callees ss) pays))
 
-    parts_stay : (ss : CoreStmts) (part : ℕ) → PaysIn (all_callees ss) → IsEnoughFrom u fits metric ds closed f start old turns calls need part ss (switch_posts (function_posts need))
+    parts_stay : (ss : CoreStmts) (part : ℕ) → PaysIn (all_callees ss) → IsEnoughFrom u fits Stack cost ds closed f start old turns calls need part ss (switch_posts (function_posts need))
     parts_stay no_stmts part pays = λ b c fit x k r l w moment. r.next l w moment
     parts_stay (stmt_and s ss) zero pays =
-        first_is_enough u fits metric ds closed f start old turns calls need need s ss (function_posts need)
+        first_is_enough u fits Stack cost ds closed f start old turns calls need need s ss (function_posts need)
         (stmt_stays s (in_first (callees s) (all_callees ss) pays)) (stmts_stay ss (in_second (callees s) (all_callees ss) pays))
     parts_stay (stmt_and s ss) (suc part) pays =
         λ b c fit x k r. parts_stay ss part (in_second (callees s) (all_callees ss) pays) b c (and_parts (stmt_fits u f b c s) (stmts_fit u f b c ss) fit).1 x k r

@@ -22,7 +22,7 @@ use Rattle.qs_memory.proofs.BlockLaws.{after_same}
 use Rattle.qs_memory.proofs.Options.{followed}
 use Rattle.qs_memory.proofs.StepLaws.{memory_goes_on}
 use Rattle.qs_memory.proofs.SoundLaws.{soundness_is_kept}
-use Rattle.qs_events.specs.Weights.{Costs, run_weight}
+use Rattle.qs_events.specs.Weights.{Costs, Metric, run_weight_by}
 use Rattle.qs_calls.specs.World.{World, with_memory, RootRun, Return, Environment}
 use Rattle.qs_calls.specs.Calls.{CallsOf, take_byte, get_char, put_char}
 use Rattle.qs_calls.specs.Starts.{Signature, signature_of, AreOf, ResultIsOf, IsReady, Takes, MayStart, IsReturn}
@@ -58,14 +58,17 @@ use Rattle.qs_core.specs.Terms.{term_of}
 use Rattle.qs_core.proofs.FitLaws.{FunctionFits, function_at_fits}
 use Rattle.qs_core.proofs.TypeLaws.{integer_is_of, value_is_of}
 use Rattle.qs_core.proofs.RangeLaws.{of_type, moment_stepped, moment_assigned, arguments_are}
+use Rattle.qs_triples.specs.declared.resource.Resource.{Resource}
+use Rattle.qs_triples.specs.declared.resource.Resource.TheVariants.{Stack, Calls}
+use Rattle.qs_triples.specs.Resources.{given_back, metric_of}
 use Rattle.qs_triples.specs.Derivations.{DerivationTree, leaf, sequence, conditional, loop, switch, call, balanced_call, consequence, DerivationTrees, no_derivations, derivation_and, count_derivations, SpecTree}
 use Rattle.qs_triples.specs.Valuations.{number_or_zero, number_type, if_number, own_type, is_number_type, Valuation, value_of, number_at, within, entered, at_entry, at_exit}
 use Rattle.qs_triples.specs.ExpressionTerms.{var, term_tree, expression_term, expression_condition}
 use Rattle.qs_triples.specs.Mentions.{first_of, first_of_destination, pre_images, post_images}
-use Rattle.qs_triples.specs.Rules.{Answer, part, unless, Posts, Scope, with_next, target_kind, replaced, leaf_rule, by_condition, either, step_posts, body_posts, switch_posts, before_part, before_chosen, switched, with_frame, around, at_call, is_balanced, CallSite, is_consequence, count_stmts, pre, sequence_pre, parts_pre}
+use Rattle.qs_triples.specs.Rules.{Answer, part, unless, Posts, Scope, with_next, target_kind, replaced, leaf_rule, by_condition, either, step_posts, body_posts, switch_posts, before_part, before_chosen, switched, with_frame, with_frame_behind, around, at_call, is_balanced, CallSite, of_call, known_callee, balanced_rule, is_consequence, count_stmts, pre, sequence_pre, parts_pre}
 use Rattle.qs_triples.specs.Entries.{AreClosed}
-use Rattle.qs_triples.proofs.Answers.{Gives, ok_same, bind_ok, part_ok, require_ok, unless_ok, unless_of_ok, by_verdict_ok, sequence_ok, branch_ok, loop_ok, switch_ok, call_at, call_ok, spec_ok}
-use Rattle.qs_triples.proofs.Bounds.{IsBelow, zero_below, below_more, below_at, given_below, choice_below, framed, with_frame_below, around_below}
+use Rattle.qs_triples.proofs.Answers.{Gives, ok_same, bind_ok, part_ok, require_ok, unless_ok, unless_of_ok, given_back_ok, by_verdict_ok, sequence_ok, branch_ok, loop_ok, switch_ok, call_at, call_ok, spec_ok}
+use Rattle.qs_triples.proofs.Bounds.{IsBelow, zero_below, below_more, below_at, given_below, choice_below, framed, framed_alone, with_frame_below, around_below}
 use Rattle.qs_triples.proofs.Names.{seen, shown}
 use Rattle.qs_triples.proofs.ValuationLaws.{in_range, OthersStay, unmentioned, replaced_value}
 use Rattle.qs_triples.proofs.TermLaws.{Stands, expression_stands}
@@ -79,32 +82,35 @@ use Rattle.qs_triples.proofs.CallLaws.{pre_at_call, ResultsAre, post_at_call, ba
 
 -- the value of an assertion of a function
 abbrev pub at_valuation : Costs → List Define → CoreFunctionTree → Valuation → AssertionTree → Extended
-at_valuation metric ds f v a = value a (seen metric ds (number_at f v))
+at_valuation cost ds f v a = value a (seen cost ds (number_at f v))
 
 -- a function keeps its specification, whatever follows
-abbrev pub KeepsSpec : Costs → CoreUnitTree → List Define → CallsOf → (g : ℕ) → CoreFunctionTree → SpecTree → Type 0
-KeepsSpec metric u ds calls g f spec =
+abbrev pub KeepsSpec : Resource → Costs → CoreUnitTree → List Define → CallsOf → (g : ℕ) → CoreFunctionTree → SpecTree → Type 0
+KeepsSpec resource cost u ds calls g f spec =
     (x : ℕ) (arguments : List Value) (k : Return) (w : World) → MayStart (interface_of u) g arguments w
     → ((result : Option Value) (z : World) → IsReturn (interface_of u) f.result_type w.memory result z
-    → IsBelow (run_weight metric (k result z)) (at_valuation metric ds f (at_exit (entered f arguments) result) spec.post) (metric g + x))
-    → IsBelow (run_weight metric (calls g arguments k w)) (at_valuation metric ds f (at_entry f arguments) spec.pre) (metric g + x)
+    → IsBelow (run_weight_by (metric_of resource cost) (k result z)) (at_valuation cost ds f (at_exit (entered f arguments) result) spec.post) (given_back resource cost g + x))
+    → IsBelow (run_weight_by (metric_of resource cost) (calls g arguments k w)) (at_valuation cost ds f (at_entry f arguments) spec.pre) (cost g + x)
 
-abbrev pub AllKeepSpecs : Costs → CoreUnitTree → List Define → (ℕ → Option SpecTree) → CallsOf → Type 0
-AllKeepSpecs metric u ds specs calls =
+abbrev pub AllKeepSpecs : Resource → Costs → CoreUnitTree → List Define → (ℕ → Option SpecTree) → CallsOf → Type 0
+AllKeepSpecs resource cost u ds specs calls =
     (g : ℕ) (f : CoreFunctionTree) (spec : SpecTree) → slice_get u.functions g ≡ Some f → specs g ≡ Some spec
-    → KeepsSpec metric u ds calls g f spec
+    → KeepsSpec resource cost u ds calls g f spec
 
-module _ (u : CoreUnitTree) (fits : unit_fits u ≡ true) (metric : Costs) (ds : List Define) (closed : AreClosed ds) (f : CoreFunctionTree) (start : Memory) (old : Environment) (turns : ℕ) (calls : CallsOf) where
+module _ (u : CoreUnitTree) (fits : unit_fits u ≡ true) (resource : Resource) (cost : Costs) (ds : List Define) (closed : AreClosed ds) (f : CoreFunctionTree) (start : Memory) (old : Environment) (turns : ℕ) (calls : CallsOf) where
+  abbrev metric : Metric
+  metric = metric_of resource cost
+
   abbrev context : Context
   context = record { turns = turns; calls = calls }
 
   -- the state of a moment
   abbrev pub at : Locals → State
-  at l = seen metric ds (number_at f (within old l))
+  at l = seen cost ds (number_at f (within old l))
 
   -- at each moment, what follows weighs at most p, and x besides
   abbrev pub Holds : AssertionTree → Continuation → ℕ → Type 0
-  Holds p k x = (l : Locals) (w : World) → IsMoment u f start l w → IsBelow (run_weight metric (k l w)) (value p (at l)) x
+  Holds p k x = (l : Locals) (w : World) → IsMoment u f start l w → IsBelow (run_weight_by metric (k l w)) (value p (at l)) x
 
   -- the valuation in which the function has returned this
   abbrev pub with_result : Locals → Option Value → Valuation
@@ -117,7 +123,7 @@ module _ (u : CoreUnitTree) (fits : unit_fits u ≡ true) (metric : Costs) (ds :
     pub on_continue : may_continue ≡ true → Holds q.on_continue k.on_continue x
     pub on_return :
         (result : Option Value) (w : World) (l : Locals) → IsReturn (interface_of u) f.result_type start result w
-        → IsBelow (run_weight metric (k.on_return result w)) (at_valuation metric ds f (with_result l result) q.on_return) x
+        → IsBelow (run_weight_by metric (k.on_return result w)) (at_valuation cost ds f (with_result l result) q.on_return) x
 
   -- p is enough before the statement
   abbrev pub IsEnough : AssertionTree → CoreStmtTree → Posts → Type 0
@@ -164,7 +170,7 @@ module _ (u : CoreUnitTree) (fits : unit_fits u ≡ true) (metric : Costs) (ds :
   target_own (targets.Temporary x) s is i = ap (λ (o : Option Scalar). o >>= if_number) is ∙ ap (λ b. only_if b (Some (number_type s))) i
 
   term_number : (e : CoreExprTree) (l : Locals) (w : World) (v : Value) (t : TermTree) → expr_fits u f e ≡ true → IsMoment u f start l w → expressions.value e l w.memory ≡ Some v → expression_term e ≡ Some t → Stands (type_of e) v (term_value t (at l))
-  term_number e l w v t fit is h j = expression_stands u f l w is.range old metric (seen metric ds (λ x. pos 0)).names e t v fit j h
+  term_number e l w v t fit is h j = expression_stands u f l w is.range old cost (seen cost ds (λ x. pos 0)).names e t v fit j h
 
   assign_rule : (x : Target) (e : CoreExprTree) (q p : AssertionTree) → Gives (replaced (var (target_kind x) (type_of e)) (expression_term e) q) p → (qs : Posts) → qs.next ≡ q → IsEnough p (core.assign x e) qs
   assign_rule x e q p is qs same b c fit y k r l w moment =
@@ -172,14 +178,14 @@ module _ (u : CoreUnitTree) (fits : unit_fits u ≡ true) (metric : Costs) (ds :
       let type = type_is (target_type f x) (type_of e) two.1 in
       given_below metric (expressions.value e l w.memory) _ (value p (at l)) y (λ v i.
       below_at _ y
-      (sym (replaced_value f (target_kind x) (within old l) (within old (assigned x l v)) (assign_others x l v) metric ds (number_type (type_of e)) v (expression_term e) q p is (assigned_value x l v)
+      (sym (replaced_value f (target_kind x) (within old l) (within old (assigned x l v)) (assign_others x l v) cost ds (number_type (type_of e)) v (expression_term e) q p is (assigned_value x l v)
       (λ t h. let s = term_number e l w v t two.0 moment i h in (target_own x (type_of e) type s.integer, s.number))))
-      (subst (λ (a : AssertionTree). IsBelow (run_weight metric (k.next (assigned x l v) w)) (value a (at (assigned x l v))) y) same
+      (subst (λ (a : AssertionTree). IsBelow (run_weight_by metric (k.next (assigned x l v) w)) (value a (at (assigned x l v))) y) same
       (r.next (assigned x l v) w (moment_assigned u f start x l w v (of_type w.memory (target_type f x) (type_of e) v type (value_is_of u f e l w v two.0 moment.range i)) moment))))
 
   pointer_below :
       (e : CoreExprTree) (l : Locals) (w : World) (g : Pointer → RootRun) (a : Extended) (x : ℕ)
-      → ((p : Pointer) → IsBelow (run_weight metric (g p)) a x) → IsBelow (run_weight metric (given_pointer e l w g)) a x
+      → ((p : Pointer) → IsBelow (run_weight_by metric (g p)) a x) → IsBelow (run_weight_by metric (given_pointer e l w g)) a x
   pointer_below e l w g a x h =
       given_below metric (expressions.value e l w.memory) _ a x (λ v i. given_below metric (as_pointer v) g a x (λ p j. h p))
 
@@ -194,15 +200,15 @@ module _ (u : CoreUnitTree) (fits : unit_fits u ≡ true) (metric : Costs) (ds :
   }
 
   abbrev ReturnsBelow : (start : Memory) → (result_type : Option Scalar) → Return → Extended → ℕ → Type 0
-  ReturnsBelow m result_type k a x = (result : Option Value) (z : World) → IsReturn (interface_of u) result_type m result z → IsBelow (run_weight metric (k result z)) a x
+  ReturnsBelow m result_type k a x = (result : Option Value) (z : World) → IsReturn (interface_of u) result_type m result z → IsBelow (run_weight_by metric (k result z)) a x
 
-  put_below : (vs : List Value) (k : Return) (w : World) (a : Extended) (x : ℕ) → IsReady (interface_of u) w → ReturnsBelow w.memory (Some scalars.Int) k a x → IsBelow (run_weight metric (put_char vs k w)) a x
+  put_below : (vs : List Value) (k : Return) (w : World) (a : Extended) (x : ℕ) → IsReady (interface_of u) w → ReturnsBelow w.memory (Some scalars.Int) k a x → IsBelow (run_weight_by metric (put_char vs k w)) a x
   put_below [] k w a x ready h = zero_below a x
   put_below (address p ∷ others) k w a x ready h = zero_below a x
   put_below (integer n ∷ v ∷ others) k w a x ready h = zero_below a x
   put_below (integer n ∷ []) k w a x ready h = h (Some (integer (n % 256))) w (returned_number w w (n % 256) (omega arith) refl ready)
 
-  take_below : (input : List ℕ) (k : Return) (w : World) (a : Extended) (x : ℕ) → IsReady (interface_of u) w → All (λ byte. byte < 256) input → ReturnsBelow w.memory (Some scalars.Int) k a x → IsBelow (run_weight metric (take_byte input k w)) a x
+  take_below : (input : List ℕ) (k : Return) (w : World) (a : Extended) (x : ℕ) → IsReady (interface_of u) w → All (λ byte. byte < 256) input → ReturnsBelow w.memory (Some scalars.Int) k a x → IsBelow (run_weight_by metric (take_byte input k w)) a x
   take_below [] k w a x ready are h = h (Some (integer (2 ^ 32 - 1))) w (returned_number w w (2 ^ 32 - 1) (omega arith) refl ready)
   take_below (b ∷ input) k w a x ready are h =
       let small : b < 256 = All-head (λ byte. byte < 256) b input are in
@@ -210,14 +216,14 @@ module _ (u : CoreUnitTree) (fits : unit_fits u ≡ true) (metric : Costs) (ds :
       (returned_number w (record w { input = input }) b (omega arith) refl
       (record { sound = ready.sound; data_blocks = ready.data_blocks; input = All-tail (λ byte. byte < 256) b input are }))
 
-  get_below : (vs : List Value) (k : Return) (w : World) (a : Extended) (x : ℕ) → IsReady (interface_of u) w → ReturnsBelow w.memory (Some scalars.Int) k a x → IsBelow (run_weight metric (get_char vs k w)) a x
+  get_below : (vs : List Value) (k : Return) (w : World) (a : Extended) (x : ℕ) → IsReady (interface_of u) w → ReturnsBelow w.memory (Some scalars.Int) k a x → IsBelow (run_weight_by metric (get_char vs k w)) a x
   get_below [] k w a x ready h = take_below w.input k w a x ready ready.input h
   get_below (v ∷ others) k w a x ready h = zero_below a x
 
   -- the frame stays where a result lands
   destination_stays : (x : Option ℕ) (l : Locals) (v : Value) (a : AssertionTree) → first_of_destination x a ≡ None → value a (at l) ≡ value a (at (landed x l v))
   destination_stays None l v a none = refl
-  destination_stays (Some k) l v a none = unmentioned f (kinds.Temporary k) (within old l) (within old (assigned (targets.Temporary k) l v)) (assign_others (targets.Temporary k) l v) metric ds a none
+  destination_stays (Some k) l v a none = unmentioned f (kinds.Temporary k) (within old l) (within old (assigned (targets.Temporary k) l v)) (assign_others (targets.Temporary k) l v) cost ds a none
 
   environment_rule : (x : Option ℕ) (es : List CoreExprTree) (q : Posts) (p : AssertionTree) → Gives (unless (first_of_destination x q.next) (Ok q.next)) p → (y : ℕ) (k : Continuations) → Holds q.next k.next y → destination_fits f (Some scalars.Int) x es ≡ true → (l : Locals) (w : World) → IsMoment u f start l w → ReturnsBelow w.memory (Some scalars.Int) (take_result x k.next l) (value p (at l)) y
   environment_rule x es q p is y k next fit l w moment result z returns =
@@ -262,7 +268,7 @@ module _ (u : CoreUnitTree) (fits : unit_fits u ≡ true) (metric : Costs) (ds :
       let type = type_is f.result_type (type_of e) two.1 in
       given_below metric (expressions.value e l w.memory) _ (value p (at l)) x (λ v i.
       below_at _ x
-      (sym (replaced_value f kinds.Returned (within old l) (with_result l (Some v)) (return_others l (Some v)) metric ds (number_type (type_of e)) v (expression_term e) q.on_return p is refl
+      (sym (replaced_value f kinds.Returned (within old l) (with_result l (Some v)) (return_others l (Some v)) cost ds (number_type (type_of e)) v (expression_term e) q.on_return p is refl
       (λ t h. let s = term_number e l w v t two.0 moment i h in (ap (λ (o : Option Scalar). o >>= if_number) type ∙ ap (λ b. only_if b (Some (number_type (type_of e)))) s.integer, s.number))))
       (r.on_return (Some v) w l (record {
         typed = subst (λ (o : Option Scalar). ResultIsOf w.memory o (Some v)) (sym type) (value_is_of u f e l w v two.0 moment.range i);
@@ -319,9 +325,9 @@ module _ (u : CoreUnitTree) (fits : unit_fits u ≡ true) (metric : Costs) (ds :
       given_below metric (expressions.value e l w.memory) _ _ x (λ v i. given_below metric (truth w.memory v) _ _ x (λ yes told.
       choice_below metric yes (runs s context k l w) (runs t context k l w) _ x
       (λ is. below_more _ (value a (at l)) _ x (one b c two.1 x k r l w moment)
-      (either_left (expression_condition e) a d (at l) (λ n ns. expression_holds u f l w moment.range old metric (seen metric ds (λ x. pos 0)).names e n v true two.0 ns i (told ∙ ap Some is))))
+      (either_left (expression_condition e) a d (at l) (λ n ns. expression_holds u f l w moment.range old cost (seen cost ds (λ x. pos 0)).names e n v true two.0 ns i (told ∙ ap Some is))))
       (λ is. below_more _ (value d (at l)) _ x (other b c three.1 x k r l w moment)
-      (either_right (expression_condition e) a d (at l) (λ n ns. expression_holds u f l w moment.range old metric (seen metric ds (λ x. pos 0)).names e n v false two.0 ns i (told ∙ ap Some is))))))
+      (either_right (expression_condition e) a d (at l) (λ n ns. expression_holds u f l w moment.range old cost (seen cost ds (λ x. pos 0)).names e n v false two.0 ns i (told ∙ ap Some is))))))
 
   -- ---- loop
 
@@ -373,7 +379,7 @@ module _ (u : CoreUnitTree) (fits : unit_fits u ≡ true) (metric : Costs) (ds :
       (before : ℕ → AssertionTree) (ss : CoreStmts) (q : Posts) (c : Bool) → stmts_fit u f true c ss ≡ true
       → PartsAreEnough before ss (switch_posts q) → (x : ℕ) (b : Bool) (k : Continuations) → Ready x b c k q
       → (o : Option ℕ) (l : Locals) (w : World) → IsMoment u f start l w
-      → IsBelow (run_weight metric (at_part o (λ part. runs_from ss part context (in_switch k)) k.next l w)) (value (before_chosen q.next before o) (at l)) x
+      → IsBelow (run_weight_by metric (at_part o (λ part. runs_from ss part context (in_switch k)) k.next l w)) (value (before_chosen q.next before o) (at l)) x
   entered_below before ss q c fit parts x b k r None l w moment = r.next l w moment
   entered_below before ss q c fit parts x b k r (Some part) l w moment =
       parts part true c fit x (in_switch k) (record { next = r.next; on_break = λ _. r.next; on_continue = r.on_continue; on_return = r.on_return }) l w moment
@@ -415,11 +421,11 @@ module _ (u : CoreUnitTree) (fits : unit_fits u ≡ true) (metric : Costs) (ds :
 
   module _ (order : IsInOrder ds) where
     certificate_covers : (w : CertTree) (p q : AssertionTree) → verdict [] ds p q w ≡ None → Covered p q
-    certificate_covers w p q fine l = shown metric ds closed order p q w fine (number_at f (within old l)) (in_range metric ds f (within old l))
+    certificate_covers w p q fine l = shown cost ds closed order p q w fine (number_at f (within old l)) (in_range cost ds f (within old l))
 
   -- ---- calls
 
-  module _ (specs : ℕ → Option SpecTree) (keep : AllKeepSpecs metric u ds specs calls) where
+  module _ (specs : ℕ → Option SpecTree) (keep : AllKeepSpecs resource cost u ds specs calls) where
     -- what a call at this moment has
     pub record CallFits (g : CoreFunctionTree) (site : CallSite) (l : Locals) (w : World) (vs : List Value) : Type 0 where
       pub types : map type_of site.arguments ≡ parameter_types g
@@ -492,7 +498,7 @@ module _ (u : CoreUnitTree) (fits : unit_fits u ≡ true) (metric : Costs) (ds :
         (g : CoreFunctionTree) (gf : FunctionFits u g) (es : List CoreExprTree) (vs : List Value) (types : map type_of es ≡ parameter_types g)
         (x : Option ℕ) (l : Locals) (v : Value) (result : Option Value) (are : TermsAre g gf.parameters es vs types (at (landed x l v)))
         → destination_fits f g.result_type x es ≡ true → IsResult x result v
-        → ResultsAre metric ds g gf.parameters es vs types (number_at f (within old (landed x l v))) are x result
+        → ResultsAre cost ds g gf.parameters es vs types (number_at f (within old (landed x l v))) are x result
     result_landed g gf es vs types None l v result are fit is y t kind own term = cc
     result_landed g gf es vs types (Some k) l v result are fit is y t kind own term =
         let first = and_parts (taken_fits f g.result_type k) (not (any_mentions k es)) fit in
@@ -510,55 +516,66 @@ module _ (u : CoreUnitTree) (fits : unit_fits u ≡ true) (metric : Costs) (ds :
         own_same None h = cc
         own_same (Some s) h = ap (λ (o : Option Scalar). o >>= if_number) (type_is (temporary_type f k) s h)
 
+    -- what is there behind a call with a frame is enough for what the call must leave
+    framed_behind :
+        (r : Resource) (g : ℕ) (b a : AssertionTree) (m : Locals) (n y x : ℕ) (v : Extended) → value a (at m) ≡ finite y → IsBelow n v x
+        → AtLeast (value (with_frame_behind r g b a) (at m)) v → IsBelow n (value b (at m)) (given_back r cost g + (y + x))
+    framed_behind Stack g b a m n y x v is h k =
+        framed n (cost g) y x (value b (at m)) v h
+        (subst (λ (e : Extended). AtLeast (plus (finite (cost g)) (plus (value b (at m)) (plus e (finite 0)))) v) is k)
+    framed_behind Calls g b a m n y x v is h k =
+        framed_alone n y x (value b (at m)) v h
+        (subst (λ (e : Extended). AtLeast (plus (value b (at m)) (plus e (finite 0))) v) is k)
+
     call_is_enough :
         (site : CallSite) (g : CoreFunctionTree) (spec : SpecTree) (a : AssertionTree) (q : Posts)
         → slice_get u.functions site.function ≡ Some g → specs site.function ≡ Some spec
         → first_of_destination site.destination a ≡ None → first_without (pre_images g site.arguments) spec.pre ≡ None
         → first_without (post_images g site.destination site.arguments) spec.post ≡ None
-        → Covered (with_frame site.function (at_call (post_images g site.destination site.arguments) spec.post) a) q.next
+        → Covered (with_frame_behind resource site.function (at_call (post_images g site.destination site.arguments) spec.post) a) q.next
         → IsEnough (with_frame site.function (at_call (pre_images g site.arguments) spec.pre) a) (call_at site) q
     call_is_enough site g spec a q is known framed_away pre_none post_none least b c fit x k r l w moment =
         let n : ℕ = site.function in
         let gf = function_at_fits u fits n g is in
         given_below metric (values site.arguments l w.memory) _ (value (with_frame n (at_call (pre_images g site.arguments) spec.pre) a) (at l)) x (λ vs vis.
         let called = call_fits_at g site b c is fit l w moment vs vis in
-        with_frame_below _ (metric n) x (value (at_call (pre_images g site.arguments) spec.pre) (at l)) (value a (at l)) (λ y ais.
-        below_at _ (metric n + (y + x))
-        (sym (pre_at_call metric ds g gf.parameters site.arguments vs called.types (number_at f (within old l)) (terms_now g site b c gf fit l w moment vs vis called.types) spec.pre pre_none))
+        with_frame_below _ (cost n) x (value (at_call (pre_images g site.arguments) spec.pre) (at l)) (value a (at l)) (λ y ais.
+        below_at _ (cost n + (y + x))
+        (sym (pre_at_call cost ds g gf.parameters site.arguments vs called.types (number_at f (within old l)) (terms_now g site b c gf fit l w moment vs vis called.types) spec.pre pre_none))
         (keep n g spec is known (y + x) vs (take_result site.destination k.next l) w called.may (λ result z ret.
-        result_below metric (at_valuation metric ds g (at_exit (entered g vs) result) spec.post) (metric n + (y + x)) u f start g.result_type site.destination site.arguments called.destination k.next l w moment result z ret (λ v some later.
+        result_below metric (at_valuation cost ds g (at_exit (entered g vs) result) spec.post) (given_back resource cost n + (y + x)) u f start g.result_type site.destination site.arguments called.destination k.next l w moment result z ret (λ v some later.
         let m : Locals = landed site.destination l v in
         let are = terms_landed g site b c gf fit l w vs vis called.types called.destination v z later in
-        below_at _ (metric n + (y + x))
-        (post_at_call metric ds g gf.parameters site.arguments vs called.types (number_at f (within old m)) are site.destination result (result_landed g gf site.arguments vs called.types site.destination l v result are called.destination some) spec.post post_none)
-        (framed _ (metric n) y x (value (at_call (post_images g site.destination site.arguments) spec.post) (at m)) (value q.next (at m)) (r.next m z later)
-        (subst (λ (e : Extended). AtLeast (plus (finite (metric n)) (plus (value (at_call (post_images g site.destination site.arguments) spec.post) (at m)) (plus e (finite 0)))) (value q.next (at m)))
-        (sym (destination_stays site.destination l v a framed_away) ∙ ais) (least m))))))))
+        below_at _ (given_back resource cost n + (y + x))
+        (post_at_call cost ds g gf.parameters site.arguments vs called.types (number_at f (within old m)) are site.destination result (result_landed g gf site.arguments vs called.types site.destination l v result are called.destination some) spec.post post_none)
+        (framed_behind resource n (at_call (post_images g site.destination site.arguments) spec.post) a m _ y x (value q.next (at m))
+        (sym (destination_stays site.destination l v a framed_away) ∙ ais) (r.next m z later) (least m)))))))
 
     balanced_is_enough :
-        (site : CallSite) (g : CoreFunctionTree) (spec : SpecTree) (q : Posts)
+        (site : CallSite) (g : CoreFunctionTree) (spec : SpecTree) (q : Posts) → given_back resource cost site.function ≡ cost site.function
         → slice_get u.functions site.function ≡ Some g → specs site.function ≡ Some spec → is_balanced spec ≡ true
         → first_of_destination site.destination q.next ≡ None → first_without (pre_images g site.arguments) spec.pre ≡ None
         → IsEnough (around site.function q.next (at_call (pre_images g site.arguments) spec.pre)) (call_at site) q
-    balanced_is_enough site g spec q is known even next_away pre_none b c fit x k r l w moment =
+    balanced_is_enough site g spec q whole is known even next_away pre_none b c fit x k r l w moment =
         let n : ℕ = site.function in
         let gf = function_at_fits u fits n g is in
         given_below metric (values site.arguments l w.memory) _ (value (around n q.next (at_call (pre_images g site.arguments) spec.pre)) (at l)) x (λ vs vis.
         let called = call_fits_at g site b c is fit l w moment vs vis in
-        let before = pre_at_call metric ds g gf.parameters site.arguments vs called.types (number_at f (within old l)) (terms_now g site b c gf fit l w moment vs vis called.types) spec.pre pre_none in
-        around_below _ (metric n) x (value q.next (at l)) (value (at_call (pre_images g site.arguments) spec.pre) (at l)) (λ y raise.
-        below_at _ (metric n + (y + x)) (sym before)
+        let before = pre_at_call cost ds g gf.parameters site.arguments vs called.types (number_at f (within old l)) (terms_now g site b c gf fit l w moment vs vis called.types) spec.pre pre_none in
+        around_below _ (cost n) x (value q.next (at l)) (value (at_call (pre_images g site.arguments) spec.pre) (at l)) (λ y raise.
+        below_at _ (cost n + (y + x)) (sym before)
         (keep n g spec is known (y + x) vs (take_result site.destination k.next l) w called.may (λ result z ret.
-        below_at _ (metric n + (y + x)) (before ∙ sym (balanced_at_call metric ds g site.arguments vs spec even pre_none result))
+        subst (λ (c : ℕ). IsBelow (run_weight_by metric (take_result site.destination k.next l result z)) (at_valuation cost ds g (at_exit (entered g vs) result) spec.post) (c + (y + x))) (sym whole)
+        (below_at _ (cost n + (y + x)) (before ∙ sym (balanced_at_call cost ds g site.arguments vs spec even pre_none result))
         (raise _
         (result_below metric (value q.next (at l)) x u f start g.result_type site.destination site.arguments called.destination k.next l w moment result z ret (λ v some later.
-        below_at _ x (sym (destination_stays site.destination l v q.next next_away)) (r.next (landed site.destination l v) z later))))))))
+        below_at _ x (sym (destination_stays site.destination l v q.next next_away)) (r.next (landed site.destination l v) z later)))))))))
 
     -- ---- all rules
 
     module _ (order : IsInOrder ds) (functions : List CoreFunctionTree) (same_functions : functions ≡ u.functions) where
       abbrev scope : Scope
-      scope = record { function = f; functions = functions; specs = specs; defines = ds }
+      scope = record { resource = resource; function = f; functions = functions; specs = specs; defines = ds }
 
       at_statement : (p : AssertionTree) (s t : CoreStmtTree) (q : Posts) → s ≡ t → IsEnough p t q → IsEnough p s q
       at_statement p s t q e h = subst (λ (s : CoreStmtTree). IsEnough p s q) (sym e) h
@@ -580,13 +597,14 @@ module _ (u : CoreUnitTree) (fits : unit_fits u ≡ true) (metric : Costs) (ds :
           let m3 = unless_of_ok (Some site.function) _ _ p m2.1 in
           let m4 = unless_of_ok (Some site.function) _ _ p m3.1 in
           let m5 = unless_of_ok (Some site.function) _ _ p m4.1 in
-          let v = by_verdict_ok (verdict [] ds (with_frame site.function (at_call (post_images g site.destination site.arguments) j.known.spec.post) a) q.next w) _ p m5.1 in
+          let v = by_verdict_ok (verdict [] ds (with_frame_behind resource site.function (at_call (post_images g site.destination site.arguments) j.known.spec.post) a) q.next w) _ p m5.1 in
           at_statement p s (call_at site) q i.1.0 (at_answer _ p (call_at site) q v.1
           (call_is_enough site g j.known.spec a q (in_unit g site.function j.function_is) j.spec_is m2.0 m3.0 m5.0 (certificate_covers order w _ q.next v.0)))
 
       balanced_sound : (s : CoreStmtTree) (q : Posts) (p : AssertionTree) → Gives (pre balanced_call scope s q) p → IsEnough p s q
       balanced_sound s q p is =
-          let i = call_ok s _ p is in
+          let back = given_back_ok resource (of_call s (λ site. known_callee scope site (balanced_rule q site))) p is in
+          let i = call_ok s _ p back.1 in
           let site : CallSite = i.0 in
           let j = spec_ok site.function (slice_get functions site.function) (specs site.function) _ p i.1.1 in
           let g : CoreFunctionTree = j.known.function in
@@ -594,7 +612,7 @@ module _ (u : CoreUnitTree) (fits : unit_fits u ≡ true) (metric : Costs) (ds :
           let m2 = unless_ok _ _ p m1.1 in
           let m3 = unless_of_ok (Some site.function) _ _ p m2.1 in
           at_statement p s (call_at site) q i.1.0 (at_answer _ p (call_at site) q (ok_same _ p m3.1)
-          (balanced_is_enough site g j.known.spec q (in_unit g site.function j.function_is) j.spec_is m1.0 m2.0 m3.0))
+          (balanced_is_enough site g j.known.spec q (ap (λ (r : Resource). given_back r cost site.function) back.0) (in_unit g site.function j.function_is) j.spec_is m1.0 m2.0 m3.0))
 
       -- what is needed before the parts of a switch, and enough there
       record IsParts (ss : CoreStmts) (q : Posts) (rule : List AssertionTree → Answer) (p : AssertionTree) : Type 0 where

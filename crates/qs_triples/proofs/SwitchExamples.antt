@@ -12,6 +12,7 @@ use Rattle.qs_core.specs.Trees as core
 use Rattle.qs_core.specs.Trees.{CoreExprTree, CoreStmtTree, CoreVariableTree, CoreFunctionTree, stmts_of}
 use Rattle.qs_triples.specs.Derivations.{DerivationTree, leaf, sequence, loop, switch}
 use Rattle.qs_triples.specs.ExpressionTerms.{var}
+use Rattle.qs_triples.specs.declared.resource.Resource.TheVariants.{Stack}
 use Rattle.qs_triples.specs.Rules.{shape, Answer, Posts, Scope, pre}
 use Rattle.qs_triples.specs.TreeOf.{derivations_of}
 use Rattle.qs_entail.specs.Certificates.{same}
@@ -42,7 +43,7 @@ is (core.variable s k) = variable (var (kinds.Plain k) s)
 is e = number (pos 0)
 
 abbrev scope : Scope
-scope = record { function = f; functions = f ∷ []; specs = λ g. None; defines = [] }
+scope = record { resource = Stack; function = f; functions = f ∷ []; specs = λ g. None; defines = [] }
 
 -- 1 behind the statement, 2 after a break, 3 after a continue, 4 after a return
 abbrev posts : Posts

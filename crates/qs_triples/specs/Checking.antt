@@ -11,7 +11,7 @@ use Rattle.qs_core.specs.declared.unit.CoreUnit.{CoreUnit}
 use Rattle.qs_core.specs.declared.units.CoreFunction.{CoreFunction}
 use Rattle.qs_entail.specs.Verdicts.{verdict}
 use Rattle.qs_triples.specs.Derivations.{EntryTree}
-use Rattle.qs_triples.specs.Entries.{function_posts, mentions_fault, entry_told, result_at_end, fault_in, entry_fault, function_fault, HasDerivedEntry}
+use Rattle.qs_triples.specs.Entries.{function_posts, mentions_fault, entry_told, result_at_end, fault_in_for, entry_fault_for, function_fault_for, HasDerivedEntryFor, function_fault, HasDerivedEntry}
 use Rattle.qs_triples.specs.Mentions.{in_pre, in_post, first_other, as_plain}
 use Rattle.qs_triples.specs.Rules as rules
 use Rattle.qs_triples.specs.Rules.{in_precondition, in_postcondition, Answer, Scope, pre}
@@ -21,6 +21,7 @@ use Rattle.qs_triples.specs.declared.derivation.FunctionProof.{FunctionProof}
 use Rattle.qs_triples.specs.declared.derivation.Proofs.{Proofs}
 use Rattle.qs_triples.specs.declared.failure.Failure.{Failure}
 use Rattle.qs_triples.specs.declared.fault.DerivFault.{DerivFault}
+use Rattle.qs_triples.specs.declared.resource.Resource.{Resource}
 
 -- that the precondition is at least what the body needs
 abbrev pub entry_certificate : Scope → EntryTree → (needed : AssertionTree) → Option rules.DerivFault
@@ -48,12 +49,20 @@ WasDue failure fault =
 
 -- ---- of the code's values: an entry whose function is known, one that is found, and the first of a function
 
-abbrev pub known_entry_fault : CoreUnit → CoreFunction → Proofs → FunctionProof → Option rules.DerivFault
-known_entry_fault unit f proofs e = fault_in (unit_tree unit) (proofs_tree proofs) (function_tree f) (entry_tree e)
+abbrev pub known_entry_fault : Resource → CoreUnit → CoreFunction → Proofs → FunctionProof → Option rules.DerivFault
+known_entry_fault resource unit f proofs e =
+    fault_in_for resource (unit_tree unit) (proofs_tree proofs) (function_tree f) (entry_tree e)
 
-abbrev pub found_entry_fault : CoreUnit → Proofs → FunctionProof → Option rules.DerivFault
-found_entry_fault unit proofs e = entry_fault (unit_tree unit) (proofs_tree proofs) (entry_tree e)
+abbrev pub found_entry_fault : Resource → CoreUnit → Proofs → FunctionProof → Option rules.DerivFault
+found_entry_fault resource unit proofs e = entry_fault_for resource (unit_tree unit) (proofs_tree proofs) (entry_tree e)
 
+abbrev pub first_entry_fault_for : Resource → CoreUnit → (function : ℕ) → Proofs → Option rules.DerivFault
+first_entry_fault_for resource unit f proofs = function_fault_for resource (unit_tree unit) (proofs_tree proofs) f
+
+abbrev pub FirstEntryIsDerivedFor : Resource → CoreUnit → (function : ℕ) → Proofs → Type 0
+FirstEntryIsDerivedFor resource unit f proofs = HasDerivedEntryFor resource (unit_tree unit) (proofs_tree proofs) f
+
+-- on the stack
 abbrev pub first_entry_fault : CoreUnit → (function : ℕ) → Proofs → Option rules.DerivFault
 first_entry_fault unit f proofs = function_fault (unit_tree unit) (proofs_tree proofs) f
 

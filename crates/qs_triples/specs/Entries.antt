@@ -1,4 +1,5 @@
--- Entries: which are derived, which hold along the paths of calls, and when all functions have valid ones.
+-- Entries: which are derived, for the stack or for calls, which hold along the paths of calls, and when all functions have
+-- valid ones.
 use Rattle.std.specs.Prelude.{◌≡◌, ◌⊎◌, ℕ, ◌<◌, Bool, true, false, List, [], ◌∷◌, length, Option, Some, None, is_some}
 use Rattle.std.specs.List.{slice_get}
 use Rattle.std.specs.Option.{option_or}
@@ -19,12 +20,14 @@ use Rattle.qs_entail.specs.Verdicts.{verdict}
 use Rattle.qs_core.specs.Trees as core
 use Rattle.qs_core.specs.Trees.{CoreStmtTree, CoreStmts, no_stmts, stmt_and, CoreFunctionTree, CoreUnitTree}
 use Rattle.qs_core.specs.CallGraph.{HasCall}
+use Rattle.qs_triples.specs.declared.resource.Resource.{Resource}
+use Rattle.qs_triples.specs.declared.resource.Resource.TheVariants.{Stack}
 use Rattle.qs_triples.specs.Derivations.{EntryTree, ProofsTree, entry_of, entries_of, spec_of}
 use Rattle.qs_triples.specs.Valuations.{value_at_entry}
 use Rattle.qs_triples.specs.Mentions.{in_pre, in_post, first_other, first_of, as_plain}
 use Rattle.qs_triples.specs.Rules.{Place, in_precondition, in_postcondition, DerivFault, shape, mentions, entry, bad_order, Posts, Scope, pre}
 
--- ---- derived entries
+-- ---- derived entries, for what is bounded
 
 abbrev pub is_return : CoreStmtTree → Bool
 is_return (core.return e) = true
@@ -50,9 +53,9 @@ ends_in_return (stmt_and s (stmt_and t ss)) = ends_in_return (stmt_and t ss)
 abbrev pub function_posts : (post : AssertionTree) → Posts
 function_posts post = record { next = post; on_break = post; on_continue = post; on_return = post }
 
-abbrev pub scope_of : CoreUnitTree → ProofsTree → CoreFunctionTree → Scope
-scope_of u proofs f =
-    record { function = f; functions = u.functions; specs = spec_of proofs; defines = proofs.defines }
+abbrev pub scope_for : Resource → CoreUnitTree → ProofsTree → CoreFunctionTree → Scope
+scope_for resource u proofs f =
+    record { resource = resource; function = f; functions = u.functions; specs = spec_of proofs; defines = proofs.defines }
 
 abbrev pub mentions_fault : Place → Option Var → Option DerivFault
 mentions_fault place None = None
@@ -70,41 +73,67 @@ entry_told (Some fault) = Some (entry fault)
 abbrev pub result_at_end : CoreFunctionTree → (post : AssertionTree) → Option Var
 result_at_end f post = elim (ends_in_return f.body) [ true ↦ None | false ↦ first_of kinds.Returned post ]
 
-abbrev pub fault_in : CoreUnitTree → ProofsTree → CoreFunctionTree → EntryTree → Option DerivFault
-fault_in u proofs f e =
+abbrev pub fault_in_for : Resource → CoreUnitTree → ProofsTree → CoreFunctionTree → EntryTree → Option DerivFault
+fault_in_for resource u proofs f e =
     option_or (order_told (order_fault proofs.defines))
     (option_or (mentions_fault in_precondition (first_other f (in_pre f) e.spec.pre))
     (option_or (mentions_fault in_postcondition (first_other f (in_post f) e.spec.post))
     (option_or (mentions_fault in_postcondition (result_at_end f e.spec.post))
     (fault_or (λ fault. fault)
-    (pre e.body (scope_of u proofs f) (core.seq f.body) (function_posts e.spec.post))
+    (pre e.body (scope_for resource u proofs f) (core.seq f.body) (function_posts e.spec.post))
     (λ p. entry_told (verdict [] proofs.defines e.spec.pre (assertion_image as_plain p) e.entry))))))
 
-abbrev pub fault_of_known : CoreUnitTree → ProofsTree → Option CoreFunctionTree → EntryTree → Option DerivFault
-fault_of_known u proofs (Some f) e = fault_in u proofs f e
+abbrev pub fault_of_known_for : Resource → CoreUnitTree → ProofsTree → Option CoreFunctionTree → EntryTree → Option DerivFault
+fault_of_known_for resource u proofs (Some f) e = fault_in_for resource u proofs f e
 -- never asked
-fault_of_known u proofs None e = Some (shape [])
+fault_of_known_for resource u proofs None e = Some (shape [])
 
 -- the first fault of an entry, in the order of search
-abbrev pub entry_fault : CoreUnitTree → ProofsTree → EntryTree → Option DerivFault
-entry_fault u proofs e = fault_of_known u proofs (slice_get u.functions e.function) e
+abbrev pub entry_fault_for : Resource → CoreUnitTree → ProofsTree → EntryTree → Option DerivFault
+entry_fault_for resource u proofs e = fault_of_known_for resource u proofs (slice_get u.functions e.function) e
 
-abbrev pub IsDerived : CoreUnitTree → ProofsTree → EntryTree → Type 0
-IsDerived u proofs e = entry_fault u proofs e ≡ None
+abbrev pub IsDerivedFor : Resource → CoreUnitTree → ProofsTree → EntryTree → Type 0
+IsDerivedFor resource u proofs e = entry_fault_for resource u proofs e ≡ None
 
 -- the first fault of the first entry of a function
-abbrev pub fault_of_entry : CoreUnitTree → ProofsTree → Option EntryTree → Option DerivFault
-fault_of_entry u proofs (Some e) = entry_fault u proofs e
+abbrev pub fault_of_entry_for : Resource → CoreUnitTree → ProofsTree → Option EntryTree → Option DerivFault
+fault_of_entry_for resource u proofs (Some e) = entry_fault_for resource u proofs e
 -- never asked
-fault_of_entry u proofs None = Some (shape [])
+fault_of_entry_for resource u proofs None = Some (shape [])
 
-abbrev pub function_fault : CoreUnitTree → ProofsTree → (function : ℕ) → Option DerivFault
-function_fault u proofs f = fault_of_entry u proofs (entry_of proofs f)
+abbrev pub function_fault_for : Resource → CoreUnitTree → ProofsTree → (function : ℕ) → Option DerivFault
+function_fault_for resource u proofs f = fault_of_entry_for resource u proofs (entry_of proofs f)
 
-pub record HasDerivedEntry (u : CoreUnitTree) (proofs : ProofsTree) (function : ℕ) : Type 0 where
+pub record HasDerivedEntryFor (resource : Resource) (u : CoreUnitTree) (proofs : ProofsTree) (function : ℕ) : Type 0 where
   pub entry_tree : EntryTree
   pub stands : entry_of proofs function ≡ Some entry_tree
-  pub derived : IsDerived u proofs entry_tree
+  pub derived : IsDerivedFor resource u proofs entry_tree
+
+-- ---- on the stack
+
+abbrev pub scope_of : CoreUnitTree → ProofsTree → CoreFunctionTree → Scope
+scope_of u proofs f = scope_for Stack u proofs f
+
+abbrev pub fault_in : CoreUnitTree → ProofsTree → CoreFunctionTree → EntryTree → Option DerivFault
+fault_in u proofs f e = fault_in_for Stack u proofs f e
+
+abbrev pub fault_of_known : CoreUnitTree → ProofsTree → Option CoreFunctionTree → EntryTree → Option DerivFault
+fault_of_known u proofs f e = fault_of_known_for Stack u proofs f e
+
+abbrev pub entry_fault : CoreUnitTree → ProofsTree → EntryTree → Option DerivFault
+entry_fault u proofs e = entry_fault_for Stack u proofs e
+
+abbrev pub IsDerived : CoreUnitTree → ProofsTree → EntryTree → Type 0
+IsDerived u proofs e = IsDerivedFor Stack u proofs e
+
+abbrev pub fault_of_entry : CoreUnitTree → ProofsTree → Option EntryTree → Option DerivFault
+fault_of_entry u proofs e = fault_of_entry_for Stack u proofs e
+
+abbrev pub function_fault : CoreUnitTree → ProofsTree → (function : ℕ) → Option DerivFault
+function_fault u proofs f = function_fault_for Stack u proofs f
+
+abbrev pub HasDerivedEntry : CoreUnitTree → ProofsTree → (function : ℕ) → Type 0
+HasDerivedEntry u proofs f = HasDerivedEntryFor Stack u proofs f
 
 -- ---- path entries
 

@@ -2,6 +2,7 @@ pub mod Derivations
 pub mod Valuations
 pub mod ExpressionTerms
 pub mod Mentions
+pub mod Resources
 pub mod Rules
 pub mod Entries
 pub mod Filled

@@ -1,5 +1,6 @@
 -- The rules of derivations, one for each form of node. A rule gives the assertion that is enough before a statement,
--- where the posts are enough behind it; or the first fault in the order of search.
+-- where the posts are enough behind it; or the first fault in the order of search. What is bounded decides in two of them
+-- alone: at a call, which gives back its cost on the stack and not where calls are counted.
 use Rattle.std.specs.Prelude.{ℕ, suc, ◌==◌, ◌&&◌, not, Bool, true, false, if◌then◌else◌, List, [], ◌∷◌, slice_index_or, Option, Some, None, option_map, Result, Ok, Err}
 use Rattle.qs_base.specs.Results.{bind, require}
 use Rattle.qs_memory.specs.declared.scalar.Scalar.{Scalar}
@@ -29,6 +30,8 @@ use Rattle.qs_core.specs.Terms.{literal_value}
 use Rattle.std.specs.List.{slice_get}
 use Rattle.qs_triples.specs.Derivations.{DerivationTree, leaf, sequence, conditional, loop, switch, call, balanced_call, consequence, DerivationTrees, no_derivations, derivation_and, count_derivations, SpecTree}
 use Rattle.qs_triples.specs.ExpressionTerms.{var, expression_term, expression_condition}
+use Rattle.qs_triples.specs.declared.resource.Resource.{Resource}
+use Rattle.qs_triples.specs.declared.resource.Resource.TheVariants.{Stack, Calls}
 use Rattle.qs_triples.specs.Mentions.{in_body, first_other, first_of, first_of_destination, pre_images, post_images, first_without_argument, plain_variable, as_old}
 
 -- ---- faults
@@ -108,8 +111,9 @@ pub record Posts : Type 0 where
   pub on_continue : AssertionTree
   pub on_return : AssertionTree
 
--- the same all through a body: its function, all functions, their specifications, the definitions
+-- the same all through a body: what is bounded, its function, all functions, their specifications, the definitions
 pub record Scope : Type 0 where
+  pub resource : Resource
   pub function : CoreFunctionTree
   pub functions : List CoreFunctionTree
   pub specs : (function : ℕ) → Option SpecTree
@@ -230,9 +234,19 @@ switched next before e labels =
 abbrev pub three : (a b c : AssertionTree) → AssertionTrees
 three a b c = assertion_and a (two b c)
 
--- the cost of the function, what it needs or leaves, and a frame that it doesn't touch
+-- the cost of the function, what it needs, and a frame that it doesn't touch
 abbrev pub with_frame : (function : ℕ) → AssertionTree → (frame : AssertionTree) → AssertionTree
 with_frame g p frame = total (three (cost g) p frame)
+
+-- what is there behind the call: its cost, where that is given back, what it leaves, and the frame
+abbrev pub with_frame_behind : Resource → (function : ℕ) → AssertionTree → (frame : AssertionTree) → AssertionTree
+with_frame_behind Stack g q frame = with_frame g q frame
+with_frame_behind Calls g q frame = total (two q frame)
+
+-- no call gives back what it takes where calls are counted
+abbrev pub where_given_back : Resource → Answer → Answer
+where_given_back Stack answer = answer
+where_given_back Calls answer = Err (shape [])
 
 -- what comes after the call, or what it needs, whichever is more
 abbrev pub around : (function : ℕ) → (next pre : AssertionTree) → AssertionTree
@@ -359,7 +373,7 @@ call_rule c a w q site g =
     (unless_of (Some site.function) (option_map plain_variable (first_without_argument behind g.spec.post))
     (unless_of (Some site.function) (first_without behind g.spec.post)
     (certified c.defines w
-    (with_frame site.function (at_call behind g.spec.post) a) q.next
+    (with_frame_behind c.resource site.function (at_call behind g.spec.post) a) q.next
     (with_frame site.function (at_call before g.spec.pre) a))))))
 
 -- a call of a function that gives back what it takes
@@ -409,7 +423,8 @@ abbrev mutual
       (parts_pre ds 0 c ss (switch_posts q) (λ before.
       Ok (switched q.next (before_part q.next before) e labels))))
   pre (call a w) c s q = of_call s (λ site. known_callee c site (call_rule c a w q site))
-  pre balanced_call c s q = of_call s (λ site. known_callee c site (balanced_rule q site))
+  pre balanced_call c s q =
+      where_given_back c.resource (of_call s (λ site. known_callee c site (balanced_rule q site)))
   pre (consequence r w d) c s q =
       require (not (is_consequence d)) (shape [])
       (unless (first_other c.function (in_body c.function) r)

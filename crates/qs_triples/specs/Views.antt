@@ -24,6 +24,7 @@ posts_view q = record {
 
 abbrev pub scope_view : Scope → rules.Scope
 scope_view c = record {
+  resource = c.resource;
   function = function_tree c.function.now;
   functions = map function_tree c.functions.now;
   specs = spec_of (record { defines = c.defines.now; functions = map entry_tree c.entries.now });

@@ -4,7 +4,9 @@ ghost use Rattle.qs_triples.specs.Rules as rules;
 ghost use Rattle.qs_triples.specs.TreeOf.{spec_tree};
 ghost use Rattle.qs_triples.specs.Walk.{FollowsBalancedCall, FollowsCall};
 
-use crate::calls::{around, at_call, behind_call, certified, none_found, with_frame};
+use crate::calls::{
+    around, at_call, behind_call, certified, none_found, with_frame, with_frame_behind,
+};
 use crate::derivation::Spec;
 use crate::failure::{Cause, Failure};
 use crate::forms::Site;
@@ -37,7 +39,7 @@ pub fn call_rule(
     let p = at_call(alloc, site.function, before, &k.spec.pre)?;
     let behind = Replacement::BehindCall(k.function, site.destination, site.arguments);
     let r = behind_call(alloc, site.function, behind, &k.spec.post)?;
-    let shown = with_frame(alloc, site.function, r, frame)?;
+    let shown = with_frame_behind(alloc, c.resource, site.function, r, frame)?;
     let whole = with_frame(alloc, site.function, p, frame)?;
     certified(alloc, c.defines, certificate, &shown, q.next, whole)
 }

@@ -15,6 +15,7 @@ use crate::failure::{Cause, Failure};
 use crate::mentions::{Standing, first_of_destination, first_other, variables};
 use crate::posts::{Known, Posts, Scope};
 use crate::replacements::{Replacement, first_missing, plain_kind, replaced};
+use crate::resource::Resource;
 use crate::walk::failed;
 use qs_assert::{Assertion, Cond, Define, Var};
 use qs_base::{FnId, NoMemory};
@@ -59,7 +60,7 @@ pub fn certified(
     }
 }
 
-/// The sum of the cost of g, what it needs or leaves, and a frame.
+/// The sum of the cost of g, what it needs, and a frame.
 pub fn with_frame(
     alloc: Global,
     g: FnId,
@@ -71,6 +72,25 @@ pub fn with_frame(
     let cost = Assertion::cost(alloc, g)?;
     let frame = frame.copy(alloc)?;
     Assertion::total(alloc, &[cost, p, frame])
+}
+
+/// What is there behind a call of g with a frame, where it leaves q.
+pub fn with_frame_behind(
+    alloc: Global,
+    resource: Resource,
+    g: FnId,
+    q: Assertion,
+    frame: &Assertion,
+) -> Result<Assertion, NoMemory>
+    ensures { IfOk result (λ a. a ≡ rules.with_frame_behind resource g.0 q frame.now) }
+{
+    match resource {
+        Resource::Stack => with_frame(alloc, g, q, frame),
+        Resource::Calls => {
+            let frame = frame.copy(alloc)?;
+            Assertion::total(alloc, &[q, frame])
+        }
+    }
 }
 
 /// What comes next, or what a call of g needs, whichever is more.

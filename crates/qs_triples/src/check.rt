@@ -6,6 +6,7 @@ ghost use Rattle.qs_assert.specs.Order.{IsInOrder};
 ghost use Rattle.qs_core.specs.TreeOf.{function_tree};
 ghost use Rattle.qs_core.specs.UnitTrees.{unit_tree};
 ghost use Rattle.qs_triples.specs.Checking.{FirstEntryIsDerived, first_entry_fault};
+ghost use Rattle.qs_triples.specs.Checking.{FirstEntryIsDerivedFor, first_entry_fault_for};
 ghost use Rattle.qs_triples.specs.Checking.{found_entry_fault, known_entry_fault};
 ghost use Rattle.qs_triples.specs.Told.{Tells, TellsOrder};
 ghost use Rattle.qs_triples.specs.Views.{Finds};
@@ -15,6 +16,7 @@ use crate::derivation::{FunctionProof, Proofs};
 use crate::entry::check_entry;
 use crate::fault::DerivFault;
 use crate::posts::Scope;
+use crate::resource::Resource;
 use qs_assert::order_fault;
 use qs_base::FnId;
 use qs_core::{CoreFunction, CoreUnit};
@@ -36,15 +38,17 @@ pub fn defines_in_order(proofs: &Proofs) -> Result<(), DerivFault>
 fn check_known(
     alloc: Global,
     unit: &CoreUnit,
+    resource: Resource,
     function: &CoreFunction,
     proofs: &Proofs,
     e: &FunctionProof,
     misplaced: Option<usize>,
 ) -> Result<(), DerivFault>
     requires { misplaced ≡ order.order_fault proofs.now.defines.items }
-    ensures { Tells result (known_entry_fault unit.now function.now proofs.now e.now) }
+    ensures { Tells result (known_entry_fault resource unit.now function.now proofs.now e.now) }
 {
     let scope = Scope {
+        resource,
         function,
         functions: &unit.functions,
         entries: &proofs.functions,
@@ -56,8 +60,8 @@ fn check_known(
     }
 }
 
-// The function with this number.
-fn function_of(unit: &CoreUnit, f: FnId) -> Option<&CoreFunction>
+/// The function with this number.
+pub fn function_of(unit: &CoreUnit, f: FnId) -> Option<&CoreFunction>
     ensures { Finds result function_tree (slice_get (unit_tree unit.now).functions f.0) }
 {
     unit.functions.get(f.0 as usize)
@@ -66,15 +70,16 @@ fn function_of(unit: &CoreUnit, f: FnId) -> Option<&CoreFunction>
 fn check_found(
     alloc: Global,
     unit: &CoreUnit,
+    resource: Resource,
     proofs: &Proofs,
     e: &FunctionProof,
     misplaced: Option<usize>,
 ) -> Result<(), DerivFault>
     requires { misplaced ≡ order.order_fault proofs.now.defines.items }
-    ensures { Tells result (found_entry_fault unit.now proofs.now e.now) }
+    ensures { Tells result (found_entry_fault resource unit.now proofs.now e.now) }
 {
     match function_of(unit, e.function) {
-        Some(function) => check_known(alloc, unit, function, proofs, e, misplaced),
+        Some(function) => check_known(alloc, unit, resource, function, proofs, e, misplaced),
         None => Err(DerivFault::Shape(Vec::new(alloc))),
     }
 }
@@ -83,20 +88,44 @@ fn check_found(
 fn check_first(
     alloc: Global,
     unit: &CoreUnit,
+    resource: Resource,
     f: FnId,
     proofs: &Proofs,
     misplaced: Option<usize>,
 ) -> Result<(), DerivFault>
     requires { misplaced ≡ order.order_fault proofs.now.defines.items }
-    ensures { Tells result (first_entry_fault unit.now f.0 proofs.now) }
+    ensures { Tells result (first_entry_fault_for resource unit.now f.0 proofs.now) }
 {
     match entry_in(&proofs.functions, f) {
-        Some(e) => check_found(alloc, unit, proofs, e, misplaced),
+        Some(e) => check_found(alloc, unit, resource, proofs, e, misplaced),
         None => Err(DerivFault::Shape(Vec::new(alloc))),
     }
 }
 
-/// Checks that the first entry of a function is derived.
+/// Checks that the first entry of a function is derived for what is bounded, and answers as
+/// `check_function` does.
+#[tactic(auto, using(crate::proofs::EntryLaws::tells_derived))]
+pub fn check_function_for(
+    alloc: Global,
+    unit: &CoreUnit,
+    resource: Resource,
+    f: FnId,
+    proofs: &Proofs,
+) -> Result<(), DerivFault>
+    ensures exact { Tells result (first_entry_fault_for resource unit.now f.0 proofs.now) }
+    ensures derived { OnOk result (FirstEntryIsDerivedFor resource unit.now f.0 proofs.now) }
+{
+    check_first(
+        alloc,
+        unit,
+        resource,
+        f,
+        proofs,
+        order_fault(&proofs.defines),
+    )
+}
+
+/// Checks that the first entry of a function is derived, for the stack.
 ///
 /// Otherwise it answers the first fault in the order of search: the
 /// definitions, what the precondition and then the postcondition mention, the
@@ -112,11 +141,28 @@ pub fn check_function(
     ensures exact { Tells result (first_entry_fault unit.now f.0 proofs.now) }
     ensures derived { OnOk result (FirstEntryIsDerived unit.now f.0 proofs.now) }
 {
-    check_first(alloc, unit, f, proofs, order_fault(&proofs.defines))
+    check_function_for(alloc, unit, Resource::Stack, f, proofs)
+}
+
+/// Checks that the first entry of a function is derived for what is bounded, where it is known that
+/// the definitions are in order: for many functions they are gone through once.
+#[tactic(auto, using(crate::proofs::EntryLaws::tells_derived))]
+pub fn check_in_order_for(
+    alloc: Global,
+    unit: &CoreUnit,
+    resource: Resource,
+    f: FnId,
+    proofs: &Proofs,
+) -> Result<(), DerivFault>
+    requires { IsInOrder proofs.now.defines.items }
+    ensures exact { Tells result (first_entry_fault_for resource unit.now f.0 proofs.now) }
+    ensures derived { OnOk result (FirstEntryIsDerivedFor resource unit.now f.0 proofs.now) }
+{
+    check_first(alloc, unit, resource, f, proofs, None)
 }
 
 /// Checks that the first entry of a function is derived, as `check_function` does, where it is
-/// known that the definitions are in order: for many functions they are gone through once.
+/// known that the definitions are in order.
 #[tactic(auto, using(crate::proofs::EntryLaws::tells_derived))]
 pub fn check_in_order(
     alloc: Global,
@@ -128,5 +174,5 @@ pub fn check_in_order(
     ensures exact { Tells result (first_entry_fault unit.now f.0 proofs.now) }
     ensures derived { OnOk result (FirstEntryIsDerived unit.now f.0 proofs.now) }
 {
-    check_first(alloc, unit, f, proofs, None)
+    check_in_order_for(alloc, unit, Resource::Stack, f, proofs)
 }

@@ -18,6 +18,7 @@ use crate::failure::{Cause, Failure};
 use crate::forms::{Branches, Cases, Turns, branches_of, cases_of, parts_of, site_of, turns_of};
 use crate::mentions::{Standing, first_other};
 use crate::posts::{Posts, Scope};
+use crate::resource::Resource;
 use crate::switches::{Before, by_labels};
 use crate::terms::expression_condition;
 use crate::walk::failed;
@@ -180,7 +181,8 @@ pub fn call_pre(
     call_rule(alloc, c, q, frame, certificate, site, k)
 }
 
-/// What must be free before a call of a function that gives back what it takes.
+/// What must be free before a call of a function that gives back what it takes, as none does where
+/// calls are counted.
 pub fn balanced_pre(
     alloc: Global,
     c: Scope<'_>,
@@ -189,9 +191,14 @@ pub fn balanced_pre(
 ) -> Result<Assertion, Failure>
     ensures { Follows result (pre_of balanced_call c.entry s.now q.entry) }
 {
-    let Some(site) = site_of(s) else {
-        return Err(failed(alloc, Cause::Shape));
-    };
-    let k = known_callee(alloc, c, site.function)?;
-    balanced_rule(alloc, q, site, k)
+    match c.resource {
+        Resource::Calls => Err(failed(alloc, Cause::Shape)),
+        Resource::Stack => {
+            let Some(site) = site_of(s) else {
+                return Err(failed(alloc, Cause::Shape));
+            };
+            let k = known_callee(alloc, c, site.function)?;
+            balanced_rule(alloc, q, site, k)
+        }
+    }
 }

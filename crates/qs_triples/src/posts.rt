@@ -4,6 +4,7 @@ ghost use Rattle.qs_triples.specs.Rules as rules;
 ghost use Rattle.qs_triples.specs.Views.{posts_view};
 
 use crate::derivation::{FunctionProof, Spec};
+use crate::resource::Resource;
 use qs_assert::{Assertion, Define};
 use qs_core::CoreFunction;
 
@@ -23,6 +24,8 @@ pub struct Posts<'a> {
 /// What is the same all through a body.
 #[derive(Clone, Copy)]
 pub struct Scope<'a> {
+    /// what is bounded
+    pub resource: Resource,
     /// the function whose body it is
     pub function: &'a CoreFunction,
     /// all functions of the unit

@@ -1,0 +1,3 @@
+pub mod MissingLaws
+pub mod CountLaws
+pub mod Examples

@@ -1,0 +1,4 @@
+pub mod Counted
+pub mod Covered
+pub mod Missing
+pub mod Laws

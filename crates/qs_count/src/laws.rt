@@ -1,0 +1,18 @@
+// The laws of counts. Each is the contract of an empty function.
+ghost use Rattle.qs_count.specs.Laws.{CountsBoundCalls, EntriesBoundCalls, MainIsCounted};
+
+/// Where the entries of a file are derived for calls, then for every call metric what the calls of
+/// a run cost together is at most the root's cost and the value of its precondition.
+pub fn entries_bound_calls()
+    ensures { EntriesBoundCalls }
+{}
+
+/// So where each function of the unit costs 1, there are at most so many calls in a run.
+pub fn counts_bound_calls()
+    ensures { CountsBoundCalls }
+{}
+
+/// Where no function is missing, main has an entry, whose precondition bounds its runs so.
+pub fn main_is_counted()
+    ensures { MainIsCounted }
+{}

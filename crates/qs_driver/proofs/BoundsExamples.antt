@@ -10,20 +10,22 @@ use Rattle.qs_triples.specs.Derivations.{EntryTree, leaf}
 use Rattle.qs_prooftext_meaning.specs.Proofs.{no_proofs}
 use Rattle.qs_prooftext_meaning.proofs.Examples.{u}
 use Rattle.qs_image.specs.Image.{Image, FunctionRecord}
+use Rattle.qs_image.specs.declared.version.Version.TheVariants.{Second}
 use Rattle.qs_driver.specs.Bounds.{costs_in, bound_by, bytes_by}
 use Rattle.qs_driver.specs.Certified.{CertifiedSource}
 
 -- ---- an image of `unsigned f(unsigned n, int q)`, as if it were main, and `void g(void)`
 
-abbrev record_of : List ℕ → ℕ → FunctionRecord
-record_of name size = record { name = name; address = 65536; cost = size }
+abbrev record_of : List ℕ → ℕ → ℕ → FunctionRecord
+record_of name size parameters = record { name = name; address = 65536; cost = size; parameters = Some parameters }
 
 abbrev image : Image
 image = record {
+  version = Second;
   entry = 65536;
   parameters = 2;
   unsigned_set = 1;
-  functions = record_of (codes "f") 32 ∷ record_of (codes "g") 16 ∷ [];
+  functions = record_of (codes "f") 32 2 ∷ record_of (codes "g") 16 0 ∷ [];
   code = [];
   bytes = [];
 }

@@ -343,15 +343,15 @@ module _ (P : ℕ → Type 0) where
   parameter_known (p ∷ ps) zero k = k.0
   parameter_known (p ∷ ps) (suc i) k = parameter_known ps i (known_back (parameter_nodes p) (all_nodes parameter_nodes ps) k)
 
-  parameters_known : (limit : ℕ) (ds : UnitTree) → Known (unit_nodes ds) → Maybe (first_past_parameters limit ds)
+  parameters_known : (limit : List ℕ → ℕ) (ds : UnitTree) → Known (unit_nodes ds) → Maybe (first_past_parameters limit ds)
   parameters_known limit [] k = tt
   parameters_known limit (structure s ∷ ds) k = parameters_known limit ds (known_back (struct_nodes s) (unit_nodes ds) k)
   parameters_known limit (forward f ∷ ds) k = parameters_known limit ds k.1
   parameters_known limit (typedef t ∷ ds) k = parameters_known limit ds (known_back (typedef_nodes t) (unit_nodes ds) k)
   parameters_known limit (function f ∷ ds) k =
       let here = known_front (function_nodes f) (unit_nodes ds) k in
-      maybe_either (node_of_parameter (slice_get f.parameters limit)) (first_past_parameters limit ds)
-      (parameter_known f.parameters limit (known_front (all_nodes parameter_nodes f.parameters) (option_nodes stmts_nodes f.body) here.1))
+      maybe_either (node_of_parameter (slice_get f.parameters (limit f.name))) (first_past_parameters limit ds)
+      (parameter_known f.parameters (limit f.name) (known_front (all_nodes parameter_nodes f.parameters) (option_nodes stmts_nodes f.body) here.1))
       (parameters_known limit ds (known_back (function_nodes f) (unit_nodes ds) k))
   parameters_known limit (variables d ∷ ds) k = parameters_known limit ds (known_back (declaration_nodes d) (unit_nodes ds) k)
 

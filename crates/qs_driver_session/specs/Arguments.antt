@@ -1,6 +1,7 @@
 -- The arguments of main as the words of the machine.
 use Rattle.std.specs.Prelude.{◌≡◌, ◌≢◌, ℕ, ℤ, List, [], length, Some, Result, Ok, Err, Vec}
 use Rattle.std.specs.declared.alloc.Global.{Global}
+use Rattle.qs_image.specs.declared.version.Version.TheVariants.{Second}
 use Rattle.qs_image.specs.Image.{Image}
 use Rattle.qs_machine.specs.Arguments.{AreArguments, first_misfit, words_of}
 use Rattle.qs_driver_session.specs.declared.arguments.Parameters.{Parameters}
@@ -11,6 +12,7 @@ use Rattle.qs_driver_session.specs.declared.status.WordsFault.TheVariants.{ArgCo
 -- an image of which these parameters are all that is known
 abbrev pub image_with : Parameters → Image
 image_with p = record {
+  version = Second;
   entry = 0;
   parameters = p.count;
   unsigned_set = p.unsigned_set;

@@ -19,7 +19,7 @@ use qs_entail::{CertFault, Stop, check};
 use qs_ports::{Sink, Store, put_all};
 use qs_prooftext_meaning::{find_function, words_of};
 use qs_prooftext_writing::WordTable;
-use qs_triples::{DerivFault, Proofs, Scope, entry_in};
+use qs_triples::{DerivFault, Proofs, Resource, Scope, entry_in};
 use std::alloc::Global;
 
 // The statuses that aren't taken from a status of the tool, but are as its are.
@@ -173,6 +173,7 @@ fn explanation(
     let function = unit.functions.get(f.0 as usize).ok_or(Stop::Breaks)?;
     let words = words_of(alloc, function)?;
     let scope = Scope {
+        resource: Resource::Stack,
         function,
         functions: &unit.functions,
         entries: &proofs.functions,

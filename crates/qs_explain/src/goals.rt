@@ -7,7 +7,7 @@ use qs_core::{CoreExpr, CoreStmt};
 use qs_entail::{Certificate, Stop};
 use qs_triples::{
     Derivation, Failure, FunctionProof, Posts, Replacement, Scope, body_posts, body_pre, entry_in,
-    pre, replaced, step_posts, with_frame, with_next,
+    pre, replaced, step_posts, with_frame_behind, with_next,
 };
 use std::alloc::Global;
 
@@ -104,7 +104,7 @@ impl<'a> Walk<'a> {
         let entry = entry_in(self.scope.entries, g).ok_or(Stop::Breaks)?;
         let behind = Replacement::BehindCall(callee, destination, arguments);
         let given = replaced(self.alloc, behind, &entry.spec.post)?;
-        Ok(with_frame(self.alloc, g, given, frame)?)
+        Ok(with_frame_behind(self.alloc, self.scope.resource, g, given, frame)?)
     }
 
     fn put(

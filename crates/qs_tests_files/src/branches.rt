@@ -103,6 +103,7 @@ fn branches_are_short(rt: HostRuntime) -> Result<(), Fail> {
         let image = read(store.file("a.img").ok_or("no image")?)
             .ok()
             .ok_or("no image")?;
+        assert_eq!(rt; image.version(), 2);
         assert_eq!(rt; over_jumps(&image), counts);
     }
     Ok(())

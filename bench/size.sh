@@ -79,7 +79,7 @@ our_sizes() {
     { word[NR - 1] = $1 }
     END {
       end = 65536 + 4 * word[1]; split(names, name, " ")
-      for (i = 0; i < word[3]; i++) at[i] = word[8 + 3 * i + 1]
+      for (i = 0; i < word[3]; i++) at[i] = word[8 + 4 * i + 1]
       for (i = 0; i < word[3]; i++) {
         behind = end
         for (k = 0; k < word[3]; k++) if (at[k] > at[i] && at[k] < behind) behind = at[k]

@@ -1,0 +1,10 @@
+pub mod Laws
+pub mod StepsLaws
+pub mod ThenLaws
+pub mod SharedLaws
+pub mod AlikeLaws
+pub mod PieceLaws
+pub mod StoreLaws
+pub mod RunsLaws
+pub mod ReadingLaws
+pub mod Follows

@@ -1,0 +1,9 @@
+pub mod Statuses
+pub mod Devices
+pub mod Pieces
+pub mod Due
+pub mod Files
+pub mod Steps
+pub mod Runs
+pub mod Reading
+pub mod Promises

@@ -3,6 +3,22 @@ use Rattle.std.specs.Prelude.{ℕ, ℤ, List, [], ◌∷◌, true, false, if◌t
 use Rattle.qs_cli.specs.Words.{Text, Values, Options, operand, reading}
 use Rattle.qs_cli.specs.Numbers.{number_of, count_of, steps_of, arguments_of}
 
+-- the words of `elf`: the file of an image, and the one that gets its executable
+pub record ElfWords : Type 0 where
+  pub image : Text
+  pub out : Text
+
+abbrev pub elf_words : (image out : Text) → ElfWords
+elf_words image out = record { image = image; out = out }
+
+-- the words of `unelf`: the file of an executable, and the one that gets its image
+pub record UnelfWords : Type 0 where
+  pub file : Text
+  pub out : Text
+
+abbrev pub unelf_words : (file out : Text) → UnelfWords
+unelf_words file out = record { file = file; out = out }
+
 pub data Command : Type 0 where
   Build : (source : Text) (proof : Option Text) (out : Text) → Command
   Check : (source : Text) (proof : Option Text) → Command
@@ -12,6 +28,8 @@ pub data Command : Type 0 where
   Run : (image : Text) (stack : ℕ) (args : List ℤ) (input : Option Text) (steps : ℕ) → Command
   Exec : (source : Text) (proof : Option Text) (args : List ℤ) (input : Option Text) (steps : ℕ) → Command
   Sample : (count : ℕ) (out : Option Text) → Command
+  Elf : (words : ElfWords) → Command
+  Unelf : (words : UnelfWords) → Command
 
 -- ---- the options of each command, the required ones with `true`
 
@@ -38,6 +56,12 @@ exec_options = (codes "proof", false) ∷ (codes "args", false) ∷ (codes "inpu
 
 abbrev pub sample_options : Options
 sample_options = (codes "out", false) ∷ []
+
+abbrev pub elf_options : Options
+elf_options = (codes "out", true) ∷ []
+
+abbrev pub unelf_options : Options
+unelf_options = (codes "out", true) ∷ []
 
 -- ---- a command of its values, where each of them has a meaning
 
@@ -78,6 +102,12 @@ exec_of at = Some (λ source proof args input steps. Exec source proof args inpu
 abbrev pub sample_of : Values → Option Command
 sample_of at = Some (λ count out. Sample count out) ⊛ sample_count_of (at operand) ⊛ Some (at (codes "out"))
 
+abbrev pub elf_of : Values → Option Command
+elf_of at = Some (λ image out. Elf (elf_words image out)) ⊛ at operand ⊛ at (codes "out")
+
+abbrev pub unelf_of : Values → Option Command
+unelf_of at = Some (λ file out. Unelf (unelf_words file out)) ⊛ at operand ⊛ at (codes "out")
+
 -- the words behind a command's name, as values and then as a command
 abbrev pub command_with : Options → (Values → Option Command) → List Text → Option Command
 command_with options make words = option_and_then make (reading options words)
@@ -92,7 +122,9 @@ command_named name words =
     else (if bytes_eq name (codes "run") then command_with run_options run_of words
     else (if bytes_eq name (codes "exec") then command_with exec_options exec_of words
     else (if bytes_eq name (codes "sample") then command_with sample_options sample_of words
-    else None)))))))
+    else (if bytes_eq name (codes "elf") then command_with elf_options elf_of words
+    else (if bytes_eq name (codes "unelf") then command_with unelf_options unelf_of words
+    else None)))))))))
 
 -- the command that the words mean, if they mean one
 unfoldable pub meaning : List Text → Option Command

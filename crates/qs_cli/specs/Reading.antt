@@ -7,7 +7,9 @@ use Rattle.qs_cli.specs.Words.{Text, Word, Plain, Assigned, Named, Excluded, Opt
 use Rattle.qs_cli.specs.Commands.{meaning, command_named}
 use Rattle.qs_cli.specs.Commands as meant
 use Rattle.qs_cli.specs.declared.commands.Command.{Command}
-use Rattle.qs_cli.specs.declared.commands.Command.TheVariants.{Build, Check, Bound, Derive, Outline, Run, Exec, Sample}
+use Rattle.qs_cli.specs.declared.commands.Command.TheVariants.{Build, Check, Bound, Derive, Outline, Run, Exec, Sample, Elf, Unelf}
+use Rattle.qs_cli.specs.declared.commands.ElfWords.{ElfWords}
+use Rattle.qs_cli.specs.declared.commands.UnelfWords.{UnelfWords}
 use Rattle.qs_cli.specs.declared.commands.CliFault.{CliFault}
 use Rattle.qs_cli.specs.declared.commands.CliFault.TheVariants.{Usage, NoMemory}
 use Rattle.qs_cli.specs.declared.table.OptionRule.{OptionRule}
@@ -79,6 +81,13 @@ named_by name words = command_named name (texts_of words)
 abbrev pub IsUsage : {A : Type 0} → Result A CliFault → Type 0
 IsUsage r = IsErrOf r Usage
 
+-- words as the code holds them
+abbrev pub elf_words_of : ElfWords → meant.ElfWords
+elf_words_of words = meant.elf_words (string_bytes words.image) (string_bytes words.out)
+
+abbrev pub unelf_words_of : UnelfWords → meant.UnelfWords
+unelf_words_of words = meant.unelf_words (string_bytes words.file) (string_bytes words.out)
+
 abbrev pub command_of : Command → meant.Command
 command_of (Build source proof out) = meant.Build (string_bytes source) (text_of proof) (string_bytes out)
 command_of (Check source proof) = meant.Check (string_bytes source) (text_of proof)
@@ -88,6 +97,8 @@ command_of (Outline source) = meant.Outline (string_bytes source)
 command_of (Run image stack args input steps) = meant.Run (string_bytes image) stack args.items (text_of input) steps
 command_of (Exec source proof args input steps) = meant.Exec (string_bytes source) (text_of proof) args.items (text_of input) steps
 command_of (Sample count out) = meant.Sample count (text_of out)
+command_of (Elf words) = meant.Elf (elf_words_of words)
+command_of (Unelf words) = meant.Unelf (unelf_words_of words)
 
 -- the answer to the words: the command that they mean, or Usage where they mean none; want of memory tells nothing
 abbrev pub Reads : List Text → Result Command CliFault → Type 0

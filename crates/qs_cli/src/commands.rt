@@ -6,6 +6,20 @@ use qs_base::NoMemory;
 use std::alloc::{AllocError, AllocFailed};
 use thiserror::Error;
 
+/// The words of `elf`: the file of an image, and the one that gets its executable.
+#[derive(Debug, Drop)]
+pub struct ElfWords {
+    pub image: String,
+    pub out: String,
+}
+
+/// The words of `unelf`: the file of an executable, and the one that gets its image.
+#[derive(Debug, Drop)]
+pub struct UnelfWords {
+    pub file: String,
+    pub out: String,
+}
+
 /// What the tool is asked to do. Files are named as in the words.
 #[derive(Debug, Drop)]
 pub enum Command {
@@ -57,6 +71,10 @@ pub enum Command {
         count: u64,
         out: Option<String>,
     },
+    /// Write the executable of an image.
+    Elf(ElfWords),
+    /// Write the image of an executable.
+    Unelf(UnelfWords),
 }
 
 /// Why no command was read.

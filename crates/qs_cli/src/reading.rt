@@ -1,10 +1,10 @@
 // The command that the words mean: by its name, from its values.
 ghost use Rattle.std.specs.Prelude.{◌≡◌, IfOk, None, Some};
 ghost use Rattle.qs_cli.specs.Commands.{build_of, check_of, bound_of, derive_of, outline_of};
-ghost use Rattle.qs_cli.specs.Commands.{run_of, exec_of, sample_of};
+ghost use Rattle.qs_cli.specs.Commands.{run_of, exec_of, sample_of, elf_of, unelf_of};
 ghost use Rattle.qs_cli.specs.Reading.{command_of, named_by, texts_of, values_of, IsUsage, Reads};
 
-use crate::commands::{CliFault, Command};
+use crate::commands::{CliFault, Command, ElfWords, UnelfWords};
 use crate::table;
 use crate::table::OPERAND;
 use crate::values::Values;
@@ -97,6 +97,26 @@ fn sample(alloc: Global, values: &Values<'_>) -> Result<Command, CliFault>
     })
 }
 
+fn elf(alloc: Global, values: &Values<'_>) -> Result<Command, CliFault>
+    ensures ok { IfOk result (λ c. elf_of (values_of values.now) ≡ Some (command_of c)) }
+    ensures usage { IsUsage result → elf_of (values_of values.now) ≡ None }
+{
+    Ok(Command::Elf(ElfWords {
+        image: values.text(alloc, OPERAND)?,
+        out: values.text(alloc, "out")?,
+    }))
+}
+
+fn unelf(alloc: Global, values: &Values<'_>) -> Result<Command, CliFault>
+    ensures ok { IfOk result (λ c. unelf_of (values_of values.now) ≡ Some (command_of c)) }
+    ensures usage { IsUsage result → unelf_of (values_of values.now) ≡ None }
+{
+    Ok(Command::Unelf(UnelfWords {
+        file: values.text(alloc, OPERAND)?,
+        out: values.text(alloc, "out")?,
+    }))
+}
+
 /// The command of this name whose values these words give.
 fn named(alloc: Global, name: &str, words: &[String]) -> Result<Command, CliFault>
     ensures ok { IfOk result (λ c. named_by name.now words.now ≡ Some (command_of c)) }
@@ -111,6 +131,8 @@ fn named(alloc: Global, name: &str, words: &[String]) -> Result<Command, CliFaul
         "run" => run(alloc, &Values::read(alloc, &table::RUN, words)?),
         "exec" => exec(alloc, &Values::read(alloc, &table::EXEC, words)?),
         "sample" => sample(alloc, &Values::read(alloc, &table::SAMPLE, words)?),
+        "elf" => elf(alloc, &Values::read(alloc, &table::ELF, words)?),
+        "unelf" => unelf(alloc, &Values::read(alloc, &table::UNELF, words)?),
         _ => Err(CliFault::Usage),
     }
 }
@@ -132,6 +154,8 @@ fn named(alloc: Global, name: &str, words: &[String]) -> Result<Command, CliFaul
 /// - `run IMG`: `--stack`*, `--args`, `--input`, `--steps`
 /// - `exec SRC`: `--proof`, `--args`, `--input`, `--steps`
 /// - `sample N`: `--out`
+/// - `elf IMG`: `--out`*
+/// - `unelf FILE`: `--out`*
 ///
 /// `--stack` and N have 1 to 19 decimal digits, and N is 1 to `MOST_SAMPLE_FUNCTIONS`. `--steps` has
 /// 1 to 10 digits and is 1 to `MOST_STEPS`, and `DEFAULT_STEPS` where it isn't given. `--args` has 1

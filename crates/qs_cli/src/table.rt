@@ -87,3 +87,13 @@ pub(crate) static SAMPLE: [OptionRule; 1] = [OptionRule {
     name: "out",
     required: false,
 }];
+
+pub(crate) static ELF: [OptionRule; 1] = [OptionRule {
+    name: "out",
+    required: true,
+}];
+
+pub(crate) static UNELF: [OptionRule; 1] = [OptionRule {
+    name: "out",
+    required: true,
+}];

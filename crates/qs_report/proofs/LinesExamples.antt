@@ -14,7 +14,8 @@ use Rattle.qs_entail.specs.declared.fault.Rule.TheVariants as step_rules
 use Rattle.qs_entail.specs.declared.stop.Limit.TheVariants.{Terms, Degree}
 use Rattle.qs_report.specs.Lines.{bound_line, cost_line, count_line, end_line, fault_line}
 use Rattle.qs_report.specs.declared.fault_texts.Count.TheVariants.{Checked, Derived, Functions, Output}
-use Rattle.qs_report.specs.declared.fault_texts.FaultText.TheVariants.{Usage, SameName, Missing, Failed, TooLong, Lex, UnexpectedToken, UnexpectedEnd, TooDeep, Rule, Limit, NoMain, NoBody, ProofFile, Cycle, Proof, Order, ArgCount, ArgRange, Image, Trapped, StepLimit, NoBound, StackTooLarge, NoMemory}
+use Rattle.qs_report.specs.declared.fault_texts.ElfText.TheVariants as elf
+use Rattle.qs_report.specs.declared.fault_texts.FaultText.TheVariants.{Usage, SameName, Missing, Failed, TooLong, Lex, UnexpectedToken, UnexpectedEnd, TooDeep, Rule, Limit, NoMain, NoBody, ProofFile, Cycle, Proof, Order, ArgCount, ArgRange, Image, Elf, Trapped, StepLimit, NoBound, StackTooLarge, NoMemory}
 use Rattle.qs_report.specs.declared.fault_texts.Path.{Path}
 use Rattle.qs_report.specs.declared.fault_texts.ProofFileText.TheVariants as proof_file
 use Rattle.qs_report.specs.declared.fault_texts.ProofText.TheVariants.{Shape, Mentions, Step}
@@ -216,6 +217,28 @@ image_names = refl
 image_params : fault_line (codes "a.img") [] (Image (image.Params 2)) ≡ ended (codes "a.img: image params 2")
 unfolding digits
 image_params = refl
+
+elf_short : fault_line (codes "a.elf") [] (Elf elf.Short) ≡ ended (codes "a.elf: elf short")
+elf_short = refl
+
+elf_length : fault_line (codes "a.elf") [] (Elf (elf.Length 4100)) ≡ ended (codes "a.elf: elf length 4100")
+unfolding digits
+elf_length = refl
+
+elf_field : fault_line (codes "a.elf") [] (Elf (elf.Field 4)) ≡ ended (codes "a.elf: elf field 4")
+unfolding digits
+elf_field = refl
+
+elf_magic : fault_line (codes "a.elf") [] (Elf (elf.Image image.Magic)) ≡ ended (codes "a.elf: elf magic")
+elf_magic = refl
+
+elf_count : fault_line (codes "a.elf") [] (Elf (elf.Image (image.Count header.FunctionCount))) ≡ ended (codes "a.elf: elf count 3")
+unfolding digits
+elf_count = refl
+
+elf_differs : fault_line (codes "a.elf") [] (Elf (elf.Differs 2)) ≡ ended (codes "a.elf: elf differs 2")
+unfolding digits
+elf_differs = refl
 
 trap_overflow : fault_line [] [] (Trapped cause.Overflow 0x0001a0bc) ≡ ended (codes "trap overflow at 0x0001a0bc")
 unfolding encode_with

@@ -5,14 +5,15 @@ use Rattle.qs_image.specs.declared.fault.ImageFault.{ImageFault}
 use Rattle.qs_machine.specs.declared.answers.Cause.{Cause}
 use Rattle.qs_ports.specs.SinkView.{SinkView, PutsOn}
 use Rattle.qs_ports.specs.declared.sink.SinkFault.{SinkFault}
-use Rattle.qs_report.specs.Words.{lex_word, proof_file_word, image_text, trap_word, rule_text, limit_word, shown_text, hexadecimal, spot_text, proof_text, spaced}
+use Rattle.qs_report.specs.Words.{lex_word, proof_file_word, image_text, elf_text, trap_word, rule_text, limit_word, shown_text, hexadecimal, spot_text, proof_text, spaced}
 use Rattle.qs_report.specs.declared.fault_texts.Shown.{Shown}
 use Rattle.qs_report.specs.declared.fault_texts.Count.{Count}
 use Rattle.qs_report.specs.declared.fault_texts.Count.TheVariants.{Checked, Derived, Functions, Output}
+use Rattle.qs_report.specs.declared.fault_texts.ElfText.{ElfText}
 use Rattle.qs_report.specs.declared.fault_texts.ProofText.{ProofText}
 use Rattle.qs_report.specs.declared.fault_texts.Spot.{Spot}
 use Rattle.qs_report.specs.declared.fault_texts.FaultText.{FaultText}
-use Rattle.qs_report.specs.declared.fault_texts.FaultText.TheVariants.{Usage, SameName, Missing, Failed, TooLong, Lex, UnexpectedToken, UnexpectedEnd, TooDeep, Rule, Limit, NoMain, NoBody, ProofFile, Cycle, Proof, Order, ArgCount, ArgRange, Image, Trapped, StepLimit, NoBound, StackTooLarge, NoMemory}
+use Rattle.qs_report.specs.declared.fault_texts.FaultText.TheVariants.{Usage, SameName, Missing, Failed, TooLong, Lex, UnexpectedToken, UnexpectedEnd, TooDeep, Rule, Limit, NoMain, NoBody, ProofFile, Cycle, Proof, Order, ArgCount, ArgRange, Image, Elf, Trapped, StepLimit, NoBound, StackTooLarge, NoMemory}
 
 -- the parts one after the other, ended by a line feed
 abbrev pub line : List (List ℕ) → List ℕ
@@ -88,12 +89,16 @@ arguments_line expected given = pair_line (codes "arguments: expected ") expecte
 abbrev pub argument_line : ℕ → List ℕ
 argument_line argument = between_line (codes "argument ") argument (codes " out of range")
 
-abbrev pub image_line : List ℕ → ImageFault → List ℕ
-image_line file fault = line (file ∷ codes ": image " ∷ image_text fault ∷ [])
+-- a text of two parts behind a file and what is told of it
+abbrev pub labelled_line : (file label text more : List ℕ) → List ℕ
+labelled_line file label text more = line (file ∷ label ∷ text ∷ more ∷ [])
 
--- the same where a number ends it
-abbrev pub image_count_line : List ℕ → List ℕ → ℕ → List ℕ
-image_count_line file text number = line (file ∷ codes ": image " ∷ text ∷ decimal number ∷ [])
+-- the bytes of an image are wrong, which a file is or carries
+abbrev pub image_line : (file label : List ℕ) → ImageFault → List ℕ
+image_line file label fault = line (file ∷ label ∷ image_text fault ∷ [])
+
+abbrev pub elf_line : (file : List ℕ) → ElfText → List ℕ
+elf_line file fault = line (file ∷ codes ": elf " ∷ elf_text fault ∷ [])
 
 abbrev pub trap_line : Cause → ℕ → List ℕ
 trap_line cause pc = line (codes "trap " ∷ trap_word cause ∷ codes " at 0x" ∷ hexadecimal pc ∷ [])
@@ -120,7 +125,8 @@ fault_line file name (Proof spot text) = spot_line file name spot text
 fault_line file name Order = line (file ∷ codes ": order " ∷ name ∷ [])
 fault_line file name (ArgCount expected given) = arguments_line expected given
 fault_line file name (ArgRange argument) = argument_line argument
-fault_line file name (Image fault) = image_line file fault
+fault_line file name (Image fault) = image_line file (codes ": image ") fault
+fault_line file name (Elf fault) = elf_line file fault
 fault_line file name (Trapped cause pc) = trap_line cause pc
 fault_line file name (StepLimit steps) = line (codes "step limit " ∷ decimal steps ∷ [])
 fault_line file name (NoBound bound) = line (codes "no bound: " ∷ shown_text bound ∷ [])

@@ -17,6 +17,8 @@ use Rattle.qs_entail.specs.Said as step_rules
 use Rattle.qs_entail.specs.Said.{limit_number}
 use Rattle.qs_report.specs.declared.fault_texts.Shown.{Shown}
 use Rattle.qs_report.specs.declared.fault_texts.Shown.TheVariants.{Number, Infinite, Wide}
+use Rattle.qs_report.specs.declared.fault_texts.ElfText.{ElfText}
+use Rattle.qs_report.specs.declared.fault_texts.ElfText.TheVariants as elf
 use Rattle.qs_report.specs.declared.fault_texts.ProofFileText.{ProofFileText}
 use Rattle.qs_report.specs.declared.fault_texts.ProofFileText.TheVariants as proof_file
 use Rattle.qs_report.specs.declared.fault_texts.Path.{Path}
@@ -54,6 +56,14 @@ image_text image.Entry = codes "entry"
 image_text (image.Cost number) = codes "cost " ++ decimal number
 image_text image.Names = codes "names"
 image_text (image.Params number) = codes "params " ++ decimal number
+
+-- what is wrong with the bytes of an executable: where it carries no image, the words of the image's fault
+abbrev pub elf_text : ElfText → List ℕ
+elf_text elf.Short = codes "short"
+elf_text (elf.Length bytes) = codes "length " ++ decimal bytes
+elf_text (elf.Field at) = codes "field " ++ decimal at
+elf_text (elf.Image fault) = image_text fault
+elf_text (elf.Differs word) = codes "differs " ++ decimal word
 
 -- the cause of a trap
 abbrev pub trap_word : Cause → List ℕ

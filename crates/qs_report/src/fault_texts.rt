@@ -84,6 +84,21 @@ pub enum ProofFileText {
     NoSuchFunction,
 }
 
+/// What is wrong with the bytes of an executable.
+#[derive(Clone, Copy)]
+pub enum ElfText {
+    /// They are too few.
+    Short,
+    /// They aren't as many as this.
+    Length(u64),
+    /// The byte at this offset isn't the one that has to stand there.
+    Field(u64),
+    /// What they carry is no image.
+    Image(ImageFault),
+    /// The word of this number, among those that the image says too, isn't the image's.
+    Differs(u32),
+}
+
 /// A fault, as its line tells it.
 #[derive(Drop)]
 pub enum FaultText {
@@ -127,6 +142,8 @@ pub enum FaultText {
     ArgRange(u32),
     /// The bytes of the image are wrong.
     Image(ImageFault),
+    /// The bytes of the executable are wrong.
+    Elf(ElfText),
     /// A step was not taken, for this cause; the pc is that of the instruction.
     Trapped(Cause, u32),
     /// The program goes on after so many steps.

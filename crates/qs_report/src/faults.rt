@@ -1,15 +1,16 @@
 // The lines of faults.
+ghost use Rattle.std.specs.Prelude.{decimal};
 ghost use Rattle.qs_ports.specs.SinkView.{PutsOn};
 ghost use Rattle.qs_report.specs.Words.{rule_text};
 ghost use Rattle.qs_report.specs.Lines.{PutsAt, both_at, fault_line, line_at};
-ghost use Rattle.qs_report.specs.Lines.{argument_line, arguments_line, image_count_line};
-ghost use Rattle.qs_report.specs.Lines.{image_line, trap_line};
+ghost use Rattle.qs_report.specs.Lines.{argument_line, arguments_line, elf_line, image_line};
+ghost use Rattle.qs_report.specs.Lines.{labelled_line, trap_line};
 
-use crate::FaultText;
 use crate::derivation_faults::{put_cycle, put_proof_fault};
 use crate::parts::{put_between, put_number, put_pair, put_parts, put_two};
 use crate::results::put_shown;
 use crate::words::{lex_word, limit_word, proof_file_word, trap_word};
+use crate::{ElfText, FaultText};
 use hex::encode_to_slice;
 use itoa::Buffer;
 use qs_base::Pos;
@@ -72,32 +73,69 @@ fn put_rule<K: Sink>(log: &mut K, file: &[u8], pos: Pos, rule: Rule) -> Result<(
     )
 }
 
-// Puts the line of an image's fault: its word, and a number behind it.
-fn put_image_count<K: Sink>(
+// Puts a text of two parts behind a file and what is told of it.
+fn put_labelled<K: Sink>(
     log: &mut K,
     file: &[u8],
+    label: &[u8],
     text: &[u8],
-    number: u32,
+    more: &[u8],
 ) -> Result<(), SinkFault>
-    ensures { PutsOn K.view log.old log.new (image_count_line file.now text.now number) result }
+    ensures { PutsOn K.view log.old log.new (labelled_line file.now label.now text.now more.now) result }
 {
-    let mut digits = Buffer::new();
-    let digits = digits.format(number).as_bytes();
-    put_parts(log, &[file, b": image ", text, digits, b"\n"])
+    put_parts(log, &[file, label, text, more, b"\n"])
 }
 
-fn put_image<K: Sink>(log: &mut K, file: &[u8], fault: ImageFault) -> Result<(), SinkFault>
-    ensures { PutsOn K.view log.old log.new (image_line file.now fault) result }
+// Puts the same where a number ends it.
+fn put_numbered<K: Sink>(
+    log: &mut K,
+    file: &[u8],
+    label: &[u8],
+    text: &[u8],
+    number: u64,
+) -> Result<(), SinkFault>
+    ensures { PutsOn K.view log.old log.new (labelled_line file.now label.now text.now (decimal number)) result }
+{
+    let mut digits = Buffer::new();
+    put_labelled(log, file, label, text, digits.format(number).as_bytes())
+}
+
+// Puts the line of a fault of an image, which the file is or carries.
+fn put_image<K: Sink>(
+    log: &mut K,
+    file: &[u8],
+    label: &[u8],
+    fault: ImageFault,
+) -> Result<(), SinkFault>
+    ensures { PutsOn K.view log.old log.new (image_line file.now label.now fault) result }
 {
     match fault {
-        ImageFault::Short => put_two(log, file, b": image short"),
-        ImageFault::Magic => put_two(log, file, b": image magic"),
-        ImageFault::Count(word) => put_image_count(log, file, b"count ", word.number()),
-        ImageFault::Trailing => put_two(log, file, b": image trailing"),
-        ImageFault::Entry => put_two(log, file, b": image entry"),
-        ImageFault::Cost(record) => put_image_count(log, file, b"cost ", record),
-        ImageFault::Names => put_two(log, file, b": image names"),
-        ImageFault::Params(record) => put_image_count(log, file, b"params ", record),
+        ImageFault::Short => put_labelled(log, file, label, b"short", b""),
+        ImageFault::Magic => put_labelled(log, file, label, b"magic", b""),
+        ImageFault::Count(word) => {
+            put_numbered(log, file, label, b"count ", u64::from(word.number()))
+        }
+        ImageFault::Trailing => put_labelled(log, file, label, b"trailing", b""),
+        ImageFault::Entry => put_labelled(log, file, label, b"entry", b""),
+        ImageFault::Cost(record) => put_numbered(log, file, label, b"cost ", u64::from(record)),
+        ImageFault::Names => put_labelled(log, file, label, b"names", b""),
+        ImageFault::Params(record) => {
+            put_numbered(log, file, label, b"params ", u64::from(record))
+        }
+    }
+}
+
+fn put_elf<K: Sink>(log: &mut K, file: &[u8], fault: ElfText) -> Result<(), SinkFault>
+    ensures { PutsOn K.view log.old log.new (elf_line file.now fault) result }
+{
+    match fault {
+        ElfText::Short => put_labelled(log, file, b": elf ", b"short", b""),
+        ElfText::Length(bytes) => put_numbered(log, file, b": elf ", b"length ", bytes),
+        ElfText::Field(at) => put_numbered(log, file, b": elf ", b"field ", at),
+        ElfText::Image(fault) => put_image(log, file, b": elf ", fault),
+        ElfText::Differs(word) => {
+            put_numbered(log, file, b": elf ", b"differs ", u64::from(word))
+        }
     }
 }
 
@@ -159,7 +197,8 @@ pub fn put_fault<K: Sink>(
             put_arg_count(log, u64::from(*expected), u64::from(*given))
         }
         FaultText::ArgRange(argument) => put_arg_range(log, u64::from(*argument)),
-        FaultText::Image(fault) => put_image(log, file, *fault),
+        FaultText::Image(fault) => put_image(log, file, b": image ", *fault),
+        FaultText::Elf(fault) => put_elf(log, file, *fault),
         FaultText::Trapped(cause, pc) => put_trap(log, *cause, *pc),
         FaultText::StepLimit(steps) => put_number(log, b"step limit ", *steps),
         FaultText::NoBound(bound) => put_shown(log, b"no bound: ", *bound),

@@ -12,7 +12,7 @@ mod taking;
 mod words;
 
 pub use derivation_faults::{put_cycle, put_proof_fault};
-pub use fault_texts::{Count, FaultText, Path, ProofFileText, ProofText, Shown, Spot};
+pub use fault_texts::{Count, ElfText, FaultText, Path, ProofFileText, ProofText, Shown, Spot};
 pub use faults::{put_arg_count, put_arg_range, put_fault};
 pub use lines::{bound_line, cost_line, count_line, end_line, fault_line};
 pub use parts::put_two;

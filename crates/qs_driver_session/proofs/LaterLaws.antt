@@ -3,7 +3,8 @@ use Rattle.std.proofs.Common.{◌≡◌, ◌∙◌, ℕ, List, Option, Some, Non
 use Rattle.qs_ports.specs.StoreView.{StoreView, Keeps, HasSameCounts, HasMissed, Holds}
 use Rattle.qs_ports.specs.Whole.{IsContent, IsCutShort}
 use Rattle.qs_ports.proofs.Wholes.{keeps_more, reads_more, counts_more, failed_later}
-use Rattle.qs_driver_session.specs.Files.{IsUntouched, WasReadAs, CannotRead}
+use Rattle.qs_driver_steps.specs.Files.{IsUntouched}
+use Rattle.qs_driver_session.specs.Files.{WasReadAs, CannotRead}
 use Rattle.qs_driver_session.specs.Files as files
 use Rattle.qs_driver_session.specs.declared.status.FileKind.{FileKind}
 use Rattle.qs_driver_session.specs.declared.status.Status.{Status}

@@ -5,9 +5,13 @@ pub mod ArgumentsLaws
 pub mod NodeTokens
 pub mod FaultNodes
 pub mod SourceLaws
+pub mod OriginLaws
+pub mod SeenLaws
+pub mod OriginRefusals
+pub mod SharedSteps
 pub mod SourceFollows
 mod ToldExamples
-pub mod StepsLaws
+pub mod PieceLaws
 pub mod StartingLaws
 pub mod CountLaws
 pub mod SampleTrees
@@ -19,3 +23,7 @@ pub mod SampleGood
 pub mod SampleBytes
 pub mod SampleMeaning
 pub mod rooms
+pub mod EndLaws
+pub mod FileStatusLaws
+pub mod RunStatusLaws
+pub mod PlainWordsLaws

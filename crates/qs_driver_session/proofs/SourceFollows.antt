@@ -6,11 +6,12 @@ use Rattle.qs_parser.specs.declared.syntax_fault.SyntaxFault.{SyntaxFault}
 use Rattle.qs_typing_findings.specs.declared.type_fault.TypeFault.{TypeFault}
 use Rattle.qs_ports.specs.StoreView.{StoreView}
 use Rattle.qs_driver_session.specs.Limits.{source_limit}
-use Rattle.qs_driver_session.specs.Files.{HoldsContent, HoldsWith, IsTooLong}
+use Rattle.qs_driver_steps.specs.Files.{HoldsContent, IsTooLong}
+use Rattle.qs_driver_session.specs.Files.{HoldsWith}
 use Rattle.qs_driver_session.specs.Files as files
 use Rattle.qs_driver_session.specs.Source.{HasLexFault, HasSyntaxFault, HasTypeFault, IsNoUnit, IsTypedUnit, IsSyntax, LacksSource, IsOfSource, missing_source, long_source, ill_spelled, no_reading, RefusesSource}
 use Rattle.qs_driver_session.specs.Source as source
-use Rattle.qs_driver_session.specs.Promises.{StoreHeld}
+use Rattle.qs_driver_steps.specs.Files.{StoreHeld}
 use Rattle.qs_driver_session.specs.declared.status.Status.{Status}
 use Rattle.qs_driver_session.specs.declared.status.Status.TheVariants.{Done, Source, Missing, NoMemory}
 use Rattle.qs_driver_session.specs.declared.status.SourceFault.TheVariants.{TooLong, Lex, Syntax, Typing}

@@ -1,4 +1,3 @@
 pub mod Follows
 pub mod Usage
 pub mod Run
-pub mod RunFollows

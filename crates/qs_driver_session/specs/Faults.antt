@@ -12,7 +12,11 @@ use Rattle.qs_assert.specs.declared.define.Amount.{Amount}
 use Rattle.qs_assert.specs.declared.define.Amount.TheVariants.{Finite, Infinite, Wide}
 use Rattle.qs_prooftext_meaning.specs.declared.fault.TextFault.{TextFault}
 use Rattle.qs_prooftext_meaning.specs.declared.fault.TextFault.TheVariants as proof_file
+use Rattle.qs_elf.specs.Faults.{stated_number}
+use Rattle.qs_elf.specs.declared.fault.ElfFault.{ElfFault}
+use Rattle.qs_elf.specs.declared.fault.ElfFault.TheVariants as executable
 use Rattle.qs_report.specs.Lines as lines
+use Rattle.qs_report.specs.declared.fault_texts.ElfText.TheVariants as elf_texts
 use Rattle.qs_report.specs.declared.fault_texts.FaultText.{FaultText}
 use Rattle.qs_report.specs.declared.fault_texts.FaultText.TheVariants as texts
 use Rattle.qs_report.specs.declared.fault_texts.ProofFileText.TheVariants as proof_file_texts
@@ -21,7 +25,7 @@ use Rattle.qs_report.specs.declared.fault_texts.Shown.TheVariants as shown
 use Rattle.qs_driver_session.specs.Names.{Names, file_name, names_in}
 use Rattle.qs_driver_session.specs.declared.names.FileNames.{FileNames}
 use Rattle.qs_driver_session.specs.declared.status.Status.{Status}
-use Rattle.qs_driver_session.specs.declared.status.Status.TheVariants.{Done, Source, Proof, Words, Missing, StoreFailed, Image, Trapped, StepLimit, NoBound, StackTooLarge, SinkFailed, NoMemory}
+use Rattle.qs_driver_session.specs.declared.status.Status.TheVariants.{Done, Source, Proof, Words, Missing, StoreFailed, Image, Elf, Trapped, StepLimit, NoBound, StackTooLarge, SinkFailed, NoMemory}
 use Rattle.qs_driver_session.specs.declared.status.SourceFault.TheVariants.{TooLong, Lex, Syntax, Typing}
 use Rattle.qs_driver_session.specs.declared.status.ProofFault.TheVariants.{Text, Cycle, Order, Entry}
 use Rattle.qs_driver_session.specs.declared.status.TokenPlace.{TokenPlace}
@@ -77,6 +81,15 @@ proof_file_text (proof_file.TooDeep at) pos = texts.ProofFile pos proof_file_tex
 proof_file_text (proof_file.Duplicate at) pos = texts.ProofFile pos proof_file_texts.Duplicate
 proof_file_text (proof_file.NoSuchFunction at) pos = texts.ProofFile pos proof_file_texts.NoSuchFunction
 
+-- what is wrong with an executable
+abbrev pub elf_text : ElfFault → FaultText
+elf_text executable.Short = texts.Elf elf_texts.Short
+elf_text (executable.Length bytes) = texts.Elf (elf_texts.Length bytes)
+elf_text (executable.Field at) = texts.Elf (elf_texts.Field at)
+elf_text (executable.Image fault) = texts.Elf (elf_texts.Image fault)
+elf_text (executable.Differs word) = texts.Elf (elf_texts.Differs (stated_number word))
+elf_text executable.NoMemory = texts.NoMemory
+
 -- a bound as lines show it
 abbrev pub shown_of : Amount → Shown
 shown_of (Finite bytes) = shown.Number bytes
@@ -106,6 +119,7 @@ status_line names (Words (ArgRange i)) = named_line [] (texts.ArgRange i)
 status_line names (Missing kind) = named_line (file_name names kind) texts.Missing
 status_line names (StoreFailed kind) = named_line (file_name names kind) texts.Failed
 status_line names (Image fault) = named_line names.image (texts.Image fault)
+status_line names (Elf fault) = named_line names.elf (elf_text fault)
 status_line names (Trapped cause pc) = named_line [] (texts.Trapped cause pc)
 status_line names (StepLimit steps) = named_line [] (texts.StepLimit steps)
 status_line names (NoBound bound) = named_line [] (texts.NoBound (shown_of bound))

@@ -1,22 +1,13 @@
 -- Files that a command reads, and what is said of each.
 use Rattle.std.specs.Prelude.{◌≡◌, ℕ, ◌<◌, ◌≤◌, List, length, IsTrue, Option, Some, None, Result, Ok, Err, Vec}
 use Rattle.std.specs.declared.alloc.Global.{Global}
-use Rattle.qs_ports.specs.StoreView.{StoreView, OnlyReads, HasSameCounts, HasFailed, HasMissed}
+use Rattle.qs_ports.specs.StoreView.{StoreView, OnlyReads, HasFailed, HasMissed}
 use Rattle.qs_ports.specs.Whole.{IsContent}
+use Rattle.qs_driver_steps.specs.Files.{IsUntouched, HoldsContent}
 use Rattle.qs_driver_session.specs.declared.status.Status.{Status}
 use Rattle.qs_driver_session.specs.declared.status.Status.TheVariants.{Source, Missing, StoreFailed, NoMemory}
 use Rattle.qs_driver_session.specs.declared.status.SourceFault.TheVariants.{TooLong}
 use Rattle.qs_driver_session.specs.declared.status.FileKind.{FileKind}
-
--- no file changed, none was opened for writing, and no call failed
-pub record IsUntouched (before after : StoreView) : Type 0 where
-  pub only_reads : OnlyReads before after
-  pub counts : HasSameCounts before after
-
--- the file is there, is within its limit, and these are its bytes
-pub record HoldsContent (file : Option (List ℕ)) (limit : ℕ) (content : List ℕ) : Type 0 where
-  pub there : file ≡ Some content
-  pub within : length content ≤ limit
 
 -- the file is there, is within its limit, and its bytes have this property
 pub record HoldsWith (file : Option (List ℕ)) (limit : ℕ) (Property : List ℕ → Type 0)
@@ -24,12 +15,6 @@ pub record HoldsWith (file : Option (List ℕ)) (limit : ℕ) (Property : List �
   pub content : List ℕ
   pub holds : HoldsContent file limit content
   pub has : Property content
-
--- the file is there, and has more bytes than its limit
-pub record IsTooLong (file : Option (List ℕ)) (limit : ℕ) : Type 0 where
-  pub content : List ℕ
-  pub there : file ≡ Some content
-  pub more : limit < length content
 
 -- These bytes were read as those of the file, and are within its limit; they are the file's, where the store tells its files.
 pub record WasReadAs (before : StoreView) (name : List ℕ) (limit : ℕ) (content : List ℕ)

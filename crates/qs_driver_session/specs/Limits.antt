@@ -13,6 +13,10 @@ proof_limit = 16777216
 abbrev pub image_limit : ℕ
 image_limit = 33554432
 
+-- the longest executable, in bytes
+abbrev pub elf_limit : ℕ
+elf_limit = 33554432
+
 -- the longest input of a run, in bytes
 abbrev pub input_limit : ℕ
 input_limit = 1048576

@@ -3,12 +3,12 @@ use Rattle.std.specs.Prelude.{◌≡◌, ◌≢◌, ◌⊎◌, ◌<◌}
 use Rattle.qs_ports.specs.Causes.{Rose}
 use Rattle.qs_ports.specs.SinkView.{SinkView}
 use Rattle.qs_ports.specs.StoreView.{StoreView}
+use Rattle.qs_driver_steps.specs.Files.{IsUntouched, StoreHeld}
 use Rattle.qs_driver_session.specs.Names.{no_names}
-use Rattle.qs_driver_session.specs.Devices.{DevicesView, DevicesLeft, streams_of, views, views_left}
+use Rattle.qs_driver_steps.specs.Devices.{DevicesView, DevicesLeft, streams_of, views, views_left}
 use Rattle.qs_driver_session.specs.Due.{refusal, IsWritten}
-use Rattle.qs_driver_session.specs.Files.{IsUntouched}
 use Rattle.qs_driver_session.specs.Task.{Task, Answers}
-use Rattle.qs_driver_session.specs.declared.devices.Devices.{Devices}
+use Rattle.qs_driver_steps.specs.declared.devices.Devices.{Devices}
 use Rattle.qs_driver_session.specs.declared.status.Status.{Status}
 use Rattle.qs_driver_session.specs.declared.status.Status.TheVariants.{StoreFailed, SinkFailed, NoMemory}
 use Rattle.qs_driver_session.specs.declared.status.FileKind.{FileKind}
@@ -25,10 +25,6 @@ abbrev pub LacksMemoryOn :
 LacksMemoryOn store_view out_view log_view handed left result =
     LacksMemory (views store_view out_view log_view handed)
     (views_left store_view out_view log_view left) result
-
--- no call on the store failed
-abbrev pub StoreHeld : StoreView → StoreView → Type 0
-StoreHeld before after = Rose before.faults after.faults → ⊥
 
 -- no call on the store or on a sink failed
 pub record NoneFailed (before after : DevicesView) : Type 0 where

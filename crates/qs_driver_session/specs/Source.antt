@@ -24,7 +24,8 @@ use Rattle.qs_typing_findings.specs.declared.type_fault.TypeFault.{TypeFault}
 use Rattle.qs_typing_findings.specs.declared.type_fault.TypeFault.TheVariants as type_faults
 use Rattle.qs_ports.specs.StoreView.{StoreView}
 use Rattle.qs_driver_session.specs.Limits.{source_limit}
-use Rattle.qs_driver_session.specs.Files.{IsUntouched, HoldsWith, IsTooLong, WasRead, WasReadWith, CannotRead}
+use Rattle.qs_driver_steps.specs.Files.{IsUntouched, IsTooLong}
+use Rattle.qs_driver_session.specs.Files.{HoldsWith, WasRead, WasReadWith, CannotRead}
 use Rattle.qs_driver_session.specs.declared.status.Status.{Status}
 use Rattle.qs_driver_session.specs.declared.status.Status.TheVariants.{Source, Missing, NoMemory}
 use Rattle.qs_driver_session.specs.declared.status.SourceFault.TheVariants.{TooLong, Lex, Syntax, Typing}

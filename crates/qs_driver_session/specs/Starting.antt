@@ -20,7 +20,8 @@ use Rattle.qs_driver_session.specs.Limits.{input_limit}
 use Rattle.qs_driver_session.specs.Names.{Names, no_names, or_empty, name_in}
 use Rattle.qs_driver_session.specs.Faults.{status_line}
 use Rattle.qs_driver_session.specs.Due.{EndsWith}
-use Rattle.qs_driver_session.specs.Files.{IsUntouched, HoldsContent, WasReadAs, ReadsFile}
+use Rattle.qs_driver_steps.specs.Files.{IsUntouched, HoldsContent}
+use Rattle.qs_driver_session.specs.Files.{WasReadAs, ReadsFile}
 use Rattle.qs_driver_session.specs.Arguments.{LacksWords}
 use Rattle.qs_driver_session.specs.declared.starting.RunOrder.{RunOrder}
 use Rattle.qs_driver_session.specs.declared.status.Status.{Status}

@@ -1,9 +1,9 @@
 -- What a command asks of the tool, and when it is answered.
 use Rattle.qs_ports.specs.SinkView.{SinkView}
 use Rattle.qs_ports.specs.StoreView.{StoreView}
-use Rattle.qs_driver_session.specs.Devices.{DevicesView, DevicesLeft, Streams, StreamsLeft, streams_of, views, views_left, with_streams, stream_views, stream_views_left}
+use Rattle.qs_driver_steps.specs.Devices.{DevicesView, DevicesLeft, Streams, StreamsLeft, streams_of, views, views_left, with_streams, stream_views, stream_views_left}
 use Rattle.qs_driver_session.specs.Due.{Due, IsWritten}
-use Rattle.qs_driver_session.specs.declared.devices.Devices.{Devices}
+use Rattle.qs_driver_steps.specs.declared.devices.Devices.{Devices}
 use Rattle.qs_driver_session.specs.declared.status.Status.{Status}
 
 -- The files are those of the store before the call and after it.

@@ -3,9 +3,9 @@ ghost use Rattle.qs_driver_session.specs.Counts.{due_to};
 ghost use Rattle.qs_driver_session.specs.Due.{IsWrittenOn};
 
 use crate::Status;
-use crate::devices::Streams;
 use crate::due::{refuse, status_after};
 use crate::names::FileNames;
+use qs_driver_steps::Streams;
 use qs_ports::Sink;
 use qs_report::{Count, put_count};
 

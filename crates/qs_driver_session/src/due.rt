@@ -1,6 +1,6 @@
 // The end of a call: what is due is put, and the status tells how that went.
 ghost use Rattle.std.specs.Prelude.{◌≡◌};
-ghost use Rattle.qs_driver_session.specs.Due.{status_after, PutsRefusal};
+ghost use Rattle.qs_driver_session.specs.Due.{status_after, EndsDone, PutsRefusal};
 ghost use Rattle.qs_driver_session.specs.Names.{names_in};
 
 use crate::Status;
@@ -24,4 +24,14 @@ pub fn refuse<L: Sink>(log: &mut L, names: &FileNames<'_>, status: Status) -> St
 {
     let written = put_status(log, names, &status);
     status_after(written, status)
+}
+
+/// Puts the line of the fault, and nothing where all was done.
+pub fn report_done<L: Sink>(work: Result<(), Status>, names: &FileNames<'_>, log: &mut L) -> Status
+    ensures { EndsDone (names_in names.now) work (L.view log.old) (L.view log.new) result }
+{
+    match work {
+        Ok(()) => Status::Done,
+        Err(status) => refuse(log, names, status),
+    }
 }

@@ -1,7 +1,7 @@
 // The line that tells a status. Nothing here takes memory.
 ghost use Rattle.std.specs.Prelude.{◌≡◌};
 ghost use Rattle.qs_ports.specs.SinkView.{PutsOn};
-ghost use Rattle.qs_driver_session.specs.Faults.{lex_text, line_of, named_line};
+ghost use Rattle.qs_driver_session.specs.Faults.{elf_text, lex_text, line_of, named_line};
 ghost use Rattle.qs_driver_session.specs.Faults.{placed_text, pos_of, proof_file_text, shown_of};
 ghost use Rattle.qs_driver_session.specs.Faults.{syntax_text, typing_text, unexpected_text};
 
@@ -9,12 +9,13 @@ use crate::names::{FileNames, file_name};
 use crate::{ProofFault, SourceFault, Status, TokenPlace, WordsFault};
 use qs_assert::Amount;
 use qs_base::Pos;
+use qs_elf::ElfFault;
 use qs_lexer::{FaultKind, LexFault};
 use qs_parser::SyntaxFault;
 use qs_ports::{Sink, SinkFault};
 use qs_prooftext_meaning::TextFault;
 use qs_report::{
-    FaultText, ProofFileText, Shown, put_arg_count, put_arg_range, put_cycle, put_fault,
+    ElfText, FaultText, ProofFileText, Shown, put_arg_count, put_arg_range, put_cycle, put_fault,
     put_proof_fault,
 };
 use qs_typing_findings::TypeFault;
@@ -94,6 +95,19 @@ fn proof_file_text(fault: TextFault, pos: Pos) -> FaultText
         TextFault::TooDeep(_) => FaultText::ProofFile(pos, ProofFileText::TooDeep),
         TextFault::Duplicate(_) => FaultText::ProofFile(pos, ProofFileText::Duplicate),
         TextFault::NoSuchFunction(_) => FaultText::ProofFile(pos, ProofFileText::NoSuchFunction),
+    }
+}
+
+fn elf_text(fault: &ElfFault) -> FaultText
+    ensures { result ≡ elf_text fault.now }
+{
+    match fault {
+        ElfFault::Short => FaultText::Elf(ElfText::Short),
+        ElfFault::Length(bytes) => FaultText::Elf(ElfText::Length(*bytes as u64)),
+        ElfFault::Field(at) => FaultText::Elf(ElfText::Field(*at as u64)),
+        ElfFault::Image(fault) => FaultText::Elf(ElfText::Image(*fault)),
+        ElfFault::Differs(word) => FaultText::Elf(ElfText::Differs(word.number())),
+        ElfFault::NoMemory => FaultText::NoMemory,
     }
 }
 
@@ -193,6 +207,7 @@ pub fn put_status<K: Sink>(
         Status::Missing(kind) => put_text(log, file_name(names, *kind), FaultText::Missing),
         Status::StoreFailed(kind) => put_text(log, file_name(names, *kind), FaultText::Failed),
         Status::Image(fault) => put_text(log, names.image, FaultText::Image(*fault)),
+        Status::Elf(fault) => put_text(log, names.elf, elf_text(fault)),
         Status::Trapped { cause, pc } => put_text(log, "", FaultText::Trapped(*cause, *pc)),
         Status::StepLimit(steps) => put_text(log, "", FaultText::StepLimit(*steps)),
         Status::NoBound(bound) => put_text(log, "", FaultText::NoBound(shown_of(*bound))),

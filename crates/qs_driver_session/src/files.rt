@@ -1,6 +1,9 @@
 // Reads a file that a command names.
 ghost use Rattle.std.specs.Prelude.{◌<◌, ◌^◌};
+ghost use Rattle.qs_driver_steps.specs.Reading.{items_of};
+ghost use Rattle.qs_driver_steps.specs.Runs.{Takes};
 ghost use Rattle.qs_driver_session.specs.Files.{ReadsFile};
+ghost use Rattle.qs_driver_session.specs.Shared.{reading_file};
 
 use crate::{FileKind, SourceFault, Status};
 use qs_ports::{ReadFault, Store, read_whole};
@@ -16,7 +19,8 @@ pub fn read_file<S: Store>(
     limit: usize,
 ) -> Result<Vec<u8>, Status>
     requires { limit < 2 ^ 32 }
-    ensures { ReadsFile (S.view store.old) (S.view store.new) name.now kind limit result }
+    ensures reads { ReadsFile (S.view store.old) (S.view store.new) name.now kind limit result }
+    ensures takes { Takes (reading_file kind limit name.now) items_of (S.view store.old) (S.view store.new) result }
 {
     match read_whole(alloc, store, name, limit) {
         Ok(content) => {

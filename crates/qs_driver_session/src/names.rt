@@ -11,6 +11,7 @@ pub struct FileNames<'a> {
     pub source: &'a str,
     pub derivation: &'a str,
     pub image: &'a str,
+    pub elf: &'a str,
     pub input: &'a str,
     pub output: &'a str,
 }
@@ -23,6 +24,7 @@ pub fn nameless() -> FileNames<'static>
         source: "",
         derivation: "",
         image: "",
+        elf: "",
         input: "",
         output: "",
     }
@@ -36,6 +38,7 @@ pub fn file_name<'a>(names: &FileNames<'a>, kind: FileKind) -> &'a str
         FileKind::Source => names.source,
         FileKind::Derivation => names.derivation,
         FileKind::Image => names.image,
+        FileKind::Elf => names.elf,
         FileKind::Input => names.input,
         FileKind::Output => names.output,
     }

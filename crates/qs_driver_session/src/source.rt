@@ -7,7 +7,10 @@ ghost use Rattle.qs_lexer.specs.Tokens.{Tokens};
 ghost use Rattle.qs_lexer.specs.Terminals.{terminals};
 ghost use Rattle.qs_parser.specs.Answers.{Answers, ReadsAs};
 ghost use Rattle.qs_typing_findings.specs.Refusals.{IsCause, IsTold};
+ghost use Rattle.qs_typing_findings.specs.TypedOf.{typed_tree};
+ghost use Rattle.qs_driver_steps.specs.Runs.{TakesAll};
 ghost use Rattle.qs_driver_session.specs.Limits.{source_limit};
+ghost use Rattle.qs_driver_session.specs.Origin.{origin};
 ghost use Rattle.qs_driver_session.specs.Source.{byte_of, node_of, number_of, IsNodeStart, IsPlaceOf};
 ghost use Rattle.qs_driver_session.specs.Source.{IsTokenPlace, ReadsUnit, RefusesText, TypesText};
 
@@ -178,7 +181,8 @@ pub fn typed_text(alloc: Global, text: &[u8]) -> Result<TypedUnit, Status>
 /// The unit of a source, with its types. Or the status at which its file can't be read, or its text
 /// is refused.
 pub fn read_unit<S: Store>(alloc: Global, store: &mut S, name: &str) -> Result<TypedUnit, Status>
-    ensures { ReadsUnit (S.view store.old) (S.view store.new) name.now result }
+    ensures reads { ReadsUnit (S.view store.old) (S.view store.new) name.now result }
+    ensures takes { TakesAll (origin name.now) typed_tree (S.view store.old) (S.view store.new) result }
 {
     let text = read_file(alloc, store, name, FileKind::Source, SOURCE_LIMIT)?;
     let typed = typed_text(alloc, &text)?;

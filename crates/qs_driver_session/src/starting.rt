@@ -1,7 +1,10 @@
 // A run of an image on a stack, as several commands make one: the machine at its start, its input,
 // and the line at its end.
 ghost use Rattle.std.specs.Prelude.{◌≡◌};
+ghost use Rattle.qs_driver_steps.specs.Reading.{items_of};
+ghost use Rattle.qs_driver_steps.specs.Runs.{TakesAll};
 ghost use Rattle.qs_driver_session.specs.Names.{names_in};
+ghost use Rattle.qs_driver_session.specs.Shared.{input_of};
 ghost use Rattle.qs_driver_session.specs.Starting.{names_of, words_in, Finishes, IsStackOf, Loads};
 ghost use Rattle.qs_driver_session.specs.Starting.{LoadsImage, ReadsInput};
 
@@ -90,7 +93,8 @@ pub fn read_input<S: Store>(
     order: &RunOrder<'_>,
     store: &mut S,
 ) -> Result<Vec<u8>, Status>
-    ensures { ReadsInput (words_in order.now) (S.view store.old) (S.view store.new) result }
+    ensures reads { ReadsInput (words_in order.now) (S.view store.old) (S.view store.new) result }
+    ensures takes { TakesAll (input_of (words_in order.now).input) items_of (S.view store.old) (S.view store.new) result }
 {
     match order.input {
         Some(name) => read_file(alloc, store, name, FileKind::Input, INPUT_LIMIT),

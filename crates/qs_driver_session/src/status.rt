@@ -1,11 +1,12 @@
 // How a call of the tool ends.
 ghost use Rattle.std.specs.Prelude.{◌≡◌};
-ghost use Rattle.qs_driver_session.specs.Status.{code_of};
+ghost use Rattle.qs_driver_session.specs.Status.{code_of, elf_status};
 ghost use Rattle.qs_driver_session.specs.declared.status.Status.TheVariants.{Image, NoMemory, StoreFailed};
 ghost use Rattle.qs_driver_session.specs.declared.status.FileKind.TheVariants.{Output};
 
 use qs_assert::Amount;
 use qs_base::{Name, NoMemory, Pos};
+use qs_elf::ElfFault;
 use qs_image::ImageFault;
 use qs_lexer::LexFault;
 use qs_machine::Cause;
@@ -24,8 +25,10 @@ pub enum FileKind {
     Source,
     /// The derivations of its functions.
     Derivation,
-    /// The image that is run.
+    /// The image that is run, or that gets an executable.
     Image,
+    /// The executable whose image is taken.
+    Elf,
     /// The bytes that the run takes as its input.
     Input,
     /// The file that the command writes.
@@ -112,8 +115,10 @@ pub enum Status {
     Missing(FileKind),
     /// A call on the store failed.
     StoreFailed(FileKind),
-    /// The file to run is no image.
+    /// The file is no image.
     Image(ImageFault),
+    /// The file is no executable of an image.
+    Elf(ElfFault),
     /// The machine trapped at this pc.
     Trapped { cause: Cause, pc: u32 },
     /// The machine goes on after this many steps.
@@ -141,6 +146,7 @@ impl Status {
             Status::Missing(_) => 4,
             Status::StoreFailed(_) => 5,
             Status::Image(_) => 6,
+            Status::Elf(_) => 6,
             Status::Trapped { .. } => 7,
             Status::StepLimit(_) => 8,
             Status::NoBound(_) => 9,
@@ -172,6 +178,21 @@ impl From<ImageFault> for Status {
 
     fn from(fault: ImageFault) -> Status {
         Status::Image(fault)
+    }
+}
+
+impl From<ElfFault> for Status {
+    ghost from_gives = { λ fault status. status ≡ elf_status fault };
+
+    fn from(fault: ElfFault) -> Status {
+        match fault {
+            ElfFault::Short => Status::Elf(ElfFault::Short),
+            ElfFault::Length(bytes) => Status::Elf(ElfFault::Length(bytes)),
+            ElfFault::Field(at) => Status::Elf(ElfFault::Field(at)),
+            ElfFault::Image(fault) => Status::Elf(ElfFault::Image(fault)),
+            ElfFault::Differs(word) => Status::Elf(ElfFault::Differs(word)),
+            ElfFault::NoMemory => Status::NoMemory,
+        }
     }
 }
 

@@ -2,12 +2,14 @@
 use Rattle.std.proofs.Common.{◌≡◌, ◌≢◌, ◌⊎◌, ℕ, ◌<◌, List, refl, arith, inl}
 use Rattle.qs_ports.specs.StoreView.{StoreView}
 use Rattle.qs_driver_session.specs.Due.{Due}
-use Rattle.qs_driver_session.specs.Files.{IsUntouched, CannotRead}
+use Rattle.qs_driver_steps.specs.Files.{IsUntouched}
+use Rattle.qs_driver_session.specs.Files.{CannotRead}
 use Rattle.qs_driver_session.specs.Files as files
 use Rattle.qs_driver_session.specs.Source.{LacksSource}
 use Rattle.qs_driver_session.specs.Source as source
 use Rattle.qs_driver_session.specs.Task.{Task}
-use Rattle.qs_driver_session.specs.Promises.{StoreHeld, SaysStoreFailed}
+use Rattle.qs_driver_steps.specs.Files.{StoreHeld}
+use Rattle.qs_driver_session.specs.Promises.{SaysStoreFailed}
 use Rattle.qs_driver_session.specs.declared.status.Status.{Status}
 use Rattle.qs_driver_session.specs.declared.status.Status.TheVariants.{NoMemory}
 use Rattle.qs_driver_session.specs.declared.status.FileKind.{FileKind}

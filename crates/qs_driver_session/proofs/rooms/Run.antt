@@ -1,146 +1,196 @@
--- How `run` comes to a machine and its input, and what it came to.
-use Rattle.std.proofs.Common.{◌≡◌, ℕ, List, Option, Some, None, Result, Ok, Err, refl, sym, subst}
-use Rattle.qs_ports.specs.StoreView.{StoreView}
-use Rattle.qs_ports.specs.SinkView.{SinkView}
-use Rattle.qs_image.specs.Image.{Image, IsImage}
+-- `run` is a good command, and what its code shows.
+use Rattle.std.proofs.Common.{◌≡◌, ℕ, List, refl, sym, subst, inl, inr, arith}
+use Rattle.qs_image.specs.Image.{Image}
+use Rattle.qs_machine.specs.Arguments.{words_of}
 use Rattle.qs_machine.specs.Run.{Outcome, Exited, Trapped as HasTrapped, Going, machine, output_so_far}
 use Rattle.qs_machine.specs.Running.{Shows}
-use Rattle.qs_machine.specs.declared.machine.Machine.{Machine}
 use Rattle.qs_machine.specs.declared.answers.RunEnd.{RunEnd}
 use Rattle.qs_machine.specs.declared.answers.RunEnd.TheVariants as end
-use Rattle.qs_driver_session.specs.Limits.{image_limit, input_limit}
+use Rattle.qs_machine.specs.declared.machine.Machine.{Machine}
+use Rattle.qs_ports.specs.SinkView.{SinkView}
+use Rattle.qs_ports.specs.StoreView.{StoreView}
 use Rattle.qs_report.specs.Lines.{end_line}
+use Rattle.std.specs.Prelude.{None, false, Result, Ok, Err}
+use Rattle.qs_driver_steps.specs.Devices.{streams, views_of}
+use Rattle.qs_driver_steps.specs.Promises.{Answers}
+use Rattle.qs_driver_steps.specs.Runs.{Halts, Passes, Halted, Passed, finished, Runs}
+use Rattle.qs_driver_steps.specs.Steps.{End, end_status}
+use Rattle.qs_driver_steps.proofs.Laws.{IsSingle, IsWithin, IsGood}
+use Rattle.qs_driver_steps.proofs.ReadingLaws.{reading_sound, reading_one}
+use Rattle.qs_driver_steps.proofs.StoreLaws.{untouched}
+use Rattle.qs_driver_steps.proofs.ThenLaws.{within_lower, then_single, then_within, then_lawful, then_from, then_halted, then_passed, is_refused, is_ended}
+use Rattle.qs_driver_session.specs.Limits.{image_limit}
+use Rattle.qs_driver_session.specs.Shared.{reading_file, imaging, fitting_stack, input_of}
+use Rattle.qs_driver_session.specs.Due.{Due, refusal, IsWritten, EndsWith}
 use Rattle.qs_driver_session.specs.Faults.{status_line}
-use Rattle.qs_driver_session.specs.Devices.{views_of}
-use Rattle.qs_driver_session.specs.Due.{Due, refusal, EndsWith}
-use Rattle.qs_driver_session.specs.Files.{IsUntouched, WasRead}
-use Rattle.qs_machine.specs.Arguments.{words_of}
-use Rattle.qs_driver_session.specs.Arguments.{LacksWords}
-use Rattle.qs_driver_session.specs.Arguments as arguments
-use Rattle.qs_driver_session.specs.Task.{Answers}
-use Rattle.qs_driver_session.specs.Starting.{RunWords, names_of, ReadInput, CannotLoad, WasLoaded, ReadsNamed, Finishes}
+use Rattle.qs_driver_session.specs.Names.{file_name}
+use Rattle.qs_driver_session.specs.Starting.{RunWords, names_of, CannotLoad, WasLoaded, Finishes}
 use Rattle.qs_driver_session.specs.Starting as starting
-use Rattle.qs_driver_session.specs.commands.Run.{run, ReadImage, CannotRun, IsDueToRun, IsDueAt, after_output, refused_after, IsReady, Prepares, IsFresh}
-use Rattle.qs_driver_session.specs.commands.Run as meant
+use Rattle.qs_driver_session.specs.Statuses.{tool, number_of}
+use Rattle.qs_driver_session.specs.commands.Run.{after_output, IsFresh, Prepared, with_input, of_image, of_content, prepared, due_at, outcome_of, run_end, run, order_of, IsReady, Prepares}
 use Rattle.qs_driver_session.specs.declared.starting.Ready.{Ready}
+use Rattle.qs_driver_session.specs.declared.status.FileKind.TheVariants as kinds
 use Rattle.qs_driver_session.specs.declared.status.Status.{Status}
 use Rattle.qs_driver_session.specs.declared.status.Status.TheVariants.{Done, Trapped, StepLimit}
-use Rattle.qs_driver_session.specs.declared.status.FileKind.TheVariants as kinds
-use Rattle.qs_driver_session.proofs.LaterLaws.{both_untouched, was_read_before, unread_later}
-use Rattle.qs_driver_session.proofs.StepsLaws.{log_last, then_log, out_fails}
+use Rattle.qs_driver_session.proofs.PieceLaws.{log_last, then_log, out_fails}
+use Rattle.qs_driver_session.proofs.SharedSteps.{imaging_sound, imaging_one, is_imaged, is_broken, no_image_memory, fitting_sound, fitting_one, fitted, fits_lacking, stack_sound, stack_one, small_stack, large_stack, input_single, input_within}
 
--- ---- the image
+-- ---- it is good
 
-read_image : (r : RunWords) {v w : StoreView} {bytes : List ℕ} {image : Image} → WasRead v w r.image image_limit bytes → IsImage bytes image → ReadImage v r image
-read_image r {bytes = bytes} read i = record { content = bytes; read_as = read.read_as; has = i }
+module _ (r : RunWords) where
+  image_single : (image : Image) → IsSingle (of_image r image)
+  image_single image = (
+    fitting_sound image r.args,
+    fitting_one image r.args,
+    (λ u. (
+      stack_sound r.stack,
+      stack_one r.stack,
+      (λ v. then_single (with_input image) (input_of r.input) (input_single r.input) (λ input. tt)),
+    )),
+  )
 
-no_words : (r : RunWords) {v w : StoreView} {bytes : List ℕ} {image : Image} {status : Status} → WasRead v w r.image image_limit bytes → IsImage bytes image → LacksWords image r.args status → CannotRun r v w status
-no_words r {image = image} read i (arguments.count_differs ne e) = meant.count_differs image.parameters read.untouched (record {
-  image = image;
-  image_read = read_image r read i;
-  parameters_are = refl;
-  differ = ne;
-}) e
-no_words r {image = image} read i (arguments.misfit k count first e) = meant.misfit k read.untouched (record {
-  image = image;
-  image_read = read_image r read i;
-  count = count;
-  first = first;
-}) e
-no_words r read i (arguments.no_memory e) = meant.no_memory read.untouched e
+  prepared_single : IsSingle (prepared r)
+  prepared_single = (
+    reading_sound tool 13 kinds.Image image_limit r.image refl refl,
+    reading_one tool 13 kinds.Image image_limit r.image,
+    (λ content. (imaging_sound content, imaging_one content, image_single)),
+  )
 
--- the image was read, and wasn't loaded
-pub not_loaded : (r : RunWords) (v w : StoreView) (bytes : List ℕ) (status : Status) → WasRead v w r.image image_limit bytes → CannotLoad bytes r status → CannotRun r v w status
-not_loaded r v w bytes status read (starting.bad_image fault f e) = meant.no_image fault read.untouched (record { content = bytes; read_as = read.read_as; has = f }) e
-not_loaded r v w bytes status read (starting.no_words image i f) = no_words r read i f
-not_loaded r v w bytes status read (starting.too_large image i are large e) = meant.stack_too_large read.untouched (record {
-  image = image;
-  image_read = read_image r read i;
-  arguments = are;
-  large = large;
-}) e
-not_loaded r v w bytes status read (starting.lacks_memory e) = meant.no_memory read.untouched e
+  prepared_within : IsWithin (prepared r) 1 20
+  prepared_within = (
+    omega arith,
+    omega arith,
+    (λ content. (
+      omega arith,
+      omega arith,
+      (λ image. (
+        omega arith,
+        omega arith,
+        (λ u. (
+          omega arith,
+          omega arith,
+          (λ v. then_within (with_input image) (input_of r.input) 18 20 20 (omega arith) (within_lower (input_of r.input) 18 19 20 (omega arith) (input_within r.input)) (λ input. omega arith)),
+        )),
+      )),
+    )),
+  )
 
--- ---- the input, which is read after the image
+  end_number : (o : Outcome) → number_of (due_at r o).status ≡ 21
+  end_number (Exited output status) = refl
+  end_number (HasTrapped cause pc output) = refl
+  end_number (Going output) = refl
 
--- the machine and the input, where the input has this name
-ready_with : (r : RunWords) (u v w : StoreView) (bytes : List ℕ) (ready : Ready) → WasRead u v r.image image_limit bytes → WasLoaded bytes r ready.machine → ReadInput u r.input ready.input.items → IsUntouched u w → IsReady r u w ready
-ready_with r u v w bytes ready read l i f = record {
+  pub run_good : IsGood (run r)
+  run_good = record {
+    lawful = then_lawful end_status (run_end r) (prepared r) prepared_single (λ p. tt);
+    ordered = then_from end_status (run_end r) (prepared r) 1 20 (omega arith) prepared_within (λ p. (end_number (outcome_of r p), omega arith));
+  }
+
+-- ---- what the code shows
+
+module _ (r : RunWords) (v : StoreView) where
+  -- the bytes aren't loaded
+  content_stops : (bytes : List ℕ) (status : Status) → CannotLoad bytes r status → Halted (of_content r bytes) v v status
+  content_stops bytes status (starting.bad_image fault f e) = inl (subst (λ (x : Status). Halts (imaging bytes) v v x) (sym e) (is_broken bytes v fault f))
+  content_stops bytes status (starting.no_words image i lacks) = inr (v, image, is_imaged bytes v image i, inl (fits_lacking image r.args v status lacks))
+  content_stops bytes status (starting.too_large image i are large e) =
+      inr (v, image, is_imaged bytes v image i, inr (v, tt, fitted image r.args v are, inl (subst (λ (x : Status). Halts (fitting_stack r.stack) v v x) (sym e) (large_stack r.stack v large))))
+  content_stops bytes status (starting.lacks_memory e) = inl (subst (λ (x : Status). Halts (imaging bytes) v v x) (sym e) (no_image_memory bytes v))
+
+module _ (r : RunWords) (v w : StoreView) where
+  pub unread_image : (status : Status) → Halts (reading_file kinds.Image image_limit r.image) v w status → Halted (prepared r) v w status
+  unread_image status h = inl h
+
+  pub not_loaded : (bytes : List ℕ) (status : Status) → Passes (reading_file kinds.Image image_limit r.image) v w bytes → CannotLoad bytes r status → Halted (prepared r) v w status
+  not_loaded bytes status p c = inr (w, bytes, p, content_stops r w bytes status c)
+
+module _ (r : RunWords) (v u w : StoreView) (bytes : List ℕ) (p : Passes (reading_file kinds.Image image_limit r.image) v u bytes) (machine : Machine) (l : WasLoaded bytes r machine) where
+  pub input_stops : (status : Status) → Halted (input_of r.input) u w status → Halted (prepared r) v w status
+  input_stops status h = inr (
+    u,
+    bytes,
+    p,
+    inr (
+      u,
+      l.image,
+      is_imaged bytes u l.image l.is_image,
+      inr (u, tt, fitted l.image r.args u l.can_run.arguments, inr (u, tt, small_stack r.stack u l.can_run.small, then_halted (with_input l.image) (input_of r.input) u w status h)),
+    ),
+  )
+
+  pub all_pass : (input : List ℕ) → Passed (input_of r.input) u w input → Passed (prepared r) v w (record { image = l.image; input = input })
+  all_pass input h = (
+    u,
+    bytes,
+    p,
+    (
+      u,
+      l.image,
+      is_imaged bytes u l.image l.is_image,
+      (u, tt, fitted l.image r.args u l.can_run.arguments, (u, tt, small_stack r.stack u l.can_run.small, then_passed (with_input l.image) (input_of r.input) u w w input (record { image = l.image; input = input }) h (refl, refl))),
+    ),
+  )
+
+-- a machine is ready, where its input was read
+pub is_ready : (r : RunWords) (v u w : StoreView) (bytes : List ℕ) (ready : Ready) → Passes (reading_file kinds.Image image_limit r.image) v u bytes → WasLoaded bytes r ready.machine → Passed (input_of r.input) u w ready.input.items → IsReady r v w ready
+is_ready r v u w bytes ready p l h = record {
   image = l.image;
-  image_read = read_image r read l.is_image;
-  can_run = l.can_run;
-  input_read = i;
-  untouched = f;
+  passed = all_pass r v u w bytes p ready.machine l ready.input.items h;
   none_taken = l.none_taken;
   stands = l.stands ready.input.items;
 }
 
-input_ready : (r : RunWords) (u v w : StoreView) (bytes : List ℕ) (ready : Ready) (input : Option (List ℕ)) → r.input ≡ input → WasRead u v r.image image_limit bytes → WasLoaded bytes r ready.machine → ReadsNamed v w input (Ok ready.input) → IsReady r u w ready
-input_ready r u v w bytes ready None e read l (empty, f) = let P : Option (List ℕ) → Type 0 = λ x. ReadInput u x ready.input.items in ready_with r u v w bytes ready read l (subst P (sym e) empty) (both_untouched read.untouched f)
-input_ready r u v w bytes ready (Some name) e read l h =
-    let P : Option (List ℕ) → Type 0 = λ x. ReadInput u x ready.input.items in
-    ready_with r u v w bytes ready read l (subst P (sym e) (was_read_before read.untouched h.read_as)) (both_untouched read.untouched h.untouched)
-
-pub is_ready : (r : RunWords) (u v w : StoreView) (bytes : List ℕ) (ready : Ready) → WasRead u v r.image image_limit bytes → WasLoaded bytes r ready.machine → ReadsNamed v w r.input (Ok ready.input) → IsReady r u w ready
-is_ready r u v w bytes ready read l i = input_ready r u v w bytes ready r.input refl read l i
-
-input_refused : (r : RunWords) (u v w : StoreView) (bytes : List ℕ) (machine : Machine) (input : Option (List ℕ)) (status : Status) → r.input ≡ input → WasRead u v r.image image_limit bytes → WasLoaded bytes r machine → ReadsNamed v w input (Err status) → CannotRun r u w status
-input_refused r u v w bytes machine None status e read l h = absurd h
-input_refused r u v w bytes machine (Some name) status e read l h = meant.unread_input name (record { image = l.image; image_read = read_image r read l.is_image; can_run = l.can_run; named = e }) (unread_later u v w name kinds.Input input_limit status read.untouched h)
-
-pub input_is_refused : (r : RunWords) (u v w : StoreView) (bytes : List ℕ) (machine : Machine) (status : Status) → WasRead u v r.image image_limit bytes → WasLoaded bytes r machine → ReadsNamed v w r.input (Err status) → CannotRun r u w status
-input_is_refused r u v w bytes machine status read l h = input_refused r u v w bytes machine r.input status refl read l h
-
 -- ---- the run
 
-pub fresh : (r : RunWords) (v w : StoreView) (prepared : Result Ready Status) → Prepares r v w prepared → IsFresh prepared
+pub fresh : (r : RunWords) (v w : StoreView) (work : Result Ready Status) → Prepares r v w work → IsFresh work
 fresh r v w (Ok ready) h = h.none_taken
 fresh r v w (Err status) h = tt
 
--- what is due at an outcome, with its output on `out` first
+-- what is due at an outcome: its output on `out` first, then a line
 record IsDueWith (r : RunWords) (outcome : Outcome) : Type 0 where
   status : Status
   line : List ℕ
-  is_due : IsDueAt r outcome (after_output (output_so_far outcome) status line)
+  is : due_at r outcome ≡ after_output (output_so_far outcome) status line
 
-due_at : (r : RunWords) (outcome : Outcome) → IsDueWith r outcome
-due_at r (Exited output status) = record { status = Done; line = end_line status; is_due = refl }
-due_at r (HasTrapped cause pc output) = record { status = Trapped cause pc; line = status_line (names_of r) (Trapped cause pc); is_due = refl }
-due_at r (Going output) = record { status = StepLimit r.steps; line = status_line (names_of r) (StepLimit r.steps); is_due = refl }
+due_with : (r : RunWords) (outcome : Outcome) → IsDueWith r outcome
+due_with r (Exited output status) = record { status = Done; line = end_line status; is = refl }
+due_with r (HasTrapped cause pc output) = record { status = Trapped cause pc; line = status_line (names_of r) (Trapped cause pc); is = refl }
+due_with r (Going output) = record { status = StepLimit r.steps; line = status_line (names_of r) (StepLimit r.steps); is = refl }
 
-has_run : {r : RunWords} {s s' : StoreView} {ready : Ready} {due : Due} (h : IsReady r s s' ready) → IsDueAt r (machine h.image r.stack (words_of r.args) ready.input.items r.steps) due → IsDueToRun r s s' due
-has_run {ready = ready} h d = meant.ran (record {
-  image = h.image;
-  input = ready.input.items;
-  image_read = h.image_read;
-  can_run = h.can_run;
-  input_read = h.input_read;
-  untouched = h.untouched;
-  is_due = d;
-})
+module _ (r : RunWords) (s s' : StoreView) (o o' l l' : SinkView) (ready : Ready) (result : Status) (h : IsReady r s s' ready) where
+  runs : Runs (run r) (file_name (names_of r)) s s' (due_at r (machine h.image r.stack (words_of r.args) ready.input.items r.steps))
+  runs =
+      let p : Prepared = record { image = h.image; input = ready.input.items } in
+      let e : End tool = record { output = None; due = due_at r (outcome_of r p); late = false } in
+      is_ended (run r) (file_name (names_of r)) s s' s' e (due_at r (outcome_of r p)) (then_passed (run_end r) (prepared r) s s' s' p e h.passed (refl, refl)) (finished (untouched s') refl)
 
-pub run_answers : (r : RunWords) (s s' : StoreView) (o o' l l' : SinkView) (ready : Ready) (e : RunEnd) (result : Status) (h : IsReady r s s' ready) → Shows (machine h.image r.stack (words_of r.args) ready.input.items r.steps) o o' e → Finishes r e l l' result → Answers (run r) (views_of s o l) (views_of s' o' l') result
-run_answers r s s' o o' l l' ready (end.Exited status) result h (e, a) f =
-    let outcome = machine h.image r.stack (words_of r.args) ready.input.items r.steps in
-    let due : Due = after_output (output_so_far outcome) Done (end_line status) in
-    let P : Outcome → Type 0 = λ x. IsDueAt r x due in
-    record { due = due; is_due = has_run h (subst P (sym e) refl); written = then_log _ _ _ o o' l l' result a f }
-run_answers r s s' o o' l l' ready (end.Trapped cause pc) result h (e, a) f =
-    let outcome = machine h.image r.stack (words_of r.args) ready.input.items r.steps in
-    let due : Due = refused_after (output_so_far outcome) r (Trapped cause pc) in
-    let P : Outcome → Type 0 = λ x. IsDueAt r x due in
-    record { due = due; is_due = has_run h (subst P (sym e) refl); written = then_log _ _ _ o o' l l' result a f }
-run_answers r s s' o o' l l' ready end.StepLimit result h (e, a) f =
-    let outcome = machine h.image r.stack (words_of r.args) ready.input.items r.steps in
-    let due : Due = refused_after (output_so_far outcome) r (StepLimit r.steps) in
-    let P : Outcome → Type 0 = λ x. IsDueAt r x due in
-    record { due = due; is_due = has_run h (subst P (sym e) refl); written = then_log _ _ _ o o' l l' result a f }
-run_answers r s s' o o' l l' ready end.SinkFailed result h (k, c) (e, u) =
-    let outcome = machine h.image r.stack (words_of r.args) ready.input.items r.steps in
-    let d = due_at r outcome in
-    record { due = after_output (output_so_far outcome) d.status d.line; is_due = has_run h d.is_due; written = rw (e, u) (out_fails d.status (output_so_far outcome) d.line o o' l k c) }
+  -- the output was put, and the line, as far as the streams took it
+  answered : (status : Status) (line : List ℕ) → due_at r (machine h.image r.stack (words_of r.args) ready.input.items r.steps) ≡ after_output (output_so_far (machine h.image r.stack (words_of r.args) ready.input.items r.steps)) status line → IsWritten (after_output (output_so_far (machine h.image r.stack (words_of r.args) ready.input.items r.steps)) status line) (streams o l) (streams o' l') result → Answers (order_of r) (views_of s o l) (views_of s' o' l') result
+  answered status line is written = record {
+    due = due_at r (machine h.image r.stack (words_of r.args) ready.input.items r.steps);
+    runs = runs;
+    written = subst (λ (d : Due). IsWritten d (streams o l) (streams o' l') result) (sym is) written;
+  }
+
+  pub run_answers : (e : RunEnd) → Shows (machine h.image r.stack (words_of r.args) ready.input.items r.steps) o o' e → Finishes r e l l' result → Answers (order_of r) (views_of s o l) (views_of s' o' l') result
+  run_answers (end.Exited status) (e, a) f =
+      let P : Outcome → Type 0 = λ x. due_at r x ≡ after_output (output_so_far x) Done (end_line status) in
+      answered Done (end_line status) (subst P (sym e) refl) (then_log Done _ (end_line status) o o' l l' result a f)
+  run_answers (end.Trapped cause pc) (e, a) f =
+      let P : Outcome → Type 0 = λ x. due_at r x ≡ after_output (output_so_far x) (Trapped cause pc) (status_line (names_of r) (Trapped cause pc)) in
+      answered (Trapped cause pc) _ (subst P (sym e) refl) (then_log (Trapped cause pc) _ _ o o' l l' result a f)
+  run_answers end.StepLimit (e, a) f =
+      let P : Outcome → Type 0 = λ x. due_at r x ≡ after_output (output_so_far x) (StepLimit r.steps) (status_line (names_of r) (StepLimit r.steps)) in
+      answered (StepLimit r.steps) _ (subst P (sym e) refl) (then_log (StepLimit r.steps) _ _ o o' l l' result a f)
+  run_answers end.SinkFailed (k, c) (e, u) =
+      let d = due_with r (machine h.image r.stack (words_of r.args) ready.input.items r.steps) in
+      answered d.status d.line d.is (rw (e, u) (out_fails d.status _ d.line o o' l k c))
 
 -- ---- the refusal
 
-pub fault_put : (r : RunWords) (s s' : StoreView) (o v w : SinkView) (status result : Status) → CannotRun r s s' status → EndsWith (status_line (names_of r) status) status v w result → Answers (run r) (views_of s o v) (views_of s' o w) result
-fault_put r s s' o v w status result c h = record { due = refusal (names_of r) status; is_due = meant.refused status c refl; written = log_last _ _ o v w result h }
+pub fault_put : (r : RunWords) (s s' : StoreView) (o v w : SinkView) (status result : Status) → Halted (prepared r) s s' status → EndsWith (status_line (names_of r) status) status v w result → Answers (order_of r) (views_of s o v) (views_of s' o w) result
+fault_put r s s' o v w status result h e = record {
+  due = refusal (names_of r) status;
+  runs = is_refused (run r) (file_name (names_of r)) s s' status (then_halted (run_end r) (prepared r) s s' status h);
+  written = log_last status (status_line (names_of r) status) o v w result e;
+}

@@ -1,14 +1,14 @@
 // `run`: an image on a stack of a given size.
 ghost use Rattle.qs_driver_session.specs.Starting.{words_in};
-ghost use Rattle.qs_driver_session.specs.Task.{AnswersOn, RunsOn};
 ghost use Rattle.qs_driver_session.specs.commands.Run.{begun, to_do, IsFresh, Prepares};
+ghost use Rattle.qs_driver_steps.specs.Promises.{AnswersOn, RunsOn};
 
-use crate::devices::{Devices, Streams};
 use crate::due::refuse;
 use crate::files::read_file;
 use crate::limits::IMAGE_LIMIT;
 use crate::starting::{Ready, RunOrder, finish, load_bytes, names_of, read_input};
 use crate::{FileKind, Status};
+use qs_driver_steps::{Devices, Streams};
 use qs_ports::{Sink, Store};
 use std::alloc::Global;
 

@@ -1,11 +1,11 @@
 // Words that mean no command.
-ghost use Rattle.qs_driver_session.specs.Task.{AnswersOn};
 ghost use Rattle.qs_driver_session.specs.commands.Usage.{none};
+ghost use Rattle.qs_driver_steps.specs.Promises.{AnswersOn};
 
-use crate::devices::Devices;
 use crate::due::refuse;
 use crate::names::nameless;
 use crate::{Status, WordsFault};
+use qs_driver_steps::Devices;
 use qs_ports::{Sink, Store};
 
 /// Refuses the words.

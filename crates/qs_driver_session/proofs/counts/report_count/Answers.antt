@@ -1,6 +1,6 @@
 use Rattle.qs_driver_session.specs.Names.{names_in}
 use Rattle.qs_driver_session.proofs.CountLaws.{count_put, fault_put}
-use Rattle.qs_driver_session.proofs.StepsLaws.{ends_with}
+use Rattle.qs_driver_session.proofs.PieceLaws.{ends_with}
 use Rattle.qs_driver_session.proofs.counts.report_count.Goals as goal
 
 pub returns-in-Ok : goal.returns-in-Ok

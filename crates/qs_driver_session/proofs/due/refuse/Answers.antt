@@ -1,4 +1,4 @@
-use Rattle.qs_driver_session.proofs.StepsLaws.{ends_with}
+use Rattle.qs_driver_session.proofs.PieceLaws.{ends_with}
 use Rattle.qs_driver_session.proofs.due.refuse.Goals as goal
 
 pub returns : goal.returns

@@ -1,0 +1,4 @@
+pub mod NameLaws
+pub mod ElfSteps
+pub mod UnelfSteps
+pub mod PlainWords

@@ -10,10 +10,12 @@ use Rattle.qs_certify.specs.declared.fault.CertifyFault.TheVariants as faults
 use Rattle.qs_certify.proofs.RefusalLaws.{right_proofs_are_certified, units_without_recursion_are_certified}
 use Rattle.qs_ports.specs.StoreView.{StoreView, Files}
 use Rattle.qs_driver_session.specs.Limits.{source_limit, proof_limit}
-use Rattle.qs_driver_session.specs.Files.{HoldsContent, HoldsWith}
+use Rattle.qs_driver_steps.specs.Files.{HoldsContent}
+use Rattle.qs_driver_session.specs.Files.{HoldsWith}
 use Rattle.qs_driver_session.specs.Files as files
 use Rattle.qs_driver_session.specs.Source.{IsTypedUnit}
-use Rattle.qs_driver_session.specs.Promises.{StoreHeld, SaysStoreFailed}
+use Rattle.qs_driver_steps.specs.Files.{StoreHeld}
+use Rattle.qs_driver_session.specs.Promises.{SaysStoreFailed}
 use Rattle.qs_driver_session.specs.declared.status.ProofFault.{ProofFault}
 use Rattle.qs_driver_session.specs.declared.status.Status.{Status}
 use Rattle.qs_driver_session.specs.declared.status.Status.TheVariants.{NoMemory}

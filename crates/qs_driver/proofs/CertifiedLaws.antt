@@ -15,7 +15,7 @@ use Rattle.qs_certify.specs.Certification.{CannotCertify}
 use Rattle.qs_certify.specs.declared.fault.CertifyFault.{CertifyFault}
 use Rattle.qs_ports.specs.StoreView.{StoreView}
 use Rattle.qs_driver_session.specs.Limits.{proof_limit}
-use Rattle.qs_driver_session.specs.Files.{IsUntouched}
+use Rattle.qs_driver_steps.specs.Files.{IsUntouched}
 use Rattle.qs_driver_session.specs.Source.{HasUnit, IsTypedAs, LacksSource}
 use Rattle.qs_driver_session.specs.declared.status.Status.{Status}
 use Rattle.qs_driver_session.specs.declared.status.FileKind.TheVariants as kinds
@@ -27,7 +27,7 @@ use Rattle.qs_driver.specs.declared.certified.CertifiedUnit.{CertifiedUnit}
 -- ---- a text has one core
 
 -- the unit of a text has a core
-core_there : {text : List ℕ} {trees : List DeclTree} (h : IsTypedAs text trees) → IsRead trees → HasCore trees
+pub core_there : {text : List ℕ} {trees : List DeclTree} (h : IsTypedAs text trees) → IsRead trees → HasCore trees
 core_there {trees = trees} h read =
     let same : h.typed.unit.trees ≡ trees = h.trees_are in
     subst HasCore same (units_have_cores h.typed.unit.trees (subst IsRead (sym same) read) h.typed.well_typed h.typed.within_limits)

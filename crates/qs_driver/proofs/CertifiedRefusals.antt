@@ -23,11 +23,12 @@ use Rattle.qs_certify.proofs.OneLaws.{order_is_told, entry_faults_are_told}
 use Rattle.qs_certify.proofs.RefusalLaws.{text_faults_are_told, cycles_are_told}
 use Rattle.qs_ports.specs.StoreView.{StoreView, Files}
 use Rattle.qs_driver_session.specs.Limits.{source_limit, proof_limit}
-use Rattle.qs_driver_session.specs.Files.{HoldsWith, IsTooLong}
+use Rattle.qs_driver_steps.specs.Files.{IsTooLong}
+use Rattle.qs_driver_session.specs.Files.{HoldsWith}
 use Rattle.qs_driver_session.specs.Files as files
 use Rattle.qs_driver_session.specs.Source.{IsPlaceOf, IsTypedUnit}
 use Rattle.qs_driver_session.specs.Told.{EntryPlace, place_of, fault_place, fault_text}
-use Rattle.qs_driver_session.specs.Promises.{StoreHeld}
+use Rattle.qs_driver_steps.specs.Files.{StoreHeld}
 use Rattle.qs_driver_session.specs.declared.status.ProofFault.{ProofFault}
 use Rattle.qs_driver_session.specs.declared.status.ProofFault.TheVariants.{Text, Cycle, Order, Entry}
 use Rattle.qs_driver_session.specs.declared.status.Status.{Status}

@@ -12,8 +12,8 @@ use Rattle.qs_machine.specs.Run.{Outcome, Exited, Trapped, Going, machine, outpu
 use Rattle.qs_machine.specs.declared.answers.Cause.{Cause}
 use Rattle.qs_emit.specs.Agree.{Agree, Begins, IsUndefinedWithin}
 use Rattle.qs_report.specs.Lines.{bound_line}
-use Rattle.qs_driver_session.specs.Devices.{DevicesView, StreamsView, streams_of}
-use Rattle.qs_driver_session.specs.Steps.{on_out, ArePut}
+use Rattle.qs_driver_steps.specs.Devices.{DevicesView, StreamsView, streams_of}
+use Rattle.qs_driver_steps.specs.Pieces.{on_out, ArePut}
 use Rattle.qs_driver_session.specs.Lines.{cost_lines}
 use Rattle.qs_driver_session.specs.Faults.{shown_of}
 use Rattle.qs_driver_session.specs.Due.{Due}
@@ -26,6 +26,7 @@ use Rattle.qs_driver_session.specs.Promises.{Promises, NoneFailed, LacksMemory}
 use Rattle.qs_driver_session.specs.declared.status.FileKind.{FileKind}
 use Rattle.qs_driver_session.specs.declared.status.Status.{Status}
 use Rattle.qs_driver_session.specs.declared.status.Status.TheVariants.{Done, SinkFailed, NoMemory}
+use Rattle.qs_driver.specs.Asked.{Promises as PromisesOf}
 use Rattle.qs_driver.specs.Bounds.{bound_by, costs_in, seen_runs, IsImageOf}
 use Rattle.qs_driver.specs.Certified.{CertifyWords, CertifiedSource, AreAsBefore, LacksCertified, HoldsRightProofs}
 use Rattle.qs_driver.specs.Certified as certified
@@ -39,7 +40,8 @@ use Rattle.qs_driver.specs.commands.Bound as bound_meant
 use Rattle.qs_driver.specs.Headline.{PrintsBound, BoundPrintsIt, IsDefined, EndsSo, ExitsSo, RunsAsSource, FromItsBound, HoldsItsImage, IsPlain, IsAccepted, BuildsAndAccepts, Headline}
 use Rattle.qs_driver.proofs.BoundsLaws.{image_takes, core_is, built_from}
 use Rattle.qs_driver.proofs.CostLines.{AreSmall, lines_tell_costs, costs_are_small}
-use Rattle.qs_driver.proofs.OneSource.{HoldsSource, source_held, one_held, held_before, names_of_one}
+use Rattle.qs_driver.proofs.ProvedReads.{HoldsSource}
+use Rattle.qs_driver.proofs.OneSource.{source_held, one_held, held_before, names_of_one}
 
 -- ---- a refusal is not done
 
@@ -90,7 +92,7 @@ record WasPut (t : Task) (before after : DevicesView) : Type 0 where
   due : Due
   is_due : t.IsDue before.store after.store due
   done : due.status ≡ Done
-  put : ArePut due.steps (streams_of before) (streams_of after)
+  put : ArePut due.pieces (streams_of before) (streams_of after)
 
 was_put : (t : Task) (before after : DevicesView) (result : Status) → result ≡ Done → Answers t before after result ⊎ LacksMemory before after result → WasPut t before after
 was_put t before after result done (inl a) = elim a.written [
@@ -109,7 +111,7 @@ module _ (c : CertifyWords) (f : Files) (s : CertifiedSource) (image : Image) (h
   small made of = costs_are_small s.core made (built_from s.unit s.core made (core_is held.text held.file s held.is) of.compiled)
 
   -- what `bound` has found is the image's
-  same_bound : (args : List ℤ) (v w : DevicesView) (due : Due) → IsTrue v.store.told → AreAsBefore c f v.store.files → (h : HasBound (bound_words c.source c.proof args) v.store w.store due) → ArePut due.steps (streams_of v) (streams_of w) → PrintsBound s image args v w
+  same_bound : (args : List ℤ) (v w : DevicesView) (due : Due) → IsTrue v.store.told → AreAsBefore c f v.store.files → (h : HasBound (bound_words c.source c.proof args) v.store w.store due) → ArePut due.pieces (streams_of v) (streams_of w) → PrintsBound s image args v w
   same_bound args v w due told same h put =
       let made = h.is_made in
       let there : HoldsSource c f made.source = held_before c f v.store.files made.source same (source_held c v.store made.source told made.makes.reads) in
@@ -119,7 +121,7 @@ module _ (c : CertifyWords) (f : Files) (s : CertifiedSource) (image : Image) (h
       let text : List ℕ = cost_lines h.image.functions ++ bound_line (shown_of h.bound) in
       let text_is : text ≡ cost_lines h.image.functions ++ bound_line (shown_of (bound_by s (costs_in h.image.functions) args)) =
       ap (λ (bound : Amount). cost_lines h.image.functions ++ bound_line (shown_of bound)) bound_is in
-      let was : ArePut (on_out text ∷ []) (streams_of v) (streams_of w) = subst (λ (d : Due). ArePut d.steps (streams_of v) (streams_of w)) h.is_due put in
+      let was : ArePut (on_out text ∷ []) (streams_of v) (streams_of w) = subst (λ (d : Due). ArePut d.pieces (streams_of v) (streams_of w)) h.is_due put in
       record {
         arguments = subst (λ (x : CertifiedSource). AreArguments x.core args) one made.arguments;
         other = h.image;
@@ -131,14 +133,14 @@ module _ (c : CertifyWords) (f : Files) (s : CertifiedSource) (image : Image) (h
             (names_of_one c f made.source s h.image image there held made.makes.image_of is) lines);
       }
 
-  due_bound : (args : List ℤ) (v w : DevicesView) (due : Due) → IsTrue v.store.told → AreAsBefore c f v.store.files → IsDueToBound (bound_words c.source c.proof args) v.store w.store due → due.status ≡ Done → ArePut due.steps (streams_of v) (streams_of w) → PrintsBound s image args v w
+  due_bound : (args : List ℤ) (v w : DevicesView) (due : Due) → IsTrue v.store.told → AreAsBefore c f v.store.files → IsDueToBound (bound_words c.source c.proof args) v.store w.store due → due.status ≡ Done → ArePut due.pieces (streams_of v) (streams_of w) → PrintsBound s image args v w
   due_bound args v w due told same (bound_meant.bounded h) done put = same_bound args v w due told same h put
   due_bound args v w due told same (bound_meant.refused status cannot is_refusal) done put =
       absurd (made_not_done (to_make (bound_words c.source c.proof args)) v.store w.store status cannot (sym (ap (λ (x : Due). x.status) is_refusal) ∙ done))
 
   bound_prints_it : BoundPrintsIt c f s image
   bound_prints_it words args v w meant_is p told same =
-      let q : Promises (bound (bound_words c.source c.proof args)) v w Done = subst (λ x. Promises (task_of x) v w Done) meant_is p in
+      let q : Promises (bound (bound_words c.source c.proof args)) v w Done = subst (λ x. PromisesOf (task_of x) v w Done) meant_is p in
       let a = was_put (bound (bound_words c.source c.proof args)) v w Done refl q.answers in
       due_bound args v w a.due told same a.is_due a.done a.put
 
@@ -194,13 +196,13 @@ module _ (source : List ℕ) (proof : Option (List ℕ)) (out : List ℕ) (befor
   abbrev asked : BuildWords
   asked = build_words source proof out
 
-  of_built : (due : Due) → HasBuilt asked before.store after.store due → ArePut due.steps (streams_of before) (streams_of after) → HoldsItsImage source proof out before after
+  of_built : (due : Due) → HasBuilt asked before.store after.store due → ArePut due.pieces (streams_of before) (streams_of after) → HoldsItsImage source proof out before after
   of_built due h put =
       let of = h.has_image.image_of in
       let lines : List ℕ = cost_lines h.image.functions in
       let agrees_from : FromItsBound h.source of.compiled.program h.image Agree = λ args input bound size are is_input bound_is within most.
       of.agrees.agree args input bound size ((image_takes (meant.inputs asked) before.store h.source h.image h.has_image.reads of.compiled args).1 are) is_input bound_is within most in
-      let was : ArePut (on_out lines ∷ []) (streams_of before) (streams_of after) = subst (λ (d : Due). ArePut d.steps (streams_of before) (streams_of after)) h.is_due put in
+      let was : ArePut (on_out lines ∷ []) (streams_of before) (streams_of after) = subst (λ (d : Due). ArePut d.pieces (streams_of before) (streams_of after)) h.is_due put in
       record {
         certified = h.source;
         reads = h.has_image.reads;
@@ -216,7 +218,7 @@ module _ (source : List ℕ) (proof : Option (List ℕ)) (out : List ℕ) (befor
             runs_as_source (seen_runs of.compiled.program args input) (machine h.image size (words_of args) input) (agrees_from args input bound size are is_input bound_is within most) defined;
       }
 
-  due_built : (due : Due) → IsDueToBuild asked before.store after.store due → due.status ≡ Done → ArePut due.steps (streams_of before) (streams_of after) → HoldsItsImage source proof out before after
+  due_built : (due : Due) → IsDueToBuild asked before.store after.store due → due.status ≡ Done → ArePut due.pieces (streams_of before) (streams_of after) → HoldsItsImage source proof out before after
   due_built due (meant.built differ h) done put = of_built due h put
   due_built due (meant.named_twice twice u is) done put = absurd (let e = ap (λ (x : Due). x.status) is in cc)
   due_built due (meant.refused differ status c is) done put =
@@ -260,4 +262,4 @@ module _ (source : List ℕ) (proof : Option (List ℕ)) (out : List ℕ) (befor
 
 pub headline : Headline
 headline words source proof out before after result meant_is p =
-    builds source proof out before after result (subst (λ c. Promises (task_of c) before after result) meant_is p)
+    builds source proof out before after result (subst (λ c. PromisesOf (task_of c) before after result) meant_is p)

@@ -10,6 +10,10 @@ pub mod CertifiedFollows
 pub mod CertifiedRefusals
 pub mod OneSource
 pub mod CostLines
+pub mod ProvedLaws
+pub mod ProvedReads
+pub mod ProvedRefusals
+pub mod OwnLaws
 pub mod MadeLaws
 pub mod MadeFollows
 pub mod HeadlineLaws
@@ -22,3 +26,4 @@ pub mod SampleRefusals
 pub mod SampleCounts
 pub mod SampleStarts
 pub mod rooms
+pub mod PlainWordsLaws

@@ -20,9 +20,10 @@ use Rattle.qs_ports.specs.StoreView.{StoreView}
 use Rattle.qs_image.specs.Image.{Image}
 use Rattle.qs_driver_session.specs.Limits.{source_limit}
 use Rattle.qs_driver_session.specs.Source.{IsTypedAs, IsOfSource, missing_source, long_source, ill_spelled, no_reading, ill_typed}
-use Rattle.qs_driver_session.specs.Promises.{StoreHeld, SaysStoreFailed}
+use Rattle.qs_driver_steps.specs.Files.{StoreHeld}
+use Rattle.qs_driver_session.specs.Promises.{SaysStoreFailed}
 use Rattle.qs_driver_session.specs.declared.status.Status.{Status}
-use Rattle.qs_driver_session.specs.declared.status.Status.TheVariants.{Done, Source, Proof, Words, Missing, StoreFailed, Image as NotAnImage, Trapped, StepLimit, NoBound, StackTooLarge, SinkFailed, NoMemory}
+use Rattle.qs_driver_session.specs.declared.status.Status.TheVariants.{Done, Source, Proof, Words, Missing, StoreFailed, Image as NotAnImage, Elf as NoExecutable, Trapped, StepLimit, NoBound, StackTooLarge, SinkFailed, NoMemory}
 use Rattle.qs_driver_session.specs.declared.status.SourceFault.{SourceFault}
 use Rattle.qs_driver_session.specs.declared.status.SourceFault.TheVariants.{TooLong, Lex, Syntax, Typing}
 use Rattle.qs_driver_session.specs.declared.status.WordsFault.{WordsFault}
@@ -48,6 +49,7 @@ abbrev is_certified_file : FileKind → Bool
 is_certified_file kinds.Source = true
 is_certified_file kinds.Derivation = true
 is_certified_file kinds.Image = false
+is_certified_file kinds.Elf = false
 is_certified_file kinds.Input = false
 is_certified_file kinds.Output = false
 
@@ -65,6 +67,7 @@ is_refusal (Words x) = false
 is_refusal (Missing kind) = is_certified_file kind
 is_refusal (StoreFailed kind) = false
 is_refusal (NotAnImage fault) = false
+is_refusal (NoExecutable fault) = false
 is_refusal (Trapped cause pc) = false
 is_refusal (StepLimit steps) = false
 is_refusal (NoBound amount) = false

@@ -10,13 +10,14 @@ use Rattle.qs_certify.proofs.OneLaws.{one_certified}
 use Rattle.qs_ports.specs.StoreView.{StoreView, Files}
 use Rattle.qs_image.specs.Image.{Image, FunctionRecord}
 use Rattle.qs_driver_session.specs.Limits.{source_limit, proof_limit}
-use Rattle.qs_driver_session.specs.Files.{HoldsContent}
+use Rattle.qs_driver_steps.specs.Files.{HoldsContent}
 use Rattle.qs_driver_session.proofs.FilesLaws.{held_content}
 use Rattle.qs_driver_session.proofs.SourceFollows.{one_content}
 use Rattle.qs_driver_session.proofs.SourceLaws.{same_trees}
 use Rattle.qs_driver.specs.Bounds.{IsImageOf}
 use Rattle.qs_driver.specs.Certified.{CertifyWords, CertifiedSource, IsCertifiedAs, AreAsBefore, ReadsCertified, HoldsProof}
 use Rattle.qs_driver.proofs.BoundsLaws.{core_is, same_names}
+use Rattle.qs_driver.proofs.ProvedReads.{HoldsSource}
 use Rattle.qs_driver.proofs.CertifiedRefusals.{proof_held, one_file}
 
 -- ---- of one text and one file
@@ -40,13 +41,6 @@ one_source text file s t a b =
     same_source s t unit core one.0 one.1
 
 -- ---- of files that are there
-
-pub record HoldsSource (c : CertifyWords) (f : Files) (s : CertifiedSource) : Type 0 where
-  pub text : List ℕ
-  pub file : Option (List ℕ)
-  pub there : HoldsContent (f c.source) source_limit text
-  pub proof_there : HoldsProof f c.proof file
-  pub is : IsCertifiedAs text file s
 
 pub source_held : (c : CertifyWords) (v : StoreView) (s : CertifiedSource) → IsTrue v.told → ReadsCertified c v s → HoldsSource c v.files s
 source_held c v s told r = record {

@@ -4,7 +4,7 @@ use Rattle.std.specs.Prelude.{option_and_then}
 use Rattle.std.proofs.lemmas.Bool.Decides.{nat_tests}
 use Rattle.qs_cli.specs.Words.{Text, Values, operand, reading}
 use Rattle.qs_cli.specs.Numbers.{most_sample_functions, number_of, within, steps_of, arguments_of}
-use Rattle.qs_cli.specs.Commands.{Command, Build, Check, Bound, Derive, Outline, Run, Exec, Sample, ◌⊛◌, stack_of, sample_count_of, build_options, check_options, bound_options, derive_options, outline_options, run_options, exec_options, sample_options, build_of, check_of, bound_of, derive_of, outline_of, run_of, exec_of, sample_of, command_named, meaning}
+use Rattle.qs_cli.specs.Commands.{Command, Build, Check, Bound, Derive, Outline, Run, Exec, Sample, Elf, Unelf, elf_words, unelf_words, ◌⊛◌, stack_of, sample_count_of, build_options, check_options, bound_options, derive_options, outline_options, run_options, exec_options, sample_options, elf_options, unelf_options, build_of, check_of, bound_of, derive_of, outline_of, run_of, exec_of, sample_of, elf_of, unelf_of, command_named, meaning}
 use Rattle.qs_driver.specs.SampleLaws.{IsSampleCount}
 
 -- if this is a sample, it has such a count
@@ -18,6 +18,8 @@ HasCount (Some (Outline source)) = Unit {0}
 HasCount (Some (Run image stack args input steps)) = Unit {0}
 HasCount (Some (Exec source proof args input steps)) = Unit {0}
 HasCount (Some (Sample count out)) = IsSampleCount count
+HasCount (Some (Elf words)) = Unit {0}
+HasCount (Some (Unelf words)) = Unit {0}
 
 -- ---- the other commands
 
@@ -59,6 +61,16 @@ exec_has (Some a) p None i t = tt
 exec_has (Some a) p (Some z) i None = tt
 exec_has (Some a) p (Some z) i (Some t) = tt
 
+elf_has : (a c : Option Text) → HasCount (Some (λ image out. Elf (elf_words image out)) ⊛ a ⊛ c)
+elf_has None c = tt
+elf_has (Some a) None = tt
+elf_has (Some a) (Some c) = tt
+
+unelf_has : (a c : Option Text) → HasCount (Some (λ file out. Unelf (unelf_words file out)) ⊛ a ⊛ c)
+unelf_has None c = tt
+unelf_has (Some a) None = tt
+unelf_has (Some a) (Some c) = tt
+
 -- ---- `sample`
 
 count_has : (n : ℕ) (out : Option Text) (a b : Bool) → nat_le 1 n ≡ a → nat_le n most_sample_functions ≡ b
@@ -94,7 +106,9 @@ named_has name words =
     (either (bytes_eq name (codes "outline")) _ _ (read_has outline_of (λ at. outline_has (at operand)) (reading outline_options words))
     (either (bytes_eq name (codes "run")) _ _ (read_has run_of (λ at. run_has (at operand) (stack_of (at (codes "stack"))) (arguments_of (at (codes "args"))) (at (codes "input")) (steps_of (at (codes "steps")))) (reading run_options words))
     (either (bytes_eq name (codes "exec")) _ _ (read_has exec_of (λ at. exec_has (at operand) (at (codes "proof")) (arguments_of (at (codes "args"))) (at (codes "input")) (steps_of (at (codes "steps")))) (reading exec_options words))
-    (either (bytes_eq name (codes "sample")) _ _ (read_has sample_of (λ at. sample_has (at operand) (at (codes "out"))) (reading sample_options words)) tt)))))))
+    (either (bytes_eq name (codes "sample")) _ _ (read_has sample_of (λ at. sample_has (at operand) (at (codes "out"))) (reading sample_options words))
+    (either (bytes_eq name (codes "elf")) _ _ (read_has elf_of (λ at. elf_has (at operand) (at (codes "out"))) (reading elf_options words))
+    (either (bytes_eq name (codes "unelf")) _ _ (read_has unelf_of (λ at. unelf_has (at operand) (at (codes "out"))) (reading unelf_options words)) tt)))))))))
 
 words_have : (words : List Text) → HasCount (meaning words)
 unfolding meaning

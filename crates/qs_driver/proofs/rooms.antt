@@ -2,7 +2,6 @@ pub mod WritingFollows
 pub mod Build
 pub mod BuildFollows
 pub mod Check
-pub mod CheckFollows
 pub mod Bound
 pub mod BoundFollows
 pub mod Derive
@@ -10,7 +9,6 @@ pub mod DeriveFollows
 pub mod Exec
 pub mod ExecFollows
 pub mod Outline
-pub mod OutlineFollows
 pub mod Sample
 pub mod SampleFollows
 pub mod Tool

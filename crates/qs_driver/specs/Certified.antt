@@ -45,7 +45,8 @@ use Rattle.qs_report.specs.declared.fault_texts.ProofText.TheVariants as wrongs
 use Rattle.qs_ports.specs.StoreView.{StoreView, Files}
 use Rattle.qs_driver_session.specs.Limits.{source_limit, proof_limit}
 use Rattle.qs_driver_session.specs.Names.{name_in}
-use Rattle.qs_driver_session.specs.Files.{IsUntouched, HoldsContent, HoldsWith, IsTooLong, WasReadAs, CannotRead, ReadsFile}
+use Rattle.qs_driver_steps.specs.Files.{IsUntouched, HoldsContent, IsTooLong}
+use Rattle.qs_driver_session.specs.Files.{HoldsWith, WasReadAs, CannotRead, ReadsFile}
 use Rattle.qs_driver_session.specs.Source.{HoldsText, IsPlaceOf, IsTypedAs, IsTypedUnit, IsOfSource, LacksSource, RefusesSource}
 use Rattle.qs_driver_session.specs.Told.{EntryPlace, place_of, fault_place, owner_of, fault_text}
 use Rattle.qs_driver_session.specs.declared.status.Status.{Status}

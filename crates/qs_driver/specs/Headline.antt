@@ -19,12 +19,13 @@ use Rattle.qs_report.specs.Lines.{bound_line}
 use Rattle.qs_driver_session.specs.Limits.{source_limit}
 use Rattle.qs_driver_session.specs.Lines.{cost_lines}
 use Rattle.qs_driver_session.specs.Faults.{shown_of}
-use Rattle.qs_driver_session.specs.Files.{HoldsContent}
+use Rattle.qs_driver_steps.specs.Files.{HoldsContent}
 use Rattle.qs_driver_session.specs.Source.{IsTypedUnit}
-use Rattle.qs_driver_session.specs.Devices.{DevicesView}
-use Rattle.qs_driver_session.specs.Promises.{Promises, NoneFailed}
+use Rattle.qs_driver_steps.specs.Devices.{DevicesView}
+use Rattle.qs_driver_session.specs.Promises.{NoneFailed}
 use Rattle.qs_driver_session.specs.declared.status.Status.{Status}
 use Rattle.qs_driver_session.specs.declared.status.Status.TheVariants.{Done, NoMemory}
+use Rattle.qs_driver.specs.Asked.{Promises}
 use Rattle.qs_driver.specs.Bounds.{IsImageOf, bound_by, bytes_by, costs_in, seen_runs}
 use Rattle.qs_driver.specs.Certified.{CertifyWords, CertifiedSource, AreAsBefore, ReadsCertified, OfCore}
 use Rattle.qs_driver.specs.Tool.{task}

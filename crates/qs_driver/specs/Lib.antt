@@ -3,8 +3,11 @@ pub mod Bounds
 pub mod Sizes
 pub mod Misfits
 pub mod Made
+pub mod Proved
 pub mod commands
 pub mod Orders
+pub mod Asked
 pub mod Tool
+pub mod PlainWords
 pub mod SampleLaws
 pub mod Headline

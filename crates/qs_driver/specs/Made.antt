@@ -14,7 +14,7 @@ use Rattle.qs_compile.specs.Compiled.{IsImageOfSource}
 use Rattle.qs_image.specs.Image.{Image}
 use Rattle.qs_machine.specs.Arguments as machine
 use Rattle.qs_driver_session.specs.Arguments.{LacksWords}
-use Rattle.qs_driver_session.specs.Files.{IsUntouched}
+use Rattle.qs_driver_steps.specs.Files.{IsUntouched}
 use Rattle.qs_driver_session.specs.declared.status.Status.{Status}
 use Rattle.qs_driver_session.specs.declared.status.Status.TheVariants.{Words, NoMemory}
 use Rattle.qs_driver_session.specs.declared.status.WordsFault.TheVariants.{ArgCount, ArgRange}

@@ -7,10 +7,12 @@ ghost use Rattle.qs_certify.specs.Certification.{ToldOfFunctions};
 ghost use Rattle.qs_certify.specs.Given.{text_of, IsShort};
 ghost use Rattle.qs_certify.specs.declared.fault.CertifyFault.TheVariants as faults;
 ghost use Rattle.qs_typing_findings.specs.TypedOf.{typed_tree};
+ghost use Rattle.qs_driver_steps.specs.Runs.{TakesAll};
 ghost use Rattle.qs_driver_session.specs.Names.{name_in};
 ghost use Rattle.qs_driver.specs.Certified.{byte_of, file_of, names_of, words_in, AreFunctionsOf};
 ghost use Rattle.qs_driver.specs.Certified.{CertifiesTyped, ReadsAll, ReadsProof, TellsFault};
 ghost use Rattle.qs_driver.specs.Certified.{TellsOfAnyFile};
+ghost use Rattle.qs_driver.specs.Proved.{proof_file, ReadsProved};
 
 use crate::told::entry_told;
 use qs_base::{FnId, Name, NoMemory};
@@ -125,7 +127,8 @@ fn read_proof<S: Store>(
     store: &mut S,
     proof: Option<&str>,
 ) -> Result<Option<Vec<u8>>, Status>
-    ensures { ReadsProof (S.view store.old) (S.view store.new) (name_in proof.entry) result }
+    ensures reads { ReadsProof (S.view store.old) (S.view store.new) (name_in proof.entry) result }
+    ensures takes { TakesAll (proof_file (name_in proof.entry)) file_of (S.view store.old) (S.view store.new) result }
 {
     match proof {
         Some(name) => {
@@ -172,7 +175,8 @@ pub fn read_certified<S: Store>(
     store: &mut S,
     order: &CertifyOrder<'_>,
 ) -> Result<CertifiedUnit, Status>
-    ensures { ReadsAll (words_in order.now) (S.view store.old) (S.view store.new) result }
+    ensures reads { ReadsAll (words_in order.now) (S.view store.old) (S.view store.new) result }
+    ensures proves { ReadsProved (words_in order.now) (S.view store.old) (S.view store.new) result }
 {
     let typed = read_unit(alloc, store, order.source)?;
     let file = read_proof(alloc, store, order.proof)?;

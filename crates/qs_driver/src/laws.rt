@@ -1,6 +1,7 @@
 // Laws: functions that do nothing, for what their clauses say.
 ghost use Rattle.qs_compile.specs.Agree.{IsInput};
 ghost use Rattle.qs_driver.specs.Headline.{Headline};
+ghost use Rattle.qs_driver.specs.PlainWords.{CertifiedAreBounded, PromisesInPlainWords};
 ghost use Rattle.qs_driver.specs.SampleLaws.{SamplesAreGood, SamplesHaveStacks};
 ghost use Rattle.qs_driver.specs.Sizes.{SourcesPassNoSize};
 
@@ -11,6 +12,20 @@ ghost use Rattle.qs_driver.specs.Sizes.{SourcesPassNoSize};
 /// the limits and without recursion.
 pub fn accepted_sources_are_built_right()
     ensures { Headline }
+{}
+
+/// Of each call of `run_tool`: what its promises say, in plain words, which is its clause `keeps` too.
+/// What was done where it ends well; and where no device failed and memory was found, on a store that
+/// tells its files, that what is good is accepted and each refusal comes exactly where its cause is.
+pub fn promises_in_plain_words()
+    ensures { PromisesInPlainWords }
+{}
+
+/// Of each call of `check` to which the counts are due, also where a stream fails within them: the
+/// source was certified, and main's entry bounds each of its runs, and each of its linear code, for
+/// every stack metric.
+pub fn certified_sources_are_bounded()
+    ensures { CertifiedAreBounded }
 {}
 
 /// Of each source of at most 1,048,576 bytes that is a unit, well typed and within the limits: it

@@ -11,7 +11,8 @@ mod told;
 mod tool;
 
 pub use laws::{
-    accepted_sources_are_built_right, samples_are_good, samples_have_stacks, sources_pass_no_size,
+    accepted_sources_are_built_right, certified_sources_are_bounded, promises_in_plain_words,
+    samples_are_good, samples_have_stacks, sources_pass_no_size,
 };
 pub use qs_driver_session::{
     Devices, FileKind, ProofFault, SourceFault, Status, TokenPlace, WordsFault,

@@ -1,7 +1,8 @@
 // The top call: reads the words, and hands the devices to their command.
 ghost use Rattle.qs_cli.specs.Reading.{command_of};
-ghost use Rattle.qs_driver_session.specs.Promises.{LacksMemoryOn, PromiseOn};
-ghost use Rattle.qs_driver_session.specs.Task.{AnswersOn};
+ghost use Rattle.qs_driver_session.specs.Promises.{LacksMemoryOn};
+ghost use Rattle.qs_driver.specs.Asked.{AnswersOn, PromiseOn};
+ghost use Rattle.qs_driver.specs.PlainWords.{KeepsOn, meaning_in};
 ghost use Rattle.qs_driver.specs.Tool.{task_in, to_do, IsMeant};
 
 use crate::commands::bound::bound;
@@ -15,6 +16,7 @@ use crate::orders::{
     to_bound, to_build, to_check, to_derive, to_exec, to_outline, to_run, to_sample,
 };
 use qs_cli::{CliFault, Command, read_words};
+use qs_driver_elf::{elf, unelf};
 use qs_driver_session::{Devices, Status, nameless, refuse, run, usage};
 use qs_ports::{Sink, Store};
 use std::alloc::Global;
@@ -55,6 +57,8 @@ fn perform<S: Store, O: Sink, L: Sink>(
             steps,
         } => exec(alloc, &to_exec(source, proof, args, input, *steps), devices),
         Command::Sample { count, out } => sample(alloc, &to_sample(*count, out), devices),
+        Command::Elf(words) => elf(alloc, words, devices),
+        Command::Unelf(words) => unelf(alloc, words, devices),
     }
 }
 
@@ -78,7 +82,8 @@ pub fn run_tool<S: Store, O: Sink, L: Sink>(
     words: &[String],
     devices: Devices<'_, S, O, L>,
 ) -> Status
-    ensures { PromiseOn S.view O.view L.view devices.entry devices.exit (task_in words.now) result }
+    ensures promises { PromiseOn S.view O.view L.view devices.entry devices.exit (task_in words.now) result }
+    ensures keeps { KeepsOn S.view O.view L.view devices.entry devices.exit (meaning_in words.now) result }
 {
     match read_words(alloc, words) {
         Ok(command) => perform(alloc, &command, devices),

@@ -5,12 +5,12 @@ use Rattle.qs_ports.specs.SinkView.{SinkView}
 use Rattle.qs_report.specs.Lines.{bound_line}
 use Rattle.qs_driver_session.specs.Faults.{status_line, shown_of}
 use Rattle.qs_driver_session.specs.Lines.{cost_lines}
-use Rattle.qs_driver_session.specs.Devices.{streams, views_of}
+use Rattle.qs_driver_steps.specs.Devices.{streams, views_of}
 use Rattle.qs_driver_session.specs.Due.{EndsWith, IsWritten}
 use Rattle.qs_driver_session.specs.Task.{Answers}
 use Rattle.qs_driver_session.specs.declared.status.Status.{Status}
 use Rattle.qs_driver_session.specs.declared.status.Status.TheVariants.{Done}
-use Rattle.qs_driver_session.proofs.StepsLaws.{log_last, out_last}
+use Rattle.qs_driver_session.proofs.PieceLaws.{log_last, out_last}
 use Rattle.qs_driver.specs.Made.{Makes}
 use Rattle.qs_driver.specs.commands.Bound.{BoundWords, names_of, to_make, bound, due_of, IsDueToBound}
 use Rattle.qs_driver.specs.commands.Bound as meant

@@ -10,14 +10,14 @@ use Rattle.qs_image.specs.Image.{Image, IsImage}
 use Rattle.qs_compile.specs.Compiled.{IsCompiled, IsImageOfSource}
 use Rattle.qs_driver_session.specs.Lines.{cost_lines}
 use Rattle.qs_driver_session.specs.Faults.{status_line}
-use Rattle.qs_driver_session.specs.Devices.{streams, views_of}
+use Rattle.qs_driver_steps.specs.Devices.{streams, views_of}
 use Rattle.qs_driver_session.specs.Due.{EndsWith, IsWritten}
 use Rattle.qs_driver_session.specs.Task.{Answers}
 use Rattle.qs_driver_session.specs.declared.status.Status.{Status}
 use Rattle.qs_driver_session.specs.declared.status.Status.TheVariants.{Done, StoreFailed, NoMemory}
 use Rattle.qs_driver_session.specs.declared.status.FileKind.TheVariants as kinds
 use Rattle.qs_driver_session.proofs.LaterLaws.{keeps_then_holds, cut_short}
-use Rattle.qs_driver_session.proofs.StepsLaws.{log_last, out_last}
+use Rattle.qs_driver_session.proofs.PieceLaws.{log_last, out_last}
 use Rattle.qs_driver.specs.Certified.{LacksCertified, HasCertified}
 use Rattle.qs_driver.specs.commands.Build.{BuildWords, NamesDiffer, names_of, inputs, build, due_of, HasImage, Builds}
 use Rattle.qs_driver.specs.commands.Build as meant

@@ -2,7 +2,7 @@
 use Rattle.std.proofs.Common.{◌≡◌, ◌≢◌, ◌⊎◌, ap, subst, sym, inl, inr}
 use Rattle.qs_ports.specs.StoreView.{StoreView}
 use Rattle.qs_driver_session.specs.Due.{Due}
-use Rattle.qs_driver_session.specs.Promises.{StoreHeld}
+use Rattle.qs_driver_steps.specs.Files.{StoreHeld}
 use Rattle.qs_driver_session.specs.declared.status.Status.{Status}
 use Rattle.qs_driver_session.specs.declared.status.Status.TheVariants.{NoMemory}
 use Rattle.qs_driver_session.proofs.rooms.Follows.{Follows}

@@ -26,7 +26,7 @@ use Rattle.qs_ports.specs.Whole.{Stores, IsCutShort}
 use Rattle.qs_ports.proofs.Wholes.{counts_more, failed_later}
 use Rattle.qs_report.specs.declared.fault_texts.Count.{Count}
 use Rattle.qs_report.specs.declared.fault_texts.Count.TheVariants.{Derived}
-use Rattle.qs_driver_session.specs.Devices.{streams, views_of}
+use Rattle.qs_driver_steps.specs.Devices.{streams, views_of}
 use Rattle.qs_driver_session.specs.Due.{IsWritten}
 use Rattle.qs_driver_session.specs.Counts.{counted, counted_or_refused}
 use Rattle.qs_driver_session.specs.Source.{IsTypedUnit}

@@ -14,7 +14,7 @@ use Rattle.qs_certify.specs.declared.fault.CertifyFault.TheVariants as faults
 use Rattle.qs_certify.proofs.RefusalLaws.{no_place}
 use Rattle.qs_ports.specs.StoreView.{StoreView}
 use Rattle.qs_driver_session.specs.Due.{Due}
-use Rattle.qs_driver_session.specs.Promises.{StoreHeld}
+use Rattle.qs_driver_steps.specs.Files.{StoreHeld}
 use Rattle.qs_driver_session.specs.declared.status.ProofFault.{ProofFault}
 use Rattle.qs_driver_session.specs.declared.status.ProofFault.TheVariants.{Cycle}
 use Rattle.qs_driver_session.specs.declared.status.Status.{Status}

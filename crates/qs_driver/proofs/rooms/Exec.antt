@@ -17,10 +17,10 @@ use Rattle.qs_compile.specs.Agree.{IsInput}
 use Rattle.qs_report.specs.Lines.{bound_line, end_line}
 use Rattle.qs_report.specs.declared.fault_texts.Shown.TheVariants as shown
 use Rattle.qs_driver_session.specs.Faults.{status_line}
-use Rattle.qs_driver_session.specs.Devices.{streams, views_of}
-use Rattle.qs_driver_session.specs.Steps.{Step, on_out, on_log}
+use Rattle.qs_driver_steps.specs.Devices.{streams, views_of}
+use Rattle.qs_driver_steps.specs.Pieces.{Piece, on_out, on_log}
 use Rattle.qs_driver_session.specs.Due.{Due, refusal, EndsWith, IsWritten}
-use Rattle.qs_driver_session.specs.Files.{IsUntouched}
+use Rattle.qs_driver_steps.specs.Files.{IsUntouched}
 use Rattle.qs_driver_session.specs.Task.{Answers}
 use Rattle.qs_driver_session.specs.Starting.{ReadInput, IsStackOf, LoadsImage, ReadsNamed, Finishes}
 use Rattle.qs_driver_session.specs.declared.starting.Ready.{Ready}
@@ -28,7 +28,7 @@ use Rattle.qs_driver_session.specs.declared.status.Status.{Status}
 use Rattle.qs_driver_session.specs.declared.status.Status.TheVariants.{Done, Trapped, StepLimit, SinkFailed, NoMemory}
 use Rattle.qs_driver_session.proofs.LaterLaws.{both_untouched, unread_later, was_read_before}
 use Rattle.qs_driver_session.proofs.StartingLaws.{no_load, stands_at}
-use Rattle.qs_driver_session.proofs.StepsLaws.{due_of, put_goes_on, put_fails, log_last, then_log, out_fails}
+use Rattle.qs_driver_session.proofs.PieceLaws.{due_of, put_goes_on, put_fails, log_last, then_log, out_fails}
 use Rattle.qs_driver.specs.Bounds.{bytes_by, seen_runs}
 use Rattle.qs_driver.specs.Made.{MakeWords, HasMade, IsMade, CannotMake}
 use Rattle.qs_driver.specs.commands.Exec.{ExecWords, names_of, to_make, as_run, exec, after_run, refused_after, HasStack, IsDueAt, IsDueToExec, IsSourcesEnd, CannotExec, HasStarted, Starts, IsFresh}
@@ -94,7 +94,7 @@ fresh e v w (Err status) h = tt
 -- ---- the line of the bound, before all others
 
 -- it was put, and then the rest
-then_rest : (status : Status) (text : List ℕ) (rest : List Step) (o o' l m l' : SinkView) (result : Status) → Appends l m text → IsWritten (due_of status rest) (streams o m) (streams o' l') result → IsWritten (due_of status (on_log text ∷ rest)) (streams o l) (streams o' l') result
+then_rest : (status : Status) (text : List ℕ) (rest : List Piece) (o o' l m l' : SinkView) (result : Status) → Appends l m text → IsWritten (due_of status rest) (streams o m) (streams o' l') result → IsWritten (due_of status (on_log text ∷ rest)) (streams o l) (streams o' l') result
 then_rest status text rest o o' l m l' result a h = put_goes_on status (on_log text) rest (streams o l) (streams o m) (streams o' l') result (record { happened = a; other = refl }) h
 
 -- ---- the run

@@ -9,9 +9,11 @@ use Rattle.qs_machine.specs.Arguments.{words_of}
 use Rattle.qs_machine.specs.Run.{Outcome, Exited, Trapped as HasTrapped, Going, machine}
 use Rattle.qs_driver_session.specs.Limits.{input_limit}
 use Rattle.qs_driver_session.specs.Due.{Due}
-use Rattle.qs_driver_session.specs.Files.{HoldsContent, IsTooLong, CannotRead}
+use Rattle.qs_driver_steps.specs.Files.{HoldsContent, IsTooLong}
+use Rattle.qs_driver_session.specs.Files.{CannotRead}
 use Rattle.qs_driver_session.specs.Files as files
-use Rattle.qs_driver_session.specs.Promises.{StoreHeld, SaysStoreFailed}
+use Rattle.qs_driver_steps.specs.Files.{StoreHeld}
+use Rattle.qs_driver_session.specs.Promises.{SaysStoreFailed}
 use Rattle.qs_driver_session.specs.Starting.{HasInput, ReadInput, IsNoStack, status_at}
 use Rattle.qs_driver_session.specs.declared.status.Status.{Status}
 use Rattle.qs_driver_session.specs.declared.status.Status.TheVariants.{Source, Missing, NoBound, NoMemory}

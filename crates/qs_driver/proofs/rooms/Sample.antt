@@ -18,7 +18,7 @@ use Rattle.qs_emit.specs.Agree.{Agree}
 use Rattle.qs_certify.specs.Bound.{main_bound}
 use Rattle.qs_compile.specs.Compiled.{IsCompiled, IsImageOfSource}
 use Rattle.qs_cli.specs.Numbers.{default_steps}
-use Rattle.qs_driver_session.specs.Devices.{streams, views_of}
+use Rattle.qs_driver_steps.specs.Devices.{streams, views_of}
 use Rattle.qs_driver_session.specs.Due.{Due, EndsWith, IsWritten}
 use Rattle.qs_driver_session.specs.Faults.{status_line}
 use Rattle.qs_driver_session.specs.KeptOutput.{kept_view}
@@ -31,7 +31,7 @@ use Rattle.qs_driver_session.specs.declared.status.Status.{Status}
 use Rattle.qs_driver_session.specs.declared.status.Status.TheVariants.{Done, Trapped, StepLimit, NoMemory}
 use Rattle.qs_driver_session.proofs.StartingLaws.{stands_at}
 use Rattle.qs_driver_session.proofs.rooms.Follows.{untouched}
-use Rattle.qs_driver_session.proofs.StepsLaws.{log_last, out_last}
+use Rattle.qs_driver_session.proofs.PieceLaws.{log_last, out_last}
 use Rattle.qs_driver.specs.Bounds.{IsImageOf, bound_by, bytes_by, costs_in, seen_runs}
 use Rattle.qs_driver.specs.Certified.{IsCertifiedUnit}
 use Rattle.qs_driver.specs.Made.{IsMadeOf}

@@ -5,7 +5,8 @@ use Rattle.qs_image.specs.Image.{Image}
 use Rattle.qs_machine.specs.Run.{Outcome, Exited, Trapped as HasTrapped, Going}
 use Rattle.qs_cli.specs.Numbers.{default_steps}
 use Rattle.qs_driver_session.specs.Due.{Due}
-use Rattle.qs_driver_session.specs.Promises.{StoreHeld, SaysStoreFailed}
+use Rattle.qs_driver_steps.specs.Files.{StoreHeld}
+use Rattle.qs_driver_session.specs.Promises.{SaysStoreFailed}
 use Rattle.qs_driver_session.specs.SampleSource.{sample_text}
 use Rattle.qs_driver_session.specs.Starting.{status_at}
 use Rattle.qs_driver_session.specs.declared.status.Status.{Status}

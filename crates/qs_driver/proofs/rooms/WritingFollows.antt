@@ -2,9 +2,10 @@
 use Rattle.std.proofs.Common.{◌≡◌, ◌≢◌, ◌⊎◌, ◌<◌, subst, sym, inl, inr, IsTrue}
 use Rattle.std.specs.Prelude.{◌↔◌}
 use Rattle.qs_ports.specs.StoreView.{StoreView, HasSameCounts, HasFailed}
-use Rattle.qs_driver_session.specs.Files.{IsUntouched}
+use Rattle.qs_driver_steps.specs.Files.{IsUntouched}
 use Rattle.qs_driver_session.specs.Source as source
-use Rattle.qs_driver_session.specs.Promises.{StoreHeld, SaysStoreFailed}
+use Rattle.qs_driver_steps.specs.Files.{StoreHeld}
+use Rattle.qs_driver_session.specs.Promises.{SaysStoreFailed}
 use Rattle.qs_driver_session.specs.declared.status.Status.{Status}
 use Rattle.qs_driver_session.specs.declared.status.Status.TheVariants.{Done, Words, StoreFailed, NoMemory}
 use Rattle.qs_driver_session.specs.declared.status.WordsFault.TheVariants.{SameName}

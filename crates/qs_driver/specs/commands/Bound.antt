@@ -7,9 +7,9 @@ use Rattle.qs_report.specs.Lines.{bound_line}
 use Rattle.qs_driver_session.specs.Names.{Names, no_names, or_empty, name_in}
 use Rattle.qs_driver_session.specs.Faults.{shown_of}
 use Rattle.qs_driver_session.specs.Lines.{cost_lines}
-use Rattle.qs_driver_session.specs.Steps.{on_out}
+use Rattle.qs_driver_steps.specs.Pieces.{on_out}
 use Rattle.qs_driver_session.specs.Due.{Due, refusal, IsRefusal}
-use Rattle.qs_driver_session.specs.Files.{IsUntouched}
+use Rattle.qs_driver_steps.specs.Files.{IsUntouched}
 use Rattle.qs_driver_session.specs.Task.{Task}
 use Rattle.qs_driver_session.specs.declared.status.Status.{Status}
 use Rattle.qs_driver_session.specs.declared.status.Status.TheVariants.{Done}
@@ -48,7 +48,7 @@ bounded_lines functions bound = cost_lines functions ++ bound_line (shown_of bou
 
 abbrev pub costs_and_bound : List FunctionRecord → Amount → Due
 costs_and_bound functions bound =
-    record { status = Done; steps = on_out (bounded_lines functions bound) ∷ [] }
+    record { status = Done; pieces = on_out (bounded_lines functions bound) ∷ [] }
 
 -- `out` gets the costs of the image's records, and what main costs with the value of its precondition at the arguments.
 pub record HasBound (b : BoundWords) (before after : StoreView) (due : Due) : Type 0 where

@@ -5,9 +5,9 @@ use Rattle.qs_ports.specs.Whole.{Stores, IsCutShort}
 use Rattle.qs_image.specs.Image.{Image, IsImage}
 use Rattle.qs_driver_session.specs.Names.{Names, no_names, or_empty, name_in}
 use Rattle.qs_driver_session.specs.Lines.{cost_lines}
-use Rattle.qs_driver_session.specs.Steps.{on_out}
+use Rattle.qs_driver_steps.specs.Pieces.{on_out}
 use Rattle.qs_driver_session.specs.Due.{Due, refusal, IsRefusal}
-use Rattle.qs_driver_session.specs.Files.{IsUntouched}
+use Rattle.qs_driver_steps.specs.Files.{IsUntouched}
 use Rattle.qs_driver_session.specs.Task.{Task}
 use Rattle.qs_driver_session.specs.declared.status.Status.{Status}
 use Rattle.qs_driver_session.specs.declared.status.Status.TheVariants.{Done, Words, StoreFailed, NoMemory}
@@ -57,7 +57,7 @@ pub record HasImage (b : BuildWords) (before : StoreView) (s : CertifiedSource) 
 
 -- the cost of each function
 abbrev pub costs : Image → Due
-costs image = record { status = Done; steps = on_out (cost_lines image.functions) ∷ [] }
+costs image = record { status = Done; pieces = on_out (cost_lines image.functions) ∷ [] }
 
 -- The source is certified, and the out file holds an image of it; `out` gets the cost of each of its functions.
 pub record HasBuilt (b : BuildWords) (before after : StoreView) (due : Due) : Type 0 where

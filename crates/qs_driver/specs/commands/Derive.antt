@@ -12,7 +12,7 @@ use Rattle.qs_report.specs.declared.fault_texts.Count.TheVariants.{Derived}
 use Rattle.qs_driver_session.specs.Names.{Names, no_names}
 use Rattle.qs_driver_session.specs.Due.{Due, IsRefusal}
 use Rattle.qs_driver_session.specs.Counts.{counted, counted_or_refused}
-use Rattle.qs_driver_session.specs.Files.{IsUntouched}
+use Rattle.qs_driver_steps.specs.Files.{IsUntouched}
 use Rattle.qs_driver_session.specs.Source.{IsOfSource}
 use Rattle.qs_driver_session.specs.Task.{Task}
 use Rattle.qs_driver_session.specs.declared.status.Status.{Status}

@@ -19,9 +19,10 @@ use Rattle.qs_report.specs.declared.fault_texts.Shown.TheVariants as shown
 use Rattle.qs_driver_session.specs.Names.{Names, no_names, or_empty, name_in}
 use Rattle.qs_driver_session.specs.Faults.{status_line}
 use Rattle.qs_driver_session.specs.Limits.{input_limit}
-use Rattle.qs_driver_session.specs.Steps.{on_out, on_log}
+use Rattle.qs_driver_steps.specs.Pieces.{on_out, on_log}
 use Rattle.qs_driver_session.specs.Due.{Due, IsRefusal}
-use Rattle.qs_driver_session.specs.Files.{IsUntouched, IsTooLong, CannotRead}
+use Rattle.qs_driver_steps.specs.Files.{IsUntouched, IsTooLong}
+use Rattle.qs_driver_session.specs.Files.{CannotRead}
 use Rattle.qs_driver_session.specs.Starting.{RunWords, run_words, ReadInput, HasInput, IsNoStack, status_at}
 use Rattle.qs_driver_session.specs.Task.{Task, Begun}
 use Rattle.qs_driver_session.specs.declared.status.Status.{Status}
@@ -80,7 +81,7 @@ pub record HasStack (e : ExecWords) (before : StoreView) (image : Image) (stack 
 abbrev pub after_run : (stack : ℕ) → List ℕ → Status → List ℕ → Due
 after_run stack output status line = record {
   status = status;
-  steps = on_log (bound_line (shown.Number stack)) ∷ on_out output ∷ on_log line ∷ [];
+  pieces = on_log (bound_line (shown.Number stack)) ∷ on_out output ∷ on_log line ∷ [];
 }
 
 -- the bound and the output, then the line of the fault

@@ -1,18 +1,21 @@
 -- `outline`: from the source in the store to the outline of its core on standard output.
-use Rattle.std.specs.Prelude.{◌≡◌, ℕ, List, [], ◌∷◌, IsTrue, Result, Ok, Err, Vec}
+use Rattle.std.specs.Prelude.{ℕ, List, [], ◌∷◌, None, false, Result, Ok, Err, Vec}
 use Rattle.std.specs.declared.alloc.Global.{Global}
 use Rattle.qs_ports.specs.StoreView.{StoreView}
-use Rattle.qs_core.specs.Trees.{CoreUnitTree}
+use Rattle.qs_syntax.specs.Trees.{UnitTree}
 use Rattle.qs_core.specs.Outline as core
-use Rattle.qs_elaborate_laws.specs.FitLaws.{HasCore}
-use Rattle.qs_driver_session.specs.Names.{Names, no_names}
-use Rattle.qs_driver_session.specs.Steps.{on_out}
-use Rattle.qs_driver_session.specs.Due.{Due, refusal, IsRefusal}
-use Rattle.qs_driver_session.specs.Files.{IsUntouched}
-use Rattle.qs_driver_session.specs.Source.{HoldsText, ReadsText, IsTypedUnit, IsOfSource, LacksSource, RefusesSource}
-use Rattle.qs_driver_session.specs.Task.{Task}
+use Rattle.qs_core.specs.Trees.{CoreUnitTree}
+use Rattle.qs_driver_steps.specs.Pieces.{on_out}
+use Rattle.qs_driver_steps.specs.Promises.{Order}
+use Rattle.qs_driver_steps.specs.Runs.{Runs}
+use Rattle.qs_driver_steps.specs.Steps.{End, Command, gives, first, then}
+use Rattle.qs_driver_session.specs.Due.{Due, refusal}
+use Rattle.qs_driver_session.specs.Names.{Names, no_names, file_name}
+use Rattle.qs_driver_session.specs.Origin.{origin}
+use Rattle.qs_driver_session.specs.Statuses.{tool}
 use Rattle.qs_driver_session.specs.declared.status.Status.{Status}
-use Rattle.qs_driver_session.specs.declared.status.Status.TheVariants.{Done, NoMemory}
+use Rattle.qs_driver_session.specs.declared.status.Status.TheVariants.{Done}
+use Rattle.qs_driver.specs.Proved.{coring}
 use Rattle.qs_driver.specs.declared.commands.outline.OutlineOrder.{OutlineOrder}
 
 -- ---- the words
@@ -31,65 +34,31 @@ words_in order = outline_words order.source.now
 abbrev pub names_of : OutlineWords → Names
 names_of o = record no_names { source = o.source }
 
--- ---- what is due
-
--- the text is a typed unit, and this is its core, which runs as the unit does
-pub record HasCoreUnit (text : List ℕ) (unit : CoreUnitTree) : Type 0 where
-  pub typed : IsTypedUnit text
-  pub has_core : HasCore typed.unit.trees
-  pub is : has_core.core ≡ unit
+-- ---- the steps
 
 -- this text on standard output
 abbrev pub printed : List ℕ → Due
-printed text = record { status = Done; steps = on_out text ∷ [] }
+printed text = record { status = Done; pieces = on_out text ∷ [] }
 
--- The text that was read as the source's has this core, and no file changed; `out` gets the core's outline.
-pub record HasOutline (o : OutlineWords) (before after : StoreView) (due : Due) : Type 0 where
-  pub unit : CoreUnitTree
-  pub text : ReadsText before o.source (λ text. HasCoreUnit text unit)
-  pub untouched : IsUntouched before after
-  pub is_due : due ≡ printed (core.outline unit)
+abbrev pub outline_end : CoreUnitTree → End tool
+outline_end unit = record { output = None; due = printed (core.outline unit); late = false }
 
--- Why there is no outline, and the status at that.
-pub data CannotOutline (o : OutlineWords) (before after : StoreView) (status : Status)
-    : Type 0 where
-  no_source : LacksSource before after o.source status → CannotOutline o before after status
-  no_memory : IsUntouched before after → status ≡ NoMemory → CannotOutline o before after status
+abbrev pub outlined : CoreUnitTree → Command tool
+outlined unit = gives (outline_end unit)
 
--- What is due to `outline`, and why.
-pub data IsDueToOutline (o : OutlineWords) (before after : StoreView) (due : Due) : Type 0 where
-  outlined : HasOutline o before after due → IsDueToOutline o before after due
-  refused : (status : Status) → CannotOutline o before after status
-      → IsRefusal (names_of o) status due
-      → IsDueToOutline o before after due
+abbrev pub outline_unit : UnitTree → Command tool
+outline_unit unit = first (coring unit) outlined
 
--- ---- what follows
+-- the unit of the source has a core, and `out` gets its outline
+abbrev pub outline : OutlineWords → Command tool
+outline o = then (origin o.source) outline_unit
 
--- the source is there and is a typed unit
-pub record IsGood (o : OutlineWords) (before : StoreView) : Type 0 where
-  pub told : IsTrue before.told
-  pub text : HoldsText (before.files o.source) IsTypedUnit
+abbrev pub order_of : OutlineWords → Order tool
+order_of o = record { command = outline o; names = file_name (names_of o) }
 
--- each good source has its outline
-abbrev pub Accepts : OutlineWords → StoreView → Status → Type 0
-Accepts o before status = IsGood o before → status ≡ Done
-
--- the statuses with which `outline` ends where no call fails and memory is found
-pub data IsOfOutline : Status → Type 0 where
-  done : IsOfOutline Done
-  of_source : {status : Status} → IsOfSource status → IsOfOutline status
-
--- Each refusal of `outline` comes exactly where its cause is, and no refusal of another command comes.
-pub record Refuses (o : OutlineWords) (before : StoreView) (status : Status) : Type 0 where
-  pub own : IsOfOutline status
-  pub source : IsTrue before.told → RefusesSource (before.files o.source) status
-
-abbrev pub outline : OutlineWords → Task
-outline o = record { IsDue = IsDueToOutline o; Accepts = Accepts o; Refuses = Refuses o }
-
--- the task of the words that the code holds
-abbrev pub to_do : OutlineOrder → Task
-to_do order = outline (words_in order)
+-- the same of the words that the code holds
+abbrev pub to_do : OutlineOrder → Order tool
+to_do order = order_of (words_in order)
 
 -- ---- what the parts of the code answer
 
@@ -104,4 +73,5 @@ due_to order work = due_of (words_in order) work
 
 -- the answer of `outline_text`
 abbrev pub Outlines : OutlineWords → StoreView → StoreView → Result (Vec ℕ Global) Status → Type 0
-Outlines o before after work = IsDueToOutline o before after (due_of o work)
+Outlines o before after work =
+    Runs (outline o) (file_name (names_of o)) before after (due_of o work)

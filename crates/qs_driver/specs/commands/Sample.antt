@@ -15,9 +15,9 @@ use Rattle.qs_report.specs.declared.fault_texts.Count.TheVariants.{Functions, Ou
 use Rattle.qs_report.specs.declared.fault_texts.Shown.TheVariants as shown
 use Rattle.qs_cli.specs.Numbers.{default_steps}
 use Rattle.qs_driver_session.specs.Names.{Names, no_names, or_empty, name_in}
-use Rattle.qs_driver_session.specs.Steps.{on_out}
+use Rattle.qs_driver_steps.specs.Pieces.{on_out}
 use Rattle.qs_driver_session.specs.Due.{Due, refusal, IsRefusal}
-use Rattle.qs_driver_session.specs.Files.{IsUntouched}
+use Rattle.qs_driver_steps.specs.Files.{IsUntouched}
 use Rattle.qs_driver_session.specs.SampleSource.{sample_text}
 use Rattle.qs_driver_session.specs.Starting.{status_at}
 use Rattle.qs_driver_session.specs.Task.{Task}
@@ -75,7 +75,7 @@ sample_lines functions stack output status =
 
 abbrev pub counted : (functions stack output status : ℕ) → Due
 counted functions stack output status =
-    record { status = Done; steps = on_out (sample_lines functions stack output status) ∷ [] }
+    record { status = Done; pieces = on_out (sample_lines functions stack output status) ∷ [] }
 
 -- what is due at this outcome; the output is counted and not written
 abbrev pub IsDueAt : SampleWords → Image → (stack : ℕ) → Outcome → Due → Type 0

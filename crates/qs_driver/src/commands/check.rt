@@ -1,7 +1,7 @@
 // `check`: whether the derivations of a source are right.
 ghost use Rattle.std.specs.Prelude.{◌≡◌};
 ghost use Rattle.qs_driver_session.specs.Names.{names_in};
-ghost use Rattle.qs_driver_session.specs.Task.{AnswersOn};
+ghost use Rattle.qs_driver_steps.specs.Promises.{AnswersOn};
 ghost use Rattle.qs_driver.specs.Certified.{words_in};
 ghost use Rattle.qs_driver.specs.commands.Check.{names_of, to_do, Checks};
 

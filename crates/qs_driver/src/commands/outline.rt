@@ -2,7 +2,7 @@
 ghost use Rattle.std.specs.Prelude.{◌≡◌};
 ghost use Rattle.qs_driver_session.specs.Due.{IsWrittenOn};
 ghost use Rattle.qs_driver_session.specs.Names.{names_in};
-ghost use Rattle.qs_driver_session.specs.Task.{AnswersOn};
+ghost use Rattle.qs_driver_steps.specs.Promises.{AnswersOn};
 ghost use Rattle.qs_driver.specs.commands.Outline.{due_to, names_of, to_do, words_in, Outlines};
 
 use qs_core::print_outline;

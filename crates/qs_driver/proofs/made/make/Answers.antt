@@ -7,7 +7,7 @@ use Rattle.qs_driver.proofs.made.make.Goals as goal
 pub returns-in_err-certified : goal.returns-in_err-certified
 returns-in_err-certified g c =
     let p = err_from_is_err_and c.from_residual.result c.from_residual.ensures.1 in
-    rw (p.1, p.2) (not_certified (make_words (words_in c.args.inputs.now) c.args.args.now) _ _ _ c.in_err-certified.ensures)
+    rw (p.1, p.2) (not_certified (make_words (words_in c.args.inputs.now) c.args.args.now) _ _ _ c.in_err-certified.ensures.reads)
 
 pub returns : goal.returns
-returns g c = made_or_not (make_words (words_in c.args.inputs.now) c.args.args.now) _ _ c.in_ok-certified.certified c.make_certified.result c.in_ok-certified.ensures c.make_certified.ensures
+returns g c = made_or_not (make_words (words_in c.args.inputs.now) c.args.args.now) _ _ c.in_ok-certified.certified c.make_certified.result c.in_ok-certified.ensures.reads c.make_certified.ensures

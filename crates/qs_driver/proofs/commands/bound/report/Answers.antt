@@ -1,4 +1,4 @@
-use Rattle.qs_driver_session.proofs.StepsLaws.{ends_with}
+use Rattle.qs_driver_session.proofs.PieceLaws.{ends_with}
 use Rattle.qs_driver.specs.commands.Bound.{words_in}
 use Rattle.qs_driver.proofs.rooms.Bound.{bound_put, fault_put}
 use Rattle.qs_driver.proofs.commands.bound.report.Goals as goal

@@ -1,6 +1,6 @@
 use Rattle.std.proofs.Common.{ap}
 use Rattle.qs_image.specs.Image.{Image}
-use Rattle.qs_driver_session.proofs.StepsLaws.{ends_with}
+use Rattle.qs_driver_session.proofs.PieceLaws.{ends_with}
 use Rattle.qs_driver.specs.commands.Build.{words_in}
 use Rattle.qs_driver.proofs.rooms.Build.{costs_put, fault_put}
 use Rattle.qs_driver.proofs.commands.build.report.Goals as goal

@@ -24,9 +24,9 @@ returns-in_err-machine g c =
 pub returns-in_err-input : goal.returns-in_err-input
 returns-in_err-input g c =
     let p = err_from_is_err_and c.from_residual-in_err-input.result c.from_residual-in_err-input.ensures.1 in
-    rw (p.1, p.2) (input_is_refused (words_in c.args.order.now) _ _ _ _ _ _ (rw c.inputs_of.ensures at c.in_ok-made.ensures) c.in_ok-stack.ensures (rw (ap (λ (r : RunWords). r.input) c.run_order-run.ensures) at c.in_err-input.ensures))
+    rw (p.1, p.2) (input_is_refused (words_in c.args.order.now) _ _ _ _ _ _ (rw c.inputs_of.ensures at c.in_ok-made.ensures) c.in_ok-stack.ensures (rw (ap (λ (r : RunWords). r.input) c.run_order-run.ensures) at c.in_err-input.ensures.reads))
 
 pub returns : goal.returns
 returns g c =
-    has_started (words_in c.args.order.now) _ _ _ _ _ _ (rw c.inputs_of.ensures at c.in_ok-made.ensures) c.in_ok-stack.ensures (rw c.run_order-run.ensures at c.in_ok-machine.ensures) (rw (ap (λ (r : RunWords). r.input) c.run_order-run.ensures) at c.in_ok-input.ensures)
+    has_started (words_in c.args.order.now) _ _ _ _ _ _ (rw c.inputs_of.ensures at c.in_ok-made.ensures) c.in_ok-stack.ensures (rw c.run_order-run.ensures at c.in_ok-machine.ensures) (rw (ap (λ (r : RunWords). r.input) c.run_order-run.ensures) at c.in_ok-input.ensures.reads)
     (subst (λ (bytes : List ℕ). IsInput bytes) c.deref.ensures.value c.consists_of_bytes.ensures)

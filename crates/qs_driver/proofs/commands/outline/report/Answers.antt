@@ -1,4 +1,4 @@
-use Rattle.qs_driver_session.proofs.StepsLaws.{ends_with}
+use Rattle.qs_driver_session.proofs.PieceLaws.{ends_with}
 use Rattle.qs_driver.specs.commands.Outline.{words_in}
 use Rattle.qs_driver.proofs.rooms.Outline.{fault_put, text_put}
 use Rattle.qs_driver.proofs.commands.outline.report.Goals as goal

@@ -1,4 +1,4 @@
-use Rattle.qs_driver_session.proofs.StepsLaws.{ends_with}
+use Rattle.qs_driver_session.proofs.PieceLaws.{ends_with}
 use Rattle.qs_driver.specs.commands.Sample.{words_in}
 use Rattle.qs_driver.proofs.rooms.Sample.{lines_put, fault_put}
 use Rattle.qs_driver.proofs.commands.sample.report.Goals as goal

@@ -1,0 +1,15 @@
+pub mod LeftBytes
+pub mod WatchedRuns
+pub mod WhoseBytes
+pub mod Setting
+pub mod Among
+pub mod Resting
+pub mod Activations
+pub mod ContextLaws
+pub mod PutLaws
+pub mod SceneLaws
+pub mod Beginnings
+pub mod Returning
+pub mod Instructing
+pub mod LevelLaws
+pub mod TasksSafe

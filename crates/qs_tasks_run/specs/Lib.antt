@@ -1,0 +1,4 @@
+pub mod Tasks
+pub mod Contexts
+pub mod TasksRun
+pub mod StackSize

@@ -1,0 +1,10 @@
+pub mod Around
+pub mod Bodies
+pub mod Counters
+pub mod Sizes
+pub mod Needs
+pub mod Certificates
+pub mod Written
+pub mod Passing
+pub mod Recursions
+pub mod Entries

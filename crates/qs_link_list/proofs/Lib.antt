@@ -1,0 +1,4 @@
+pub mod LineLaws
+pub mod ScanLaws
+pub mod OneList
+mod Examples

@@ -1,0 +1,3 @@
+pub mod HiddenMemory
+pub mod HiddenValues
+pub mod HiddenRuns

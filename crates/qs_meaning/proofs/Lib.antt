@@ -28,6 +28,9 @@ pub mod InitialMemory
 mod TypedValues
 mod RangeLaws
 mod StepNeeds
+mod ElsewhereLaws
+mod ElsewhereSame
+mod ElsewhereExamples
 mod FitExamples
 mod FitConversions
 mod FitForms
@@ -53,3 +56,4 @@ pub mod DeclaredSizes
 pub mod FitBlocks
 pub mod FitReadings
 pub mod FitTexts
+mod NineCaseLaws

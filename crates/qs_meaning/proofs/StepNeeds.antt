@@ -38,13 +38,13 @@ use Rattle.qs_meaning.specs.StepLaws.{calculates, IsTested, AreCompared, AreSubt
 -- ---- values of types
 
 -- an integer type's values are integers
-is_integer_at : (m : Memory) (s : Scalar) (p : Pointer) → is_pointer s ≡ false → has_type s (address p) ≡ true → false ≡ true
+pub is_integer_at : (m : Memory) (s : Scalar) (p : Pointer) → is_pointer s ≡ false → has_type s (address p) ≡ true → false ≡ true
 is_integer_at m scalars.Char p e h = h
 is_integer_at m scalars.Int p e h = h
 is_integer_at m scalars.Unsigned p e h = h
 is_integer_at m scalars.Pointer p e h = sym e
 
-word_is_integer : (s : Signedness) → is_pointer (integer_type s) ≡ false
+pub word_is_integer : (s : Signedness) → is_pointer (integer_type s) ≡ false
 word_is_integer Signed = refl
 word_is_integer Unsigned = refl
 
@@ -52,7 +52,7 @@ word_is_integer Unsigned = refl
 no_address : (m : Memory) (s t : Scalar) (p : Pointer) → is_pointer t ≡ false → same_scalar s t ≡ true → has_type s (address p) ≡ true → false ≡ true
 no_address m s t p e fit h = is_integer_at m t p e (subst (λ (z : Scalar). has_type z (address p) ≡ true) (scalar_same s t fit) h)
 
-no_integer : (s : Scalar) (n : ℕ) → is_pointer s ≡ true → has_type s (integer n) ≡ true → false ≡ true
+pub no_integer : (s : Scalar) (n : ℕ) → is_pointer s ≡ true → has_type s (integer n) ≡ true → false ≡ true
 no_integer s n fit h = subst (λ (z : Scalar). has_type z (integer n) ≡ true) (scalar_same s scalars.Pointer fit) h
 
 -- ---- conversions
@@ -213,7 +213,7 @@ comparison_defined op m p q =
 
 -- ---- operands of the types that an operation takes
 
-promoted_no_pointer : (t : Scalar) → is_promoted t ≡ true → is_pointer t ≡ false
+pub promoted_no_pointer : (t : Scalar) → is_promoted t ≡ true → is_pointer t ≡ false
 promoted_no_pointer scalars.Char h = cc
 promoted_no_pointer scalars.Int h = refl
 promoted_no_pointer scalars.Unsigned h = refl

@@ -21,3 +21,5 @@ pub mod FitLaws
 pub mod Whole
 pub mod Ranges
 pub mod StepLaws
+pub mod Elsewhere
+pub mod NineCases

@@ -2,6 +2,8 @@
 ghost use Rattle.qs_meaning.specs.FitLaws.{ReadIsAsRead, TypedUnitsFit};
 ghost use Rattle.qs_meaning.specs.InitialLaws.{InitialMemoryIsSound};
 ghost use Rattle.qs_meaning.specs.Laws.{CallsFollow, MainGrows, RunsGrow};
+ghost use Rattle.qs_meaning.specs.NineCases.{ElsewhereIsTheMeaning, MainUndefinedInNineCases};
+ghost use Rattle.qs_meaning.specs.NineCases.{NoOtherPlace, UndefinedInNineCases};
 ghost use Rattle.qs_meaning.specs.Ranges.{BodiesStayInRange, CallsStayInRange, ExpressionsHaveTypes};
 ghost use Rattle.qs_meaning.specs.Ranges.{InitialMemoryIsReady, RunsLeaveSound};
 ghost use Rattle.qs_meaning.specs.StepLaws.{StepsOnTypesAreDefined};
@@ -93,6 +95,29 @@ pub fn runs_leave_sound()
 /// On values of the types that it takes a step is undefined for one of the nine reasons alone.
 pub fn steps_on_types_are_defined()
     ensures { StepsOnTypesAreDefined }
+{}
+
+/// A run of a unit whose tree fits comes to no place where the meaning has no answer, but for the
+/// nine cases.
+pub fn no_other_place()
+    ensures { NoOtherPlace }
+{}
+
+/// So a run of an accepted unit is undefined in the nine cases alone.
+pub fn undefined_in_nine_cases()
+    ensures { UndefinedInNineCases }
+{}
+
+/// And so is what its `main` does, from arguments of the types of its parameters and an input of
+/// bytes.
+pub fn main_undefined_in_nine_cases()
+    ensures { MainUndefinedInNineCases }
+{}
+
+/// The runs with which the meaning is compared are those of the meaning, where they are undefined
+/// at such places.
+pub fn elsewhere_is_the_meaning()
+    ensures { ElsewhereIsTheMeaning }
 {}
 
 /// A run of `main` begins in a memory from which it may start, on every input of bytes.

@@ -9,3 +9,4 @@ pub mod Standing
 pub mod Running
 pub mod Arguments
 pub mod Laws
+pub mod Parts

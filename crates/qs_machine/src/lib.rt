@@ -10,6 +10,7 @@ mod machine;
 mod memory;
 mod operations;
 mod pages;
+mod parts;
 mod regions;
 mod registers;
 mod running;

@@ -21,13 +21,14 @@ use Rattle.qs_core.specs.declared.labels.CoreLabel.{CoreLabel}
 use Rattle.qs_core.specs.Trees as core
 use Rattle.qs_core.specs.Trees.{CoreExprTree, CoreStmtTree, CoreStmts, no_stmts, stmt_and, CoreFunctionTree, CoreUnitTree}
 use Rattle.qs_triples.specs.Derivations.{DerivationTree, leaf, sequence, conditional, loop, switch, call, balanced_call, consequence, DerivationTrees, no_derivations, derivation_and, count_derivations, SpecTree, EntryTree, ProofsTree, is_entry_of, entry_of}
-use Rattle.qs_triples.specs.Entries.{order_told, mentions_fault, entry_told, scope_of, function_posts, result_at_end, fault_in, fault_of_known, fault_of_entry, function_fault, has_entry}
+use Rattle.qs_triples.specs.Entries.{order_told, mentions_fault, entry_told, scope_for, function_posts, result_at_end, fault_in_for, fault_of_known_for, fault_of_entry_for, function_fault_for, fault_in, fault_of_known, fault_of_entry, function_fault, has_entry}
 use Rattle.qs_triples.specs.ExpressionTerms.{expression_condition}
 use Rattle.qs_triples.specs.Filled.{Filled}
 use Rattle.qs_triples.specs.Mentions.{in_body, in_pre, in_post, first_other, first_of_destination, first_without_argument, plain_variable, pre_images, post_images, as_plain}
 use Rattle.qs_triples.specs.declared.resource.Resource.{Resource}
 use Rattle.qs_triples.specs.declared.resource.Resource.TheVariants.{Stack, Calls}
 use Rattle.qs_triples.specs.Rules.{Place, DerivFault, shape, mentions, certificate, no_spec, entry, bad_order, Answer, fault_below, part, unless, unless_of, where_given_back, by_verdict, certified, Posts, Scope, with_next, replaced, returned_rule, leaf_rule, step_posts, body_posts, either, with_frame, with_frame_behind, around, at_call, is_balanced, is_consequence, count_stmts, in_precondition, in_postcondition, CallSite, Known, of_sequence, of_branch, of_loop, of_switch, switch_posts, before_part, switched, of_call, of_spec, known_callee, call_rule, balanced_rule, pre, sequence_pre, parts_pre}
+use Rattle.qs_triples.proofs.FunctionLaws.{entry_is_of}
 use Rattle.qs_callgraph.proofs.MemberLaws.{member_first, member_kept, member_behind}
 use Rattle.qs_callgraph.proofs.UnitCalls.{calls_within}
 use Rattle.qs_analyse.specs.Laws.{CallsMeetSpecs}
@@ -362,6 +363,47 @@ met_order : (o : Option ℕ) → o ≡ None → MeetsFault (order_told o)
 met_order None h = met_none
 met_order (Some d) h = cc
 
+-- ---- an entry whose calls are of functions with entries
+
+has_spec : (o : Option EntryTree) → is_some o ≡ true → (spec : SpecTree) × (option_map (λ (e : EntryTree). e.spec) o ≡ Some spec)
+has_spec None h = cc
+has_spec (Some e) h = (e.spec, refl)
+
+module _ (resource : Resource) (u : CoreUnitTree) (fits : unit_fits u ≡ true) (proofs : ProofsTree) (order : IsInOrder proofs.defines) (f : ℕ) (called : (g : ℕ) → HasCall u f g → has_entry proofs g ≡ true) where
+  knows : (function : CoreFunctionTree) → slice_get u.functions f ≡ Some function → Knows (scope_for resource u proofs function) (all_callees function.body)
+  knows function is g m =
+      let calls : HasCall u f g = ap (λ (o : Option CoreFunctionTree). is_member g (callees_of o)) is ∙ m in
+      let callee = there_at u.functions g (calls_within u f g fits calls) in
+      let spec = has_spec (entry_of proofs g) (called g calls) in
+      record { function = callee.0; there = callee.1; spec = spec.0; has = spec.1 }
+
+  met_in : (function : CoreFunctionTree) (e : EntryTree) → slice_get u.functions f ≡ Some function → MeetsFault (fault_in_for resource u proofs function e)
+  met_in function e is =
+      let scope : Scope = scope_for resource u proofs function in
+      let others : AssertionTree → Option DerivFault = λ p. entry_told (verdict [] proofs.defines e.spec.pre (assertion_image as_plain p) e.entry) in
+      met_five (order_told (order_fault proofs.defines)) (mentions_fault in_precondition (first_other function (in_pre function) e.spec.pre))
+      (mentions_fault in_postcondition (first_other function (in_post function) e.spec.post)) (mentions_fault in_postcondition (result_at_end function e.spec.post))
+      (fault_or (λ fault. fault) (pre e.body scope (core.seq function.body) (function_posts e.spec.post)) others)
+      (met_order (order_fault proofs.defines) order)
+      (met_mention in_precondition (first_other function (in_pre function) e.spec.pre))
+      (met_mention in_postcondition (first_other function (in_post function) e.spec.post))
+      (met_mention in_postcondition (result_at_end function e.spec.post))
+      (met_body (pre e.body scope (core.seq function.body) (function_posts e.spec.post)) others
+      (meets_pre e.body scope (core.seq function.body) (function_posts e.spec.post) (knows function is))
+      (λ p. met_entry (verdict [] proofs.defines e.spec.pre (assertion_image as_plain p) e.entry)))
+
+  met_known : (e : EntryTree) (o : Option CoreFunctionTree) → slice_get u.functions f ≡ o → MeetsFault (fault_of_known_for resource u proofs o e)
+  met_known e (Some function) is = met_in function e is
+  met_known e None is = met_some (shape []) refl
+
+  met_found : (o : Option EntryTree) → entry_of proofs f ≡ o → MeetsFault (fault_of_entry_for resource u proofs o)
+  met_found (Some e) is = met_known e (slice_get u.functions e.function) (ap (slice_get u.functions) (sym (entry_is_of proofs f e is)))
+  met_found None is = met_some (shape []) refl
+
+  -- the faults of its entry, where the definitions are in order
+  pub met_fault_for : (fault : DerivFault) → function_fault_for resource u proofs f ≡ Some fault → is_met fault ≡ true
+  met_fault_for fault h = (met_found (entry_of proofs f) refl).all fault h
+
 -- ---- what is filled
 
 -- what stands in a part of the entries stands in them
@@ -397,43 +439,9 @@ module _ (u : CoreUnitTree) (fits : unit_fits u ≡ true) (given proofs : Proofs
       (λ (free : has_entry given f ≡ false). found (is_entry_of f) proofs.functions ∙ one_passes (is_entry_of f) proofs.functions (filled.one f b free))
       (cases_Bool (has_entry given f))
 
-  has_spec : (o : Option EntryTree) → is_some o ≡ true → (spec : SpecTree) × (option_map (λ (e : EntryTree). e.spec) o ≡ Some spec)
-  has_spec None h = cc
-  has_spec (Some e) h = (e.spec, refl)
-
-  knows : (function : CoreFunctionTree) (f : ℕ) → slice_get u.functions f ≡ Some function → Knows (scope_of u proofs function) (all_callees function.body)
-  knows function f is g m =
-      let calls : HasCall u f g = ap (λ (o : Option CoreFunctionTree). is_member g (callees_of o)) is ∙ m in
-      let within = calls_within u f g fits calls in
-      let callee = there_at u.functions g within in
-      let spec = has_spec (entry_of proofs g) (has_all g within) in
-      record { function = callee.0; there = callee.1; spec = spec.0; has = spec.1 }
-
-  met_in : IsInOrder proofs.defines → (function : CoreFunctionTree) (e : EntryTree) → slice_get u.functions e.function ≡ Some function → MeetsFault (fault_in u proofs function e)
-  met_in order function e is =
-      let others : AssertionTree → Option DerivFault = λ p. entry_told (verdict [] proofs.defines e.spec.pre (assertion_image as_plain p) e.entry) in
-      met_five (order_told (order_fault proofs.defines)) (mentions_fault in_precondition (first_other function (in_pre function) e.spec.pre))
-      (mentions_fault in_postcondition (first_other function (in_post function) e.spec.post)) (mentions_fault in_postcondition (result_at_end function e.spec.post))
-      (fault_or (λ fault. fault) (pre e.body (scope_of u proofs function) (core.seq function.body) (function_posts e.spec.post)) others)
-      (met_order (order_fault proofs.defines) order)
-      (met_mention in_precondition (first_other function (in_pre function) e.spec.pre))
-      (met_mention in_postcondition (first_other function (in_post function) e.spec.post))
-      (met_mention in_postcondition (result_at_end function e.spec.post))
-      (met_body (pre e.body (scope_of u proofs function) (core.seq function.body) (function_posts e.spec.post)) others
-      (meets_pre e.body (scope_of u proofs function) (core.seq function.body) (function_posts e.spec.post) (knows function e.function is))
-      (λ p. met_entry (verdict [] proofs.defines e.spec.pre (assertion_image as_plain p) e.entry)))
-
-  met_known : IsInOrder proofs.defines → (e : EntryTree) (o : Option CoreFunctionTree) → slice_get u.functions e.function ≡ o → MeetsFault (fault_of_known u proofs o e)
-  met_known order e (Some function) is = met_in order function e is
-  met_known order e None is = met_some (shape []) refl
-
-  met_found : IsInOrder proofs.defines → (o : Option EntryTree) → MeetsFault (fault_of_entry u proofs o)
-  met_found order (Some e) = met_known order e (slice_get u.functions e.function) refl
-  met_found order None = met_some (shape []) refl
-
   -- the faults of entries, where the definitions are in order
   pub met_fault : IsInOrder proofs.defines → (f : ℕ) (fault : DerivFault) → function_fault u proofs f ≡ Some fault → is_met fault ≡ true
-  met_fault order f fault h = (met_found order (entry_of proofs f)).all fault h
+  met_fault order f fault h = met_fault_for Stack u fits proofs order f (λ g calls. has_all g (calls_within u f g fits calls)) fault h
 
 -- ---- where the definitions aren't in order, that is the fault
 

@@ -11,17 +11,13 @@ ghost use Rattle.qs_analyse.specs.Needs.{is_variable_node, one_says_nothing, pat
 
 use crate::needs::{call_part, greatest, put_part};
 use crate::written::{Needs, all_written};
-use qs_assert::{Assertion, Node, TermNode};
+use qs_assert::{Assertion, Node, Room, TermNode};
 use qs_base::{FnId, NoMemory};
 use qs_callgraph::called_by;
 use qs_core::CoreUnit;
 use qs_entail::Certificate;
 use qs_triples::{Derivation, FunctionProof, Spec};
 use std::alloc::Global;
-
-/// The most nodes of a precondition that is added: where it would have more, no memory is found for
-/// it.
-const MOST_NODES: usize = 1 << 24;
 
 // ---- preconditions
 
@@ -107,43 +103,40 @@ fn one_says_nothing(
     Ok(false)
 }
 
-// A copy, if there is room for so many nodes.
-fn copy_within(alloc: Global, a: &Assertion, room: usize) -> Result<Assertion, NoMemory>
+// A copy, if there is room for its nodes.
+fn copy_within(alloc: Global, room: &mut Room, a: &Assertion) -> Result<Assertion, NoMemory>
     ensures { IfOk result (λ copy. copy ≡ a.now) }
 {
-    if a.nodes().len() > room {
-        return Err(NoMemory);
-    }
+    room.take(a.nodes().len())?;
     a.copy(alloc)
 }
 
 fn copied_pre(
     alloc: Global,
+    room: &mut Room,
     entries: &[FunctionProof],
     g: FnId,
-    room: usize,
 ) -> Result<Assertion, NoMemory>
     ensures { IfOk result (λ a. a ≡ filled.pre_of (proofs_of entries.now) g.0) }
 {
     match pre_of(entries, g) {
         None => Assertion::infinity(alloc),
-        Some(a) => copy_within(alloc, a, room),
+        Some(a) => copy_within(alloc, room, a),
     }
 }
 
 // What calls of these need, by their preconditions.
 fn needed_calls(
     alloc: Global,
+    room: &mut Room,
     entries: &[FunctionProof],
     callees: &[FnId],
 ) -> Result<Vec<Assertion>, NoMemory>
     ensures { GivesItems result (path_needs entries.now callees.now) }
 {
     let mut parts = Vec::new(alloc);
-    let mut room = MOST_NODES;
     for g in callees {
-        let need = copied_pre(alloc, entries, *g, room)?;
-        room = room.saturating_sub(need.nodes().len());
+        let need = copied_pre(alloc, room, entries, *g)?;
         put_part(&mut parts, call_part(alloc, *g, need)?)?;
     }
     Ok(parts)
@@ -151,6 +144,7 @@ fn needed_calls(
 
 fn path_pre(
     alloc: Global,
+    room: &mut Room,
     entries: &[FunctionProof],
     callees: &[FnId],
 ) -> Result<Assertion, NoMemory>
@@ -159,7 +153,7 @@ fn path_pre(
     if one_says_nothing(alloc, entries, callees)? {
         return Assertion::infinity(alloc);
     }
-    let parts = needed_calls(alloc, entries, callees)?;
+    let parts = needed_calls(alloc, room, entries, callees)?;
     greatest(alloc, parts)
 }
 
@@ -188,6 +182,7 @@ fn open_entry(alloc: Global, unit: &CoreUnit, f: FnId) -> Result<FunctionProof, 
 
 fn path_entry(
     alloc: Global,
+    room: &mut Room,
     unit: &CoreUnit,
     entries: &[FunctionProof],
     f: FnId,
@@ -196,8 +191,8 @@ fn path_entry(
     ensures { GivesEntry result (path_entry_of unit.now entries.now f.0) }
 {
     let callees = called_by(alloc, unit, f)?;
-    let pre = path_pre(alloc, entries, &callees)?;
-    let post = pre.copy(alloc)?;
+    let pre = path_pre(alloc, room, entries, &callees)?;
+    let post = copy_within(alloc, room, &pre)?;
     Ok(FunctionProof {
         function: f,
         spec: Spec { pre, post },
@@ -208,6 +203,7 @@ fn path_entry(
 
 fn entry_for(
     alloc: Global,
+    room: &mut Room,
     unit: &CoreUnit,
     is_open: &[bool],
     entries: &[FunctionProof],
@@ -220,7 +216,7 @@ fn entry_for(
     if is_open[f.0 as usize] {
         open_entry(alloc, unit, f)
     } else {
-        path_entry(alloc, unit, entries, f)
+        path_entry(alloc, room, unit, entries, f)
     }
 }
 
@@ -234,6 +230,7 @@ fn put_entry(entries: &mut Vec<FunctionProof>, e: FunctionProof) -> Result<(), N
 /// Adds an entry for each of these functions, callees before callers.
 pub fn add_entries(
     alloc: Global,
+    room: &mut Room,
     unit: &CoreUnit,
     is_open: &[bool],
     fs: &[FnId],
@@ -244,7 +241,7 @@ pub fn add_entries(
     ensures { OnOk result (AddsEntries unit.now is_open.now fs.now entries.old entries.new) }
 {
     for f in fs {
-        let entry = entry_for(alloc, unit, is_open, entries, *f)?;
+        let entry = entry_for(alloc, room, unit, is_open, entries, *f)?;
         put_entry(entries, entry)?;
     }
     Ok(())

@@ -11,6 +11,7 @@ ghost use Rattle.qs_analyse.specs.Laws.{DerivesOpen, HasNoCycle};
 
 use crate::definitions::definitions;
 use crate::entries::add_entries;
+use qs_assert::Room;
 use qs_base::{FnId, NoMemory};
 use qs_callgraph::{CycleFault, open, order};
 use qs_core::CoreUnit;
@@ -99,8 +100,10 @@ fn extended(
         mut functions,
     } = proofs;
     let defines = definitions(alloc, unit, &added.opened, defines)?;
+    let mut room = Room::to_keep();
     add_entries(
         alloc,
+        &mut room,
         unit,
         &added.is_open,
         &added.functions,
@@ -111,8 +114,8 @@ fn extended(
 
 /// The proofs with the definitions of the open functions before those that are given, and behind
 /// the entries that are given one for each other function; or a cycle of functions without an
-/// entry, exactly where there is one. What is given stays as it is and in order. A precondition
-/// that would have more than 2^24 nodes is answered as want of memory.
+/// entry, exactly where there is one. What is given stays as it is and in order. Preconditions that
+/// would have more nodes together than there is room for are answered as want of memory.
 pub fn fill(alloc: Global, unit: &CoreUnit, proofs: Proofs) -> Result<Proofs, CycleFault>
     requires { IsFillable (unit_tree unit.now) (proofs_tree proofs) }
     ensures filled { IfProofs result (Filled (unit_tree unit.now) (proofs_tree proofs)) }

@@ -13,6 +13,7 @@ mod listing;
 mod node;
 mod numbers;
 mod order;
+mod room;
 mod sameness;
 mod shape;
 pub mod stack;
@@ -32,6 +33,7 @@ pub use laws::{images_give_values, parts_are_of_their_variables, values_are_of_t
 pub use listing::{put_nodes, put_term};
 pub use node::{AssertionNode, CondNode, Node, TermNode};
 pub use order::order_fault;
+pub use room::{Room, within};
 pub use sameness::same_nodes;
 pub use tree::{Assertion, Cond, Term};
 pub use variable::{NumberType, Var, VarKind};

@@ -43,11 +43,23 @@ impl Node {
     }
 }
 
+/// The most nodes of a list: an assertion of a proof file of 16 MiB has no more.
+const MOST_NODES: usize = 1 << 23;
+
+// That so many more nodes are no more than a list has.
+fn room_for(list: &[Node], more: usize) -> Result<(), NoMemory> {
+    if list.len().saturating_add(more) > MOST_NODES {
+        return Err(NoMemory);
+    }
+    Ok(())
+}
+
 /// Puts the nodes of a term at the end of a list.
 pub fn put_term(list: &mut Vec<Node>, t: &Term) -> Result<(), NoMemory>
     ensures { OnOk result (list.new.items ≡ list.old.items ++ inner_term t.now) }
 {
     let nodes = t.nodes();
+    room_for(list, nodes.len())?;
     for node in nodes {
         list.push(Node::Term(*node))?;
     }
@@ -83,6 +95,7 @@ impl Term {
 pub fn put_nodes(alloc: Global, list: &mut Vec<Node>, nodes: &[Node]) -> Result<(), NoMemory>
     ensures { IfOk result (λ _. list.new.items ≡ list.old.items ++ nodes.now) }
 {
+    room_for(list, nodes.len())?;
     for node in nodes {
         list.push(node.copy(alloc)?)?;
     }

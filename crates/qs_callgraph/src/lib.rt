@@ -16,4 +16,4 @@ pub use callees::called_by;
 pub use fault::CycleFault;
 pub use laws::{one_depth_first, orders_exclude_cycles, orders_exclude_recursion};
 pub use opening::open;
-pub use ordering::order;
+pub use ordering::{order, searched};

@@ -12,9 +12,14 @@ use qs_base::FnId;
 use qs_core::CoreUnit;
 use std::alloc::Global;
 
-// All of them, a function and what it leads to after another.
+/// The members of a graph without a specification, each once, those that one names before it; or a
+/// cycle of such members. It is searched depth first, a member and what it leads to after another.
 #[tactic(auto, using(crate::proofs::StepLaws::not_due, crate::proofs::StepLaws::next_visited))]
-fn searched(alloc: Global, graph: &[Vec<FnId>], has_spec: &[bool]) -> Result<Vec<FnId>, CycleFault>
+pub fn searched(
+    alloc: Global,
+    graph: &[Vec<FnId>],
+    has_spec: &[bool],
+) -> Result<Vec<FnId>, CycleFault>
     requires { IsGraph (number_lists graph.now) has_spec.now }
     ensures order { IfListed result (IsOrderIn (number_lists graph.now) has_spec.now) }
     ensures depth_first { IfListed result (IsDepthFirstIn graph.now has_spec.now) }

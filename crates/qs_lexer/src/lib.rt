@@ -16,5 +16,7 @@ mod words;
 pub use fault::{FaultKind, LexFault};
 pub use laws::{each_terminal, each_token, one_reading};
 pub use literals::text_bytes;
+pub use pieces::Piece;
 pub use reading::{SOURCE_LIMIT, tokens};
+pub use scan::next;
 pub use terminal_list::terminals;

@@ -26,3 +26,4 @@ pub mod NodeLaws
 pub mod WalkLaws
 pub mod LabelLaws
 pub mod EntryLaws
+pub mod RoomLaws

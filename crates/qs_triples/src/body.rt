@@ -6,7 +6,7 @@ ghost use Rattle.qs_triples.specs.Walk.{GivesBefore, body_pre_of, pre_of, sequen
 
 use crate::derivation::Derivation;
 use crate::failure::{Cause, Failure};
-use crate::leaf::leaf_rule;
+use crate::leaf::leaf_pre;
 use crate::nodes::{
     balanced_pre, call_pre, chosen, concluded, conditional_at, loop_at, may_draw, sequence_at,
     switch_at, switched,
@@ -14,14 +14,15 @@ use crate::nodes::{
 use crate::posts::{Posts, Scope, body_posts, step_posts, switch_posts, with_next};
 use crate::switches::{Before, before_part, put};
 use crate::walk::{failed, part};
-use qs_assert::Assertion;
+use qs_assert::{Assertion, Room};
 use qs_core::CoreStmt;
 use std::alloc::Global;
 
-/// What must be free before a statement, by its derivation.
+/// What must be free before a statement, by its derivation. Its nodes are taken from the room.
 #[cycle(pre)]
 pub fn pre(
     alloc: Global,
+    room: &mut Room,
     d: &Derivation,
     c: Scope<'_>,
     s: &CoreStmt,
@@ -30,33 +31,36 @@ pub fn pre(
     ensures { Follows result (pre_of (derivation_tree d.now) c.entry s.now q.entry) }
 {
     match d {
-        Derivation::Leaf => leaf_rule(alloc, s, q),
+        Derivation::Leaf => leaf_pre(alloc, room, s, q),
         Derivation::Sequence(ds) => {
             let parts = sequence_at(alloc, s, ds.len())?;
-            sequence_pre(alloc, ds, c, parts, q)
+            sequence_pre(alloc, room, ds, c, parts, q)
         }
         Derivation::Conditional(first, second) => {
             let branches = conditional_at(alloc, s)?;
-            let a = part(0, pre(alloc, first, c, branches.first, q))?;
-            let b = part(1, pre(alloc, second, c, branches.second, q))?;
-            chosen(alloc, branches.condition, a, b)
+            let a = part(0, pre(alloc, room, first, c, branches.first, q))?;
+            let b = part(1, pre(alloc, room, second, c, branches.second, q))?;
+            chosen(alloc, room, branches.condition, a, b)
         }
         Derivation::Loop(invariant, certificate, body, step) => {
             let turns = loop_at(alloc, c, invariant, s)?;
-            let j = part(1, pre(alloc, step, c, turns.step, step_posts(invariant, q)))?;
-            let p = part(0, pre(alloc, body, c, turns.body, body_posts(&j, q)))?;
+            let j = part(
+                1,
+                pre(alloc, room, step, c, turns.step, step_posts(invariant, q)),
+            )?;
+            let p = part(0, pre(alloc, room, body, c, turns.body, body_posts(&j, q)))?;
             concluded(alloc, c, certificate, invariant, &p)
         }
         Derivation::Switch(ds) => {
             let cases = switch_at(alloc, s, ds.len())?;
-            let before = parts_pre(alloc, ds, c, cases.parts, switch_posts(q))?;
-            switched(alloc, cases, q.next, &before)
+            let before = parts_pre(alloc, room, ds, c, cases.parts, switch_posts(q))?;
+            switched(alloc, room, cases, q.next, &before)
         }
-        Derivation::Call(frame, certificate) => call_pre(alloc, frame, certificate, c, s, q),
-        Derivation::BalancedCall => balanced_pre(alloc, c, s, q),
+        Derivation::Call(frame, certificate) => call_pre(alloc, room, frame, certificate, c, s, q),
+        Derivation::BalancedCall => balanced_pre(alloc, room, c, s, q),
         Derivation::Consequence(r, certificate, inner) => {
             may_draw(alloc, c, r, inner)?;
-            let p = pre(alloc, inner, c, s, q)?;
+            let p = pre(alloc, room, inner, c, s, q)?;
             concluded(alloc, c, certificate, r, &p)
         }
     }
@@ -66,6 +70,7 @@ pub fn pre(
 #[cycle(pre)]
 fn sequence_pre(
     alloc: Global,
+    room: &mut Room,
     ds: &[Derivation],
     c: Scope<'_>,
     ss: &[CoreStmt],
@@ -78,7 +83,7 @@ fn sequence_pre(
     let mut i = ds.len();
     while i > 0 {
         i -= 1;
-        next = part(i, pre(alloc, &ds[i], c, &ss[i], with_next(q, &next)))?;
+        next = part(i, pre(alloc, room, &ds[i], c, &ss[i], with_next(q, &next)))?;
     }
     Ok(next)
 }
@@ -87,6 +92,7 @@ fn sequence_pre(
 #[cycle(pre)]
 fn parts_pre(
     alloc: Global,
+    room: &mut Room,
     ds: &[Derivation],
     c: Scope<'_>,
     ss: &[CoreStmt],
@@ -105,7 +111,14 @@ fn parts_pre(
         };
         let p = part(
             i,
-            pre(alloc, &ds[i], c, &ss[i], with_next(q, before_part(b, 0))),
+            pre(
+                alloc,
+                room,
+                &ds[i],
+                c,
+                &ss[i],
+                with_next(q, before_part(b, 0)),
+            ),
         )?;
         put(&mut before, p)?;
     }
@@ -115,6 +128,7 @@ fn parts_pre(
 /// What must be free before a body, which is a sequence.
 pub fn body_pre(
     alloc: Global,
+    room: &mut Room,
     d: &Derivation,
     c: Scope<'_>,
     body: &[CoreStmt],
@@ -127,11 +141,11 @@ pub fn body_pre(
             if ds.len() != body.len() {
                 return Err(failed(alloc, Cause::Shape));
             }
-            sequence_pre(alloc, ds, c, body, q)
+            sequence_pre(alloc, room, ds, c, body, q)
         }
         Derivation::Consequence(r, certificate, inner) => {
             may_draw(alloc, c, r, inner)?;
-            let p = body_pre(alloc, inner, c, body, q)?;
+            let p = body_pre(alloc, room, inner, c, body, q)?;
             concluded(alloc, c, certificate, r, &p)
         }
         Derivation::Leaf => Err(failed(alloc, Cause::Shape)),

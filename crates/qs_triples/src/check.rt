@@ -17,7 +17,7 @@ use crate::entry::check_entry;
 use crate::fault::DerivFault;
 use crate::posts::Scope;
 use crate::resource::Resource;
-use qs_assert::order_fault;
+use qs_assert::{Room, order_fault};
 use qs_base::FnId;
 use qs_core::{CoreFunction, CoreUnit};
 use std::alloc::Global;
@@ -37,6 +37,7 @@ pub fn defines_in_order(proofs: &Proofs) -> Result<(), DerivFault>
 #[tactic(auto, using(crate::proofs::EntryLaws::known_order))]
 fn check_known(
     alloc: Global,
+    room: &mut Room,
     unit: &CoreUnit,
     resource: Resource,
     function: &CoreFunction,
@@ -55,7 +56,7 @@ fn check_known(
         defines: &proofs.defines,
     };
     match misplaced {
-        None => check_entry(alloc, scope, e),
+        None => check_entry(alloc, room, scope, e),
         Some(first) => Err(DerivFault::BadOrder(first)),
     }
 }
@@ -69,6 +70,7 @@ pub fn function_of(unit: &CoreUnit, f: FnId) -> Option<&CoreFunction>
 
 fn check_found(
     alloc: Global,
+    room: &mut Room,
     unit: &CoreUnit,
     resource: Resource,
     proofs: &Proofs,
@@ -79,7 +81,7 @@ fn check_found(
     ensures { Tells result (found_entry_fault resource unit.now proofs.now e.now) }
 {
     match function_of(unit, e.function) {
-        Some(function) => check_known(alloc, unit, resource, function, proofs, e, misplaced),
+        Some(function) => check_known(alloc, room, unit, resource, function, proofs, e, misplaced),
         None => Err(DerivFault::Shape(Vec::new(alloc))),
     }
 }
@@ -87,6 +89,7 @@ fn check_found(
 // The first entry of a function, where this is the first definition out of order, if there is one.
 fn check_first(
     alloc: Global,
+    room: &mut Room,
     unit: &CoreUnit,
     resource: Resource,
     f: FnId,
@@ -97,7 +100,7 @@ fn check_first(
     ensures { Tells result (first_entry_fault_for resource unit.now f.0 proofs.now) }
 {
     match entry_in(&proofs.functions, f) {
-        Some(e) => check_found(alloc, unit, resource, proofs, e, misplaced),
+        Some(e) => check_found(alloc, room, unit, resource, proofs, e, misplaced),
         None => Err(DerivFault::Shape(Vec::new(alloc))),
     }
 }
@@ -107,6 +110,7 @@ fn check_first(
 #[tactic(auto, using(crate::proofs::EntryLaws::tells_derived))]
 pub fn check_function_for(
     alloc: Global,
+    room: &mut Room,
     unit: &CoreUnit,
     resource: Resource,
     f: FnId,
@@ -117,6 +121,7 @@ pub fn check_function_for(
 {
     check_first(
         alloc,
+        room,
         unit,
         resource,
         f,
@@ -134,6 +139,7 @@ pub fn check_function_for(
 #[tactic(auto, using(crate::proofs::EntryLaws::tells_derived))]
 pub fn check_function(
     alloc: Global,
+    room: &mut Room,
     unit: &CoreUnit,
     f: FnId,
     proofs: &Proofs,
@@ -141,7 +147,7 @@ pub fn check_function(
     ensures exact { Tells result (first_entry_fault unit.now f.0 proofs.now) }
     ensures derived { OnOk result (FirstEntryIsDerived unit.now f.0 proofs.now) }
 {
-    check_function_for(alloc, unit, Resource::Stack, f, proofs)
+    check_function_for(alloc, room, unit, Resource::Stack, f, proofs)
 }
 
 /// Checks that the first entry of a function is derived for what is bounded, where it is known that
@@ -149,6 +155,7 @@ pub fn check_function(
 #[tactic(auto, using(crate::proofs::EntryLaws::tells_derived))]
 pub fn check_in_order_for(
     alloc: Global,
+    room: &mut Room,
     unit: &CoreUnit,
     resource: Resource,
     f: FnId,
@@ -158,7 +165,7 @@ pub fn check_in_order_for(
     ensures exact { Tells result (first_entry_fault_for resource unit.now f.0 proofs.now) }
     ensures derived { OnOk result (FirstEntryIsDerivedFor resource unit.now f.0 proofs.now) }
 {
-    check_first(alloc, unit, resource, f, proofs, None)
+    check_first(alloc, room, unit, resource, f, proofs, None)
 }
 
 /// Checks that the first entry of a function is derived, as `check_function` does, where it is
@@ -166,6 +173,7 @@ pub fn check_in_order_for(
 #[tactic(auto, using(crate::proofs::EntryLaws::tells_derived))]
 pub fn check_in_order(
     alloc: Global,
+    room: &mut Room,
     unit: &CoreUnit,
     f: FnId,
     proofs: &Proofs,
@@ -174,5 +182,5 @@ pub fn check_in_order(
     ensures exact { Tells result (first_entry_fault unit.now f.0 proofs.now) }
     ensures derived { OnOk result (FirstEntryIsDerived unit.now f.0 proofs.now) }
 {
-    check_in_order_for(alloc, unit, Resource::Stack, f, proofs)
+    check_in_order_for(alloc, room, unit, Resource::Stack, f, proofs)
 }

@@ -17,7 +17,7 @@ use crate::fault::{DerivFault, Place};
 use crate::mentions::{Standing, first_of, first_other};
 use crate::posts::{Posts, Scope};
 use crate::replacements::{Replacement, replaced};
-use qs_assert::{Assertion, Var, VarKind};
+use qs_assert::{Assertion, Room, Var, VarKind};
 use qs_base::NoMemory;
 use qs_core::{CoreFunction, CoreStmt};
 use qs_entail::{CertFault, check};
@@ -136,7 +136,12 @@ fn check_certificate(
 }
 
 #[tactic(auto, using(crate::proofs::EntryLaws::tells_behind))]
-fn check_body(alloc: Global, c: Scope<'_>, e: &FunctionProof) -> Result<(), DerivFault>
+fn check_body(
+    alloc: Global,
+    room: &mut Room,
+    c: Scope<'_>,
+    e: &FunctionProof,
+) -> Result<(), DerivFault>
     ensures { Tells result (body_fault (scope_view c.entry) (entry_tree e.now)) }
 {
     let post = &e.spec.post;
@@ -146,7 +151,7 @@ fn check_body(alloc: Global, c: Scope<'_>, e: &FunctionProof) -> Result<(), Deri
         on_continue: post,
         on_return: post,
     };
-    match body_pre(alloc, &e.body, c, &c.function.body, posts) {
+    match body_pre(alloc, room, &e.body, c, &c.function.body, posts) {
         Ok(needed) => check_certificate(alloc, c, e, &needed),
         Err(failure) => Err(told(failure)),
     }
@@ -154,7 +159,12 @@ fn check_body(alloc: Global, c: Scope<'_>, e: &FunctionProof) -> Result<(), Deri
 
 /// Checks the entry of a function, the definitions aside.
 #[tactic(auto, using(crate::proofs::EntryLaws::due_first, crate::proofs::EntryLaws::tells_next))]
-pub fn check_entry(alloc: Global, c: Scope<'_>, e: &FunctionProof) -> Result<(), DerivFault>
+pub fn check_entry(
+    alloc: Global,
+    room: &mut Room,
+    c: Scope<'_>,
+    e: &FunctionProof,
+) -> Result<(), DerivFault>
     ensures { Tells result (first_fault (scope_view c.entry) (entry_tree e.now)) }
 {
     check_mentions(
@@ -172,5 +182,5 @@ pub fn check_entry(alloc: Global, c: Scope<'_>, e: &FunctionProof) -> Result<(),
         &e.spec.post,
     )?;
     check_end(alloc, c.function, &e.spec.post)?;
-    check_body(alloc, c, e)
+    check_body(alloc, room, c, e)
 }

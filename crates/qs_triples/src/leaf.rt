@@ -13,7 +13,7 @@ use crate::mentions::{first_of, first_of_destination};
 use crate::posts::Posts;
 use crate::terms::{expression_term, var};
 use crate::walk::failed;
-use qs_assert::{Assertion, Term, Var, VarKind, substitute};
+use qs_assert::{Assertion, Room, Term, Var, VarKind, substitute, within};
 use qs_calls::Callee;
 use qs_core::{CoreExpr, CoreStmt, Target, type_of};
 use std::alloc::Global;
@@ -97,8 +97,8 @@ fn called(
     }
 }
 
-/// What must be free before a statement of a leaf.
-pub fn leaf_rule(alloc: Global, s: &CoreStmt, q: Posts<'_>) -> Result<Assertion, Failure>
+// What must be free before a statement of a leaf.
+fn leaf_rule(alloc: Global, s: &CoreStmt, q: Posts<'_>) -> Result<Assertion, Failure>
     ensures { Follows result (rules.leaf_rule (core_stmt s.now) (posts_view q.entry)) }
 {
     match s {
@@ -116,4 +116,18 @@ pub fn leaf_rule(alloc: Global, s: &CoreStmt, q: Posts<'_>) -> Result<Assertion,
         CoreStmt::Loop(_, _) => Err(failed(alloc, Cause::Shape)),
         CoreStmt::Switch(_, _, _) => Err(failed(alloc, Cause::Shape)),
     }
+}
+
+/// What must be free before a statement of a leaf, where there is room for it.
+#[tactic(auto, using(crate::proofs::RoomLaws::failure_follows, crate::proofs::RoomLaws::needed_follows))]
+pub fn leaf_pre(
+    alloc: Global,
+    room: &mut Room,
+    s: &CoreStmt,
+    q: Posts<'_>,
+) -> Result<Assertion, Failure>
+    ensures { Follows result (rules.leaf_rule (core_stmt s.now) (posts_view q.entry)) }
+{
+    let needed = leaf_rule(alloc, s, q)?;
+    Ok(within(room, needed)?)
 }

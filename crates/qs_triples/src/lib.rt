@@ -35,3 +35,4 @@ pub use laws::derivations_bound_runs;
 pub use posts::{Posts, Scope, body_posts, step_posts, with_next};
 pub use replacements::{Replacement, replaced};
 pub use resource::Resource;
+pub use terms::{expression_condition, expression_term};

@@ -22,7 +22,7 @@ use crate::resource::Resource;
 use crate::switches::{Before, by_labels};
 use crate::terms::expression_condition;
 use crate::walk::failed;
-use qs_assert::Assertion;
+use qs_assert::{Assertion, Room, within};
 use qs_core::{CoreExpr, CoreStmt};
 use qs_entail::Certificate;
 use std::alloc::Global;
@@ -140,16 +140,24 @@ pub fn concluded(
 }
 
 /// What the branches of a conditional need.
-pub fn chosen(alloc: Global, e: &CoreExpr, a: Assertion, b: Assertion) -> Result<Assertion, Failure>
+pub fn chosen(
+    alloc: Global,
+    room: &mut Room,
+    e: &CoreExpr,
+    a: Assertion,
+    b: Assertion,
+) -> Result<Assertion, Failure>
     ensures { Follows result (Ok (rules.either (expression_condition (core_expr e.now)) a b)) }
 {
     let condition = expression_condition(alloc, e)?;
-    Ok(either(alloc, condition, a, b)?)
+    let needed = either(alloc, condition, a, b)?;
+    Ok(within(room, needed)?)
 }
 
 /// What a switch needs, by what its parts need, the last one first.
 pub fn switched(
     alloc: Global,
+    room: &mut Room,
     cases: Cases<'_>,
     next: &Assertion,
     before: &[Assertion],
@@ -160,12 +168,15 @@ pub fn switched(
         next,
         parts: before,
     };
-    Ok(by_labels(alloc, b, cases.operand, cases.labels)?)
+    let needed = by_labels(alloc, room, b, cases.operand, cases.labels)?;
+    Ok(within(room, needed)?)
 }
 
 /// What must be free before a call with a frame.
+#[tactic(auto, using(crate::proofs::RoomLaws::failure_follows, crate::proofs::RoomLaws::needed_follows))]
 pub fn call_pre(
     alloc: Global,
+    room: &mut Room,
     frame: &Assertion,
     certificate: &Certificate,
     c: Scope<'_>,
@@ -178,13 +189,16 @@ pub fn call_pre(
         return Err(failed(alloc, Cause::Shape));
     };
     let k = known_callee(alloc, c, site.function)?;
-    call_rule(alloc, c, q, frame, certificate, site, k)
+    let needed = call_rule(alloc, c, q, frame, certificate, site, k)?;
+    Ok(within(room, needed)?)
 }
 
 /// What must be free before a call of a function that gives back what it takes, as none does where
 /// calls are counted.
+#[tactic(auto, using(crate::proofs::RoomLaws::failure_follows, crate::proofs::RoomLaws::needed_follows))]
 pub fn balanced_pre(
     alloc: Global,
+    room: &mut Room,
     c: Scope<'_>,
     s: &CoreStmt,
     q: Posts<'_>,
@@ -198,7 +212,8 @@ pub fn balanced_pre(
                 return Err(failed(alloc, Cause::Shape));
             };
             let k = known_callee(alloc, c, site.function)?;
-            balanced_rule(alloc, q, site, k)
+            let needed = balanced_rule(alloc, q, site, k)?;
+            Ok(within(room, needed)?)
         }
     }
 }

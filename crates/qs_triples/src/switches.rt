@@ -8,7 +8,7 @@ ghost use Rattle.qs_triples.specs.Switches.{at_cases_view, before_view, case_nee
 ghost use Rattle.qs_triples.specs.Switches.{label_needs};
 
 use crate::terms::expression_term;
-use qs_assert::{Assertion, AssertionNode, Cond, Node, Term, put_nodes};
+use qs_assert::{Assertion, AssertionNode, Cond, Node, Room, Term, put_nodes};
 use qs_base::NoMemory;
 use qs_core::{CoreExpr, CoreLabel, default_part, literal_value, type_of};
 use qs_memory::Scalar;
@@ -130,6 +130,7 @@ fn put_copy(alloc: Global, list: &mut Vec<Assertion>, a: &Assertion) -> Result<(
 // What is needed at a label, if it is a case.
 fn put_need(
     alloc: Global,
+    room: &mut Room,
     list: &mut Vec<Assertion>,
     b: Before<'_>,
     label: CoreLabel,
@@ -137,7 +138,11 @@ fn put_need(
     ensures { OnOk result (list.new.items ≡ list.old.items ++ case_need (before_view b.entry) label) }
 {
     match label {
-        CoreLabel::Case { part, .. } => put_copy(alloc, list, before_part(b, part as usize)),
+        CoreLabel::Case { part, .. } => {
+            let need = before_part(b, part as usize);
+            room.take(need.nodes().len())?;
+            put_copy(alloc, list, need)
+        }
         CoreLabel::Default { .. } => Ok(()),
     }
 }
@@ -146,6 +151,7 @@ fn put_need(
 #[tactic(auto, using(crate::proofs::LabelLaws::cases_at))]
 fn at_cases(
     alloc: Global,
+    room: &mut Room,
     d: &Assertion,
     b: Before<'_>,
     labels: &[CoreLabel],
@@ -154,7 +160,7 @@ fn at_cases(
 {
     let mut list = Vec::new(alloc);
     for label in labels {
-        put_need(alloc, &mut list, b, *label)?;
+        put_need(alloc, room, &mut list, b, *label)?;
     }
     put_copy(alloc, &mut list, d)?;
     Ok(list)
@@ -165,6 +171,7 @@ fn at_cases(
 #[tactic(auto, using(crate::proofs::LabelLaws::cases_listed))]
 fn by_term(
     alloc: Global,
+    room: &mut Room,
     d: &Assertion,
     b: Before<'_>,
     s: Scalar,
@@ -175,13 +182,14 @@ fn by_term(
 {
     match t {
         Some(t) => by_values(alloc, d, b, s, &t, labels),
-        None => Assertion::greatest(alloc, &at_cases(alloc, d, b, labels)?),
+        None => Assertion::greatest(alloc, &at_cases(alloc, room, d, b, labels)?),
     }
 }
 
 /// What a switch needs, by what its parts need.
 pub fn by_labels(
     alloc: Global,
+    room: &mut Room,
     b: Before<'_>,
     e: &CoreExpr,
     labels: &[CoreLabel],
@@ -193,5 +201,5 @@ pub fn by_labels(
         return d.copy(alloc);
     }
     let t = expression_term(alloc, e)?;
-    by_term(alloc, d, b, type_of(e), t, labels)
+    by_term(alloc, room, d, b, type_of(e), t, labels)
 }

@@ -3,25 +3,26 @@ use Rattle.std.proofs.Common.{ℕ, List, Option}
 use Rattle.qs_assert.specs.Order.{IsInOrder}
 use Rattle.qs_core.specs.Trees.{CoreUnitTree}
 use Rattle.qs_triples.specs.Derivations.{ProofsTree}
+use Rattle.qs_triples.specs.declared.resource.Resource.{Resource}
 use Rattle.qs_certify.specs.Given.{GivenIs}
-use Rattle.qs_certify.specs.Entries.{IsEntryFault}
-use Rattle.qs_certify.specs.Certification.{AreWrong, CannotCertify, CannotComplete, IsCycleFault, IsOrderFault, IsTextFault}
+use Rattle.qs_certify.specs.Entries.{IsEntryFaultFor}
+use Rattle.qs_certify.specs.Certification.{AreWrongFor, CannotCertify, CannotComplete, IsCycleFault, IsOrderFault, IsTextFault}
 use Rattle.qs_certify.specs.declared.fault.CertifyFault.{CertifyFault}
 use Rattle.qs_certify.specs.declared.fault.CertifyFault.TheVariants.{NoMemory, Text, Cycle, Order, Entry}
 
-pub order_is_wrong : (u : CoreUnitTree) (proofs : ProofsTree) (fs : List ℕ) (fault : CertifyFault) → IsOrderFault proofs.defines fault → AreWrong u proofs fs fault
-order_is_wrong u proofs fs NoMemory h = tt
-order_is_wrong u proofs fs (Text fault) h = h
-order_is_wrong u proofs fs (Cycle gs) h = h
-order_is_wrong u proofs fs (Order name) h = h
-order_is_wrong u proofs fs (Entry f fault) h = absurd h
+pub order_is_wrong : (resource : Resource) (u : CoreUnitTree) (proofs : ProofsTree) (fs : List ℕ) (fault : CertifyFault) → IsOrderFault proofs.defines fault → AreWrongFor resource u proofs fs fault
+order_is_wrong resource u proofs fs NoMemory h = tt
+order_is_wrong resource u proofs fs (Text fault) h = h
+order_is_wrong resource u proofs fs (Cycle gs) h = h
+order_is_wrong resource u proofs fs (Order name) h = h
+order_is_wrong resource u proofs fs (Entry f fault) h = absurd h
 
-pub entry_is_wrong : (u : CoreUnitTree) (proofs : ProofsTree) (fs : List ℕ) (fault : CertifyFault) → IsInOrder proofs.defines → IsEntryFault u proofs fs fault → AreWrong u proofs fs fault
-entry_is_wrong u proofs fs NoMemory order h = tt
-entry_is_wrong u proofs fs (Text fault) order h = h
-entry_is_wrong u proofs fs (Cycle gs) order h = h
-entry_is_wrong u proofs fs (Order name) order h = absurd h
-entry_is_wrong u proofs fs (Entry f fault) order h = record { in_order = order; first = h }
+pub entry_is_wrong : (resource : Resource) (u : CoreUnitTree) (proofs : ProofsTree) (fs : List ℕ) (fault : CertifyFault) → IsInOrder proofs.defines → IsEntryFaultFor resource u proofs fs fault → AreWrongFor resource u proofs fs fault
+entry_is_wrong resource u proofs fs NoMemory order h = tt
+entry_is_wrong resource u proofs fs (Text fault) order h = h
+entry_is_wrong resource u proofs fs (Cycle gs) order h = h
+entry_is_wrong resource u proofs fs (Order name) order h = absurd h
+entry_is_wrong resource u proofs fs (Entry f fault) order h = record { in_order = order; first = h }
 
 pub cycle_fails : (u : CoreUnitTree) (given : ProofsTree) (fault : CertifyFault) → IsCycleFault u given fault → CannotComplete u given fault
 cycle_fails u given NoMemory h = tt

@@ -9,16 +9,18 @@ use Rattle.qs_core.specs.Fits.{unit_fits}
 use Rattle.qs_core.specs.Trees.{CoreUnitTree}
 use Rattle.qs_core.specs.CallGraph.{is_member}
 use Rattle.qs_triples.specs.Derivations.{EntryTree, ProofsTree, is_entry_of}
-use Rattle.qs_triples.specs.Entries.{has_entry, fault_of_entry, function_fault, Covers}
+use Rattle.qs_triples.specs.Entries.{has_entry, fault_of_entry, function_fault_for, Covers}
 use Rattle.qs_triples.specs.Rules.{DerivFault}
 use Rattle.qs_triples.specs.TreeOf.{entry_tree, proofs_tree}
 use Rattle.qs_triples.specs.declared.derivation.Proofs.{Proofs}
+use Rattle.qs_triples.specs.declared.resource.Resource.{Resource}
+use Rattle.qs_triples.specs.declared.resource.Resource.TheVariants.{Stack}
 use Rattle.qs_callgraph.specs.CallLists.{numbers}
 use Rattle.qs_analyse.specs.Fillable.{IsFillable, entry_functions}
 use Rattle.qs_analyse.specs.Laws.{GivenAreDerived}
 use Rattle.qs_analyse.proofs.AddedLaws.{found}
 use Rattle.qs_analyse.proofs.CoverLaws.{filled_proofs_cover}
-use Rattle.qs_certify.specs.Entries.{EntryFault, fault_or_next, first_fault}
+use Rattle.qs_certify.specs.Entries.{EntryFault, fault_or_next, first_fault, first_fault_for}
 use Rattle.qs_certify.specs.Certification.{AreAll, AreRight, CannotComplete, AreWrong, IsCompleted}
 use Rattle.qs_certify.specs.declared.fault.CertifyFault.{CertifyFault}
 use Rattle.qs_certify.specs.declared.fault.CertifyFault.TheVariants.{NoMemory, Text, Cycle, Order, Entry}
@@ -38,19 +40,19 @@ none_first : (f : ℕ) (o : Option DerivFault) (next : Option EntryFault) → fa
 none_first f None next h = (refl, h)
 none_first f (Some d) next h = cc
 
-all_derived : (u : CoreUnitTree) (proofs : ProofsTree) (fs : List ℕ) (f : ℕ) → first_fault u proofs fs ≡ None → is_member f fs ≡ true → function_fault u proofs f ≡ None
-all_derived u proofs [] f none m = cc
-all_derived u proofs (g ∷ fs) f none m =
-    let two = none_first g (function_fault u proofs g) (first_fault u proofs fs) none in
-    by (g == f) refl m two.0 (all_derived u proofs fs f two.1)
+pub all_derived : (resource : Resource) (u : CoreUnitTree) (proofs : ProofsTree) (fs : List ℕ) (f : ℕ) → first_fault_for resource u proofs fs ≡ None → is_member f fs ≡ true → function_fault_for resource u proofs f ≡ None
+all_derived resource u proofs [] f none m = cc
+all_derived resource u proofs (g ∷ fs) f none m =
+    let two = none_first g (function_fault_for resource u proofs g) (first_fault_for resource u proofs fs) none in
+    by (g == f) refl m two.0 (all_derived resource u proofs fs f two.1)
   where
-    by : (b : Bool) → (g == f) ≡ b → (b || is_member f fs) ≡ true → function_fault u proofs g ≡ None → (is_member f fs ≡ true → function_fault u proofs f ≡ None) → function_fault u proofs f ≡ None
-    by true is m here others = ap (function_fault u proofs) (sym (eqb-true g f is)) ∙ here
+    by : (b : Bool) → (g == f) ≡ b → (b || is_member f fs) ≡ true → function_fault_for resource u proofs g ≡ None → (is_member f fs ≡ true → function_fault_for resource u proofs f ≡ None) → function_fault_for resource u proofs f ≡ None
+    by true is m here others = ap (function_fault_for resource u proofs) (sym (eqb-true g f is)) ∙ here
     by false is m here others = others m
 
 pub given_derived : (u : CoreUnitTree) (given proofs : ProofsTree) → first_fault u proofs (entry_functions given.functions) ≡ None → GivenAreDerived u given proofs
 given_derived u given proofs none f e within has is =
-    ap (fault_of_entry u proofs) (sym is) ∙ all_derived u proofs (entry_functions given.functions) f none (sym (has_member given f) ∙ has)
+    ap (fault_of_entry u proofs) (sym is) ∙ all_derived Stack u proofs (entry_functions given.functions) f none (sym (has_member given f) ∙ has)
 
 -- ---- all proofs
 

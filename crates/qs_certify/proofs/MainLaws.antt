@@ -25,13 +25,15 @@ use Rattle.qs_core.specs.Units.{initial_memory, main_run}
 use Rattle.qs_core.proofs.FitLaws.{unit_parts, function_at_fits}
 use Rattle.qs_core.proofs.InitialLaws.{initial_memory_is_ready}
 use Rattle.qs_triples.specs.Derivations.{EntryTree, ProofsTree, is_entry_of, entry_of}
-use Rattle.qs_triples.specs.Entries.{IsDerived, IsPathEntry, IsValid, Covers}
+use Rattle.qs_triples.specs.Entries.{AreClosed, IsDerivedFor, IsDerived, IsPathEntry, IsValid, Covers}
+use Rattle.qs_triples.specs.declared.resource.Resource.{Resource}
+use Rattle.qs_triples.specs.declared.resource.Resource.TheVariants.{Stack}
 use Rattle.qs_triples.specs.Filled.{pre_in, pre_of}
 use Rattle.qs_triples.specs.Mentions.{may_mention, in_pre}
 use Rattle.qs_triples.specs.Valuations.{is_own, number_at, at_entry, value_at_entry}
 use Rattle.qs_triples.proofs.Answers.{none_found}
 use Rattle.qs_triples.proofs.BoundLaws.{derivations_bound_runs}
-use Rattle.qs_triples.proofs.FunctionLaws.{entry_is_of, derived_parts}
+use Rattle.qs_triples.proofs.FunctionLaws.{entry_is_of, derived_parts_for}
 use Rattle.qs_triples.proofs.Names.{seen, state_is}
 use Rattle.qs_certify.specs.Bound.{main_need, costs_of, values_of, AreNumbersOf, AreArguments}
 use Rattle.qs_certify.specs.Laws.{BoundsAreNeeds, MainBoundsRuns}
@@ -68,27 +70,32 @@ entry_there (d ∷ es) g h = by (is_entry_of g d) refl (entry_there es g)
         let r = others (sym (ap (λ b. length (cond b (d ∷ filter (is_entry_of g) es) (filter (is_entry_of g) es))) is) ∙ h) in
         (r.0, ap (λ b. cond b (Some d) (find (is_entry_of g) es)) is ∙ r.1)
 
--- the precondition of a valid entry mentions only parameters
+-- the precondition of a derived entry mentions only parameters
+pub derived_mentions :
+    (resource : Resource) (u : CoreUnitTree) (proofs : ProofsTree) (f : CoreFunctionTree) (e : EntryTree) → slice_get u.functions e.function ≡ Some f
+    → IsDerivedFor resource u proofs e → (x : Var) → mentions e.spec.pre x ≡ true → may_mention f (in_pre f) x ≡ true
+derived_mentions resource u proofs f e is d x mention =
+    not-false (may_mention f (in_pre f) x)
+    (none_found (λ x. not (may_mention f (in_pre f) x)) (variables e.spec.pre) x (derived_parts_for resource u proofs f e is d).pre_mentions mention)
+
+-- and so does that of a valid one
 mentions_parameters :
     (u : CoreUnitTree) (proofs : ProofsTree) (f : CoreFunctionTree) (e : EntryTree) → slice_get u.functions e.function ≡ Some f → IsValid u proofs e
     → (x : Var) → mentions e.spec.pre x ≡ true → may_mention f (in_pre f) x ≡ true
 mentions_parameters u proofs f e is valid x mention =
-    ⊎_elim
-    (λ (d : IsDerived u proofs e).
-    not-false (may_mention f (in_pre f) x)
-    (none_found (λ x. not (may_mention f (in_pre f) x)) (variables e.spec.pre) x (derived_parts u proofs f e is d).pre_mentions mention))
+    ⊎_elim (λ (d : IsDerived u proofs e). derived_mentions Stack u proofs f e is d x mention)
     (λ (p : IsPathEntry u proofs e).
     absurd (let none = ap (λ (xs : List Var). list_any (λ y. same_variable y x) xs) p.closed in let never : ⊥ = cc in never))
     valid
 
 -- ---- main
 
-record Main (u : CoreUnitTree) : Type 0 where
-  function : CoreFunctionTree
-  is : slice_get u.functions u.main ≡ Some function
-  promoted : list_all is_promoted (parameter_types function) ≡ true
+pub record Main (u : CoreUnitTree) : Type 0 where
+  pub function : CoreFunctionTree
+  pub is : slice_get u.functions u.main ≡ Some function
+  pub promoted : list_all is_promoted (parameter_types function) ≡ true
 
-main_there : (u : CoreUnitTree) → unit_fits u ≡ true → Main u
+pub main_there : (u : CoreUnitTree) → unit_fits u ≡ true → Main u
 main_there u fits = by (slice_get u.functions u.main) refl (unit_parts u fits).main
   where
     by : (o : Option CoreFunctionTree) → slice_get u.functions u.main ≡ o → is_main o ≡ true → Main u
@@ -96,38 +103,30 @@ main_there u fits = by (slice_get u.functions u.main) refl (unit_parts u fits).m
     by (Some f) is main =
         record { function = f; is = is; promoted = (and_parts (bytes_eq f.name main_name && is_type f.result_type scalars.Int) (list_all is_promoted (parameter_types f)) main).1 }
 
-module _ (u : CoreUnitTree) (fits : unit_fits u ≡ true) (given proofs : ProofsTree) (covers : Covers u given proofs) (costs : List ℕ) (zs : List ℤ) (are : AreArguments u zs) where
+-- main's entry, whose precondition mentions only parameters
+pub record HasMain (u : CoreUnitTree) (proofs : ProofsTree) (f : CoreFunctionTree) : Type 0 where
+  pub entry_tree : EntryTree
+  pub stands : entry_of proofs u.main ≡ Some entry_tree
+  pub parameters : (x : Var) → mentions entry_tree.spec.pre x ≡ true → may_mention f (in_pre f) x ≡ true
+
+-- main at these arguments, whatever its entry bounds
+module _ (u : CoreUnitTree) (fits : unit_fits u ≡ true) (proofs : ProofsTree) (closed : AreClosed proofs.defines) (entry : HasMain u proofs (main_there u fits).function) (costs : List ℕ) (zs : List ℤ) (are : AreArguments u zs) where
   abbrev main : Main u
   main = main_there u fits
 
   abbrev f : CoreFunctionTree
   f = main.function
 
-  within : u.main < length u.functions
-  within = slice_get_within u.functions u.main f main.is
-
-  abbrev found : (e : EntryTree) × (find (is_entry_of u.main) proofs.functions ≡ Some e)
-  found = entry_there proofs.functions u.main (covers.one u.main within)
-
   abbrev e : EntryTree
-  e = found.0
-
-  has : entry_of proofs u.main ≡ Some e
-  has = found.1
+  e = entry.entry_tree
 
   numbers_are : AreNumbersOf (parameter_types f) zs
   numbers_are = subst (λ (o : Option CoreFunctionTree). AreNumbersOf (types_of_main o) zs) main.is are
 
-  valid : IsValid u proofs e
-  valid = covers.valid u.main e within has
-
-  here : slice_get u.functions e.function ≡ Some f
-  here = ap (slice_get u.functions) (entry_is_of proofs u.main e has) ∙ main.is
-
   -- the number of a parameter is the same before the run as at its entry
   same_number : (x : Var) → mentions e.spec.pre x ≡ true → argument zs x.kind ≡ number_at f (at_entry f (values_of zs)) x
   same_number x mention =
-      let may = and_parts (in_pre f x.kind) (is_own f x) (mentions_parameters u proofs f e here valid x mention) in
+      let may = and_parts (in_pre f x.kind) (is_own f x) (entry.parameters x mention) in
       argument_number f zs (function_at_fits u fits u.main f main.is).parameters numbers_are x.kind x.number may.0 may.1
 
   -- before the run, where definitions have their values
@@ -135,40 +134,59 @@ module _ (u : CoreUnitTree) (fits : unit_fits u ≡ true) (given proofs : Proofs
   before = seen (costs_of costs) proofs.defines (λ x. argument zs x.kind)
 
   state_before : (with_definitions proofs.defines (setting_at zs costs)).state ≡ before
-  state_before = state_is (costs_of costs) proofs.defines covers.closed (λ x. argument zs x.kind)
+  state_before = state_is (costs_of costs) proofs.defines closed (λ x. argument zs x.kind)
 
   same_value : value e.spec.pre before ≡ value_at_entry (costs_of costs) proofs.defines f (values_of zs) e.spec.pre
   same_value =
       of_its_variables e.spec.pre before (λ x. argument zs x.kind) (number_at f (at_entry f (values_of zs))) same_number
-      ∙ sym (ap (value e.spec.pre) (state_is (costs_of costs) proofs.defines covers.closed (number_at f (at_entry f (values_of zs)))))
+      ∙ sym (ap (value e.spec.pre) (state_is (costs_of costs) proofs.defines closed (number_at f (at_entry f (values_of zs)))))
 
   -- the cost of main and what it needs
   abbrev whole : State → Extended
   whole s = plus (finite (s.costs u.main)) (plus (value (pre_of proofs u.main) s) (finite 0))
 
-  bound_is :
+  pub bound_is :
       (bound : ℕ) → main_need u proofs costs zs ≡ finite bound
       → plus (finite (costs_of costs u.main)) (value_at_entry (costs_of costs) proofs.defines f (values_of zs) e.spec.pre) ≡ finite bound
   bound_is bound is =
-      let pre : pre_of proofs u.main ≡ e.spec.pre = ap pre_in has in
+      let pre : pre_of proofs u.main ≡ e.spec.pre = ap pre_in entry.stands in
       ap (plus (finite (costs_of costs u.main))) (sym same_value ∙ ap (λ (a : AssertionTree). value a before) (sym pre) ∙ sym (plus_zero (value (pre_of proofs u.main) before)))
       ∙ sym (ap whole state_before) ∙ is
 
-  may : (input : List ℕ) → All (λ byte. byte < 256) input → MayStart (interface_of u) u.main (values_of zs) (record { memory = initial_memory u; input = input })
-  may input bytes =
-      let known : slice_get (interface_of u).functions u.main ≡ Some (signature f) = slice_get-map signature u.functions u.main ∙ ap (option_map signature) main.is in
-      record {
-        takes = subst (λ (o : Option Signature). Takes (initial_memory u) o (values_of zs)) (sym known) (values_are (initial_memory u) (parameter_types f) zs main.promoted numbers_are);
-        ready = initial_memory_is_ready u input fits bytes;
-      }
+pub main_may :
+    (u : CoreUnitTree) (fits : unit_fits u ≡ true) (zs : List ℤ) → AreArguments u zs → (input : List ℕ) → All (λ byte. byte < 256) input
+    → MayStart (interface_of u) u.main (values_of zs) (record { memory = initial_memory u; input = input })
+main_may u fits zs are input bytes =
+    let main = main_there u fits in
+    let known : slice_get (interface_of u).functions u.main ≡ Some (signature main.function) = slice_get-map signature u.functions u.main ∙ ap (option_map signature) main.is in
+    let numbers = subst (λ (o : Option CoreFunctionTree). AreNumbersOf (types_of_main o) zs) main.is are in
+    record {
+      takes = subst (λ (o : Option Signature). Takes (initial_memory u) o (values_of zs)) (sym known) (values_are (initial_memory u) (parameter_types main.function) zs main.promoted numbers);
+      ready = initial_memory_is_ready u input fits bytes;
+    }
+
+-- ---- on the stack
+
+main_entry : (u : CoreUnitTree) (fits : unit_fits u ≡ true) (given proofs : ProofsTree) → Covers u given proofs → HasMain u proofs (main_there u fits).function
+main_entry u fits given proofs covers =
+    let main = main_there u fits in
+    let within = slice_get_within u.functions u.main main.function main.is in
+    let found = entry_there proofs.functions u.main (covers.one u.main within) in
+    let here : slice_get u.functions found.0.function ≡ Some main.function = ap (slice_get u.functions) (entry_is_of proofs u.main found.0 found.1) ∙ main.is in
+    record {
+      entry_tree = found.0;
+      stands = found.1;
+      parameters = mentions_parameters u proofs main.function found.0 here (covers.valid u.main found.0 within found.1);
+    }
 
 pub main_bounds_runs : MainBoundsRuns
 main_bounds_runs u given proofs costs zs bound fits covers are is input n bytes =
     let main = main_there u fits in
+    let entry = main_entry u fits given proofs covers in
     let world : World = record { memory = initial_memory u; input = input } in
-    subst (λ (v : Extended). AtLeast v (finite (run_weight (costs_of costs) (main_run u (values_of zs) input n)))) (bound_is u fits given proofs covers costs zs are bound is)
-    (derivations_bound_runs u given proofs u.main main.function (e u fits given proofs covers costs zs are) (values_of zs) world fits covers main.is (has u fits given proofs covers costs zs are)
-    (may u fits given proofs covers costs zs are input bytes) (costs_of costs) n)
+    subst (λ (v : Extended). AtLeast v (finite (run_weight (costs_of costs) (main_run u (values_of zs) input n)))) (bound_is u fits proofs covers.closed entry costs zs are bound is)
+    (derivations_bound_runs u given proofs u.main main.function entry.entry_tree (values_of zs) world fits covers main.is entry.stands
+    (main_may u fits zs are input bytes) (costs_of costs) n)
 
 -- ---- for every stack metric
 
@@ -186,15 +204,14 @@ pub record BoundsMain (u : CoreUnitTree) (proofs : ProofsTree) : Type 0 where
 pub entry_bounds_runs : (u : CoreUnitTree) (given proofs : ProofsTree) → unit_fits u ≡ true → Covers u given proofs → BoundsMain u proofs
 entry_bounds_runs u given proofs fits covers =
     let main = main_there u fits in
-    let within = slice_get_within u.functions u.main main.function main.is in
-    let entry = entry_there proofs.functions u.main (covers.one u.main within) in
+    let entry = main_entry u fits given proofs covers in
     record {
       main = main.function;
       is_main = main.is;
-      entry = entry.0;
-      stands = entry.1;
+      entry = entry.entry_tree;
+      stands = entry.stands;
       bounds = λ cost zs input n are bytes.
           let world : World = record { memory = initial_memory u; input = input } in
-          derivations_bound_runs u given proofs u.main main.function entry.0 (values_of zs) world fits covers main.is entry.1
-          (may u fits given proofs covers [] zs are input bytes) cost n;
+          derivations_bound_runs u given proofs u.main main.function entry.entry_tree (values_of zs) world fits covers main.is entry.stands
+          (main_may u fits zs are input bytes) cost n;
     }

@@ -10,6 +10,7 @@ use Rattle.qs_core.specs.Trees.{CoreUnitTree}
 use Rattle.qs_triples.specs.Derivations.{ProofsTree, is_entry_of, entry_of}
 use Rattle.qs_triples.specs.Entries.{has_entry, fault_of_entry, function_fault, Covers}
 use Rattle.qs_triples.specs.declared.fault.DerivFault.{DerivFault}
+use Rattle.qs_triples.specs.declared.resource.Resource.TheVariants.{Stack}
 use Rattle.qs_callgraph.specs.CallLists.{numbers}
 use Rattle.qs_analyse.specs.Fillable.{entry_functions}
 use Rattle.qs_analyse.specs.Laws.{GivenAreDerived}
@@ -83,7 +84,7 @@ order_is_told u file given name is h = record {
 module _ (u : CoreUnitTree) (file : Option (List ℕ)) (given : ProofsTree) (f : ℕ) (fault : DerivFault) (is : GivenIs u file given) (h : IsNotDerived u given f fault) where
   never_derived : Covers u given h.proofs → ⊥
   never_derived covers =
-      let one = first_is_one u h.proofs (entry_functions given.functions) (record { function = f; fault = h.first.fault }) h.first.first in
+      let one = first_is_one Stack u h.proofs (entry_functions given.functions) (record { function = f; fault = h.first.fault }) h.first.first in
       let has : has_entry given f ≡ true = has_member given f ∙ one.there in
       let e = some_entry (entry_of h.proofs f) (given_stays u given h.proofs h.all.filled f has) in
       let none : function_fault u h.proofs f ≡ None =

@@ -12,15 +12,17 @@ use Rattle.qs_prooftext_meaning.specs.Reading.{Fault}
 use Rattle.qs_prooftext_meaning.specs.declared.fault.TextFault.{TextFault}
 use Rattle.qs_prooftext_meaning.proofs.OneMeaning as meanings
 use Rattle.qs_triples.specs.Derivations.{ProofsTree, entry_of}
-use Rattle.qs_triples.specs.Entries.{has_entry, fault_of_entry, function_fault}
+use Rattle.qs_triples.specs.Entries.{has_entry, fault_of_entry, function_fault, function_fault_for}
 use Rattle.qs_triples.specs.Filled.{Filled}
+use Rattle.qs_triples.specs.declared.resource.Resource.{Resource}
+use Rattle.qs_triples.specs.declared.resource.Resource.TheVariants.{Stack}
 use Rattle.qs_callgraph.specs.CallLists.{numbers}
 use Rattle.qs_callgraph.proofs.MemberLaws.{member_first}
 use Rattle.qs_analyse.specs.Fillable.{entry_functions}
 use Rattle.qs_analyse.specs.Laws.{GivenAreDerived, HasNoCycle}
 use Rattle.qs_analyse.proofs.MeetLaws.{given_stays}
 use Rattle.qs_certify.specs.Given.{GivenIs}
-use Rattle.qs_certify.specs.Entries.{EntryFault, fault_or_next, first_fault}
+use Rattle.qs_certify.specs.Entries.{EntryFault, fault_or_next, first_fault, first_fault_for}
 use Rattle.qs_certify.specs.Certification.{AreAll, CannotCertify, IsCycleFault}
 use Rattle.qs_certify.specs.Laws.{TextFaultsAreTold, CyclesAreTold, AreRightProofs, RightProofsAreCertified, UnitsWithoutRecursionAreCertified}
 use Rattle.qs_certify.specs.declared.fault.CertifyFault.{CertifyFault}
@@ -77,6 +79,17 @@ cycles_are_told u file given fs is cycle = record {
 
 -- ---- right proofs
 
+-- where the entry of each of these functions is derived, none is the first that isn't
+pub none_among : (resource : Resource) (u : CoreUnitTree) (proofs : ProofsTree) (fs : List ℕ) → ((f : ℕ) → is_member f fs ≡ true → function_fault_for resource u proofs f ≡ None) → first_fault_for resource u proofs fs ≡ None
+none_among resource u proofs [] none = refl
+none_among resource u proofs (f ∷ fs) none =
+    ap (λ o. fault_or_next f o (first_fault_for resource u proofs fs)) (none f (member_first f fs))
+    ∙ none_among resource u proofs fs (λ g m. none g (ap (λ (b : Bool). (f == g) || b) m ∙ or_true (f == g)))
+  where
+    or_true : (b : Bool) → (b || true) ≡ true
+    or_true true = refl
+    or_true false = refl
+
 module _ (u : CoreUnitTree) (given proofs : ProofsTree) (filled : Filled u given proofs) (derived : GivenAreDerived u given proofs) where
   none_at : (f : ℕ) → has_entry given f ≡ true → function_fault u proofs f ≡ None
   none_at f has =
@@ -84,14 +97,7 @@ module _ (u : CoreUnitTree) (given proofs : ProofsTree) (filled : Filled u given
       ap (fault_of_entry u proofs) e.1 ∙ derived f e.0 (filled.known e.0 f e.1) has e.1
 
   pub none_of : (fs : List ℕ) → ((f : ℕ) → is_member f fs ≡ true → has_entry given f ≡ true) → first_fault u proofs fs ≡ None
-  none_of [] have = refl
-  none_of (f ∷ fs) have =
-      ap (λ o. fault_or_next f o (first_fault u proofs fs)) (none_at f (have f (member_first f fs)))
-      ∙ none_of fs (λ g m. have g (ap (λ (b : Bool). (f == g) || b) m ∙ or_true (f == g)))
-    where
-      or_true : (b : Bool) → (b || true) ≡ true
-      or_true true = refl
-      or_true false = refl
+  none_of fs have = none_among Stack u proofs fs (λ f m. none_at f (have f m))
 
   never_first : (e : EntryFault) → first_fault u proofs (entry_functions given.functions) ≡ Some e → ⊥
   never_first e h = let none = none_of (entry_functions given.functions) (λ f m. has_member given f ∙ m) in let no : None ≡ Some e = sym none ∙ h in cc

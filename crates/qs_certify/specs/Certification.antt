@@ -14,12 +14,14 @@ use Rattle.qs_triples.specs.Filled.{Filled}
 use Rattle.qs_triples.specs.TreeOf.{proofs_tree}
 use Rattle.qs_triples.specs.declared.derivation.Proofs.{Proofs}
 use Rattle.qs_triples.specs.declared.fault.DerivFault.{DerivFault}
+use Rattle.qs_triples.specs.declared.resource.Resource.{Resource}
+use Rattle.qs_triples.specs.declared.resource.Resource.TheVariants.{Stack}
 use Rattle.qs_callgraph.specs.CallLists.{numbers}
 use Rattle.qs_analyse.specs.Additions.{IsFilling}
 use Rattle.qs_analyse.specs.Fillable.{entry_functions}
 use Rattle.qs_analyse.specs.Laws.{DerivesOpen, HasNoCycle}
 use Rattle.qs_certify.specs.Given.{GivenIs, HasTextFault}
-use Rattle.qs_certify.specs.Entries.{first_fault, IsFirstFault, IsEntryFault, IsMet}
+use Rattle.qs_certify.specs.Entries.{first_fault, first_fault_for, IsFirstFault, IsEntryFaultFor, IsMet}
 use Rattle.qs_certify.specs.declared.certification.Certified.{Certified}
 use Rattle.qs_certify.specs.declared.fault.CertifyFault.{CertifyFault}
 use Rattle.qs_certify.specs.declared.fault.CertifyFault.TheVariants.{NoMemory, Text, Cycle, Order, Entry}
@@ -127,29 +129,36 @@ CannotComplete u given (Cycle fs) = IsCycle u (has_entry given) (numbers fs.item
 CannotComplete u given (Order name) = HasNoOrder u given name
 CannotComplete u given (Entry f fault) = IsNotDerived u given f.0 fault
 
--- all definitions are in order and the entries of these functions are derived
-pub record AreRight (u : CoreUnitTree) (proofs : ProofsTree) (fs : List ℕ) : Type 0 where
+-- all definitions are in order and the entries of these functions are derived, for what is bounded
+pub record AreRightFor (resource : Resource) (u : CoreUnitTree) (proofs : ProofsTree) (fs : List ℕ) : Type 0 where
   pub in_order : IsInOrder proofs.defines
-  pub derived : first_fault u proofs fs ≡ None
+  pub derived : first_fault_for resource u proofs fs ≡ None
 
 -- why they aren't
-pub record HasEntryFault (u : CoreUnitTree) (proofs : ProofsTree) (fs : List ℕ) (fault : CertifyFault) : Type 0 where
+pub record HasEntryFault (resource : Resource) (u : CoreUnitTree) (proofs : ProofsTree) (fs : List ℕ) (fault : CertifyFault) : Type 0 where
   pub in_order : IsInOrder proofs.defines
-  pub first : IsEntryFault u proofs fs fault
+  pub first : IsEntryFaultFor resource u proofs fs fault
+
+abbrev pub AreWrongFor : Resource → CoreUnitTree → ProofsTree → List ℕ → CertifyFault → Type 0
+AreWrongFor resource u proofs fs NoMemory = Unit {0}
+AreWrongFor resource u proofs fs (Text fault) = ⊥
+AreWrongFor resource u proofs fs (Cycle gs) = ⊥
+AreWrongFor resource u proofs fs (Order name) = IsMisplaced proofs.defines name
+AreWrongFor resource u proofs fs (Entry f fault) = HasEntryFault resource u proofs fs (Entry f fault)
+
+-- on the stack
+abbrev pub AreRight : CoreUnitTree → ProofsTree → List ℕ → Type 0
+AreRight = AreRightFor Stack
 
 abbrev pub AreWrong : CoreUnitTree → ProofsTree → List ℕ → CertifyFault → Type 0
-AreWrong u proofs fs NoMemory = Unit {0}
-AreWrong u proofs fs (Text fault) = ⊥
-AreWrong u proofs fs (Cycle gs) = ⊥
-AreWrong u proofs fs (Order name) = IsMisplaced proofs.defines name
-AreWrong u proofs fs (Entry f fault) = HasEntryFault u proofs fs (Entry f fault)
+AreWrong = AreWrongFor Stack
 
 -- the same of the code's values
-abbrev pub AreRightIn : CoreUnit → Proofs → List FnId → Type 0
-AreRightIn unit proofs fs = AreRight (unit_tree unit) (proofs_tree proofs) (numbers fs)
+abbrev pub AreRightIn : Resource → CoreUnit → Proofs → List FnId → Type 0
+AreRightIn resource unit proofs fs = AreRightFor resource (unit_tree unit) (proofs_tree proofs) (numbers fs)
 
-abbrev pub AreWrongIn : CoreUnit → Proofs → List FnId → CertifyFault → Type 0
-AreWrongIn unit proofs fs fault = AreWrong (unit_tree unit) (proofs_tree proofs) (numbers fs) fault
+abbrev pub AreWrongIn : Resource → CoreUnit → Proofs → List FnId → CertifyFault → Type 0
+AreWrongIn resource unit proofs fs fault = AreWrongFor resource (unit_tree unit) (proofs_tree proofs) (numbers fs) fault
 
 -- the given proofs are completed, and cover the unit
 pub record IsCompleted (u : CoreUnitTree) (given : ProofsTree) (c : Certified) : Type 0 where

@@ -5,13 +5,15 @@ use Rattle.qs_core.specs.Trees.{CoreUnitTree}
 use Rattle.qs_core.specs.UnitTrees.{unit_tree}
 use Rattle.qs_core.specs.declared.unit.CoreUnit.{CoreUnit}
 use Rattle.qs_triples.specs.Derivations.{ProofsTree}
-use Rattle.qs_triples.specs.Entries.{function_fault}
+use Rattle.qs_triples.specs.Entries.{function_fault_for}
 use Rattle.qs_triples.specs.Rules as rules
 use Rattle.qs_triples.specs.Told.{IsDue}
 use Rattle.qs_triples.specs.TreeOf.{proofs_tree}
 use Rattle.qs_triples.specs.declared.derivation.Proofs.{Proofs}
 use Rattle.qs_triples.specs.declared.fault.DerivFault.{DerivFault}
 use Rattle.qs_triples.specs.declared.fault.DerivFault.TheVariants as faults
+use Rattle.qs_triples.specs.declared.resource.Resource.{Resource}
+use Rattle.qs_triples.specs.declared.resource.Resource.TheVariants.{Stack}
 use Rattle.qs_callgraph.specs.CallLists.{numbers}
 use Rattle.qs_certify.specs.declared.fault.CertifyFault.{CertifyFault}
 use Rattle.qs_certify.specs.declared.fault.CertifyFault.TheVariants.{NoMemory, Text, Cycle, Order, Entry}
@@ -25,10 +27,15 @@ abbrev pub fault_or_next : (function : ℕ) → Option rules.DerivFault → (nex
 fault_or_next f None next = next
 fault_or_next f (Some fault) next = Some (record { function = f; fault = fault })
 
--- of these functions the first whose entry isn't derived
+-- of these functions the first whose entry isn't derived, for what is bounded
+abbrev pub first_fault_for : Resource → CoreUnitTree → ProofsTree → List ℕ → Option EntryFault
+first_fault_for resource u proofs [] = None
+first_fault_for resource u proofs (f ∷ fs) =
+    fault_or_next f (function_fault_for resource u proofs f) (first_fault_for resource u proofs fs)
+
+-- on the stack
 abbrev pub first_fault : CoreUnitTree → ProofsTree → List ℕ → Option EntryFault
-first_fault u proofs [] = None
-first_fault u proofs (f ∷ fs) = fault_or_next f (function_fault u proofs f) (first_fault u proofs fs)
+first_fault = first_fault_for Stack
 
 -- ---- what the code tells
 
@@ -53,11 +60,14 @@ IsMet (faults.Entry fault) = Unit {0}
 IsMet (faults.BadOrder d) = ⊥
 
 -- the first of these functions whose entry isn't derived is f, and this fault of it is told
-pub record IsFirstFault (u : CoreUnitTree) (proofs : ProofsTree) (fs : List ℕ) (f : ℕ) (told : DerivFault) : Type 0 where
+pub record IsFirstFaultFor (resource : Resource) (u : CoreUnitTree) (proofs : ProofsTree) (fs : List ℕ) (f : ℕ) (told : DerivFault) : Type 0 where
   pub fault : rules.DerivFault
-  pub first : first_fault u proofs fs ≡ Some (record { function = f; fault = fault })
+  pub first : first_fault_for resource u proofs fs ≡ Some (record { function = f; fault = fault })
   pub is_fault : IsFault told
   pub is_told : IsDue told (Some fault)
+
+abbrev pub IsFirstFault : CoreUnitTree → ProofsTree → List ℕ → (f : ℕ) → DerivFault → Type 0
+IsFirstFault = IsFirstFaultFor Stack
 
 -- want of memory is told apart from the faults of an entry
 abbrev pub entry_told : FnId → DerivFault → CertifyFault
@@ -69,18 +79,21 @@ entry_told f (faults.NoSpec path g) = Entry f (faults.NoSpec path g)
 entry_told f (faults.Entry fault) = Entry f (faults.Entry fault)
 entry_told f (faults.BadOrder d) = Entry f (faults.BadOrder d)
 
+abbrev pub IsEntryFaultFor : Resource → CoreUnitTree → ProofsTree → List ℕ → CertifyFault → Type 0
+IsEntryFaultFor resource u proofs fs NoMemory = Unit {0}
+IsEntryFaultFor resource u proofs fs (Text fault) = ⊥
+IsEntryFaultFor resource u proofs fs (Cycle gs) = ⊥
+IsEntryFaultFor resource u proofs fs (Order name) = ⊥
+IsEntryFaultFor resource u proofs fs (Entry f fault) = IsFirstFaultFor resource u proofs fs f.0 fault
+
 abbrev pub IsEntryFault : CoreUnitTree → ProofsTree → List ℕ → CertifyFault → Type 0
-IsEntryFault u proofs fs NoMemory = Unit {0}
-IsEntryFault u proofs fs (Text fault) = ⊥
-IsEntryFault u proofs fs (Cycle gs) = ⊥
-IsEntryFault u proofs fs (Order name) = ⊥
-IsEntryFault u proofs fs (Entry f fault) = IsFirstFault u proofs fs f.0 fault
+IsEntryFault = IsEntryFaultFor Stack
 
 -- the entries of these functions are derived, or the first fault is told
-abbrev pub TellsEntries : CoreUnitTree → ProofsTree → List ℕ → Result (Unit {0}) CertifyFault → Type 0
-TellsEntries u proofs fs (Ok done) = first_fault u proofs fs ≡ None
-TellsEntries u proofs fs (Err fault) = IsEntryFault u proofs fs fault
+abbrev pub TellsEntries : Resource → CoreUnitTree → ProofsTree → List ℕ → Result (Unit {0}) CertifyFault → Type 0
+TellsEntries resource u proofs fs (Ok done) = first_fault_for resource u proofs fs ≡ None
+TellsEntries resource u proofs fs (Err fault) = IsEntryFaultFor resource u proofs fs fault
 
 -- the same of the code's values
-abbrev pub TellsEntriesIn : CoreUnit → Proofs → List FnId → Result (Unit {0}) CertifyFault → Type 0
-TellsEntriesIn unit proofs fs result = TellsEntries (unit_tree unit) (proofs_tree proofs) (numbers fs) result
+abbrev pub TellsEntriesIn : Resource → CoreUnit → Proofs → List FnId → Result (Unit {0}) CertifyFault → Type 0
+TellsEntriesIn resource unit proofs fs result = TellsEntries resource (unit_tree unit) (proofs_tree proofs) (numbers fs) result

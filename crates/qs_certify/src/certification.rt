@@ -18,7 +18,7 @@ use qs_assert::{Define, order_fault};
 use qs_base::FnId;
 use qs_callgraph::CycleFault;
 use qs_core::CoreUnit;
-use qs_triples::Proofs;
+use qs_triples::{Proofs, Resource};
 use std::alloc::Global;
 
 /// Proofs that cover a unit.
@@ -55,19 +55,21 @@ fn check_order(alloc: Global, defines: &[Define]) -> Result<(), CertifyFault>
     }
 }
 
-// Checks the order of the definitions, and then the entries of these functions.
+/// Checks the order of the definitions, and then that the entries of these functions are derived for
+/// what is bounded. A fault is the first in this order.
 #[tactic(auto, using(crate::proofs::CauseLaws::wrong_entries))]
-fn check_all(
+pub fn check_proofs(
     alloc: Global,
     unit: &CoreUnit,
+    resource: Resource,
     proofs: &Proofs,
     functions: &[FnId],
 ) -> Result<(), CertifyFault>
-    ensures right { OnOk result (AreRightIn unit.now proofs.now functions.now) }
-    ensures wrong { IfErr result (AreWrongIn unit.now proofs.now functions.now) }
+    ensures right { OnOk result (AreRightIn resource unit.now proofs.now functions.now) }
+    ensures wrong { IfErr result (AreWrongIn resource unit.now proofs.now functions.now) }
 {
     check_order(alloc, &proofs.defines)?;
-    check_entries(alloc, unit, proofs, functions)
+    check_entries(alloc, unit, resource, proofs, functions)
 }
 
 // ---- what is added
@@ -92,7 +94,7 @@ fn completed(alloc: Global, unit: &CoreUnit, given: Proofs) -> Result<Certified,
 {
     let functions = functions_of(alloc, &given.functions)?;
     let proofs = filled(alloc, unit, given)?;
-    check_all(alloc, unit, &proofs, &functions)?;
+    check_proofs(alloc, unit, Resource::Stack, &proofs, &functions)?;
     Ok(Certified {
         given: functions.len(),
         added: proofs.functions.len() - functions.len(),

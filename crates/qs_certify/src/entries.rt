@@ -8,9 +8,10 @@ ghost use Rattle.qs_analyse.specs.Fillable.{entry_functions};
 ghost use Rattle.qs_certify.specs.Entries.{TellsEntries, TellsEntriesIn, entry_told};
 
 use crate::fault::CertifyFault;
+use qs_assert::Room;
 use qs_base::{FnId, NoMemory};
 use qs_core::CoreUnit;
-use qs_triples::{DerivFault, FunctionProof, Proofs, check_in_order};
+use qs_triples::{DerivFault, FunctionProof, Proofs, Resource, check_in_order_for};
 use std::alloc::Global;
 
 /// The functions of entries, in order.
@@ -42,30 +43,39 @@ fn refused(f: FnId, fault: DerivFault) -> CertifyFault
 }
 
 #[tactic(auto, using(crate::proofs::EntryLaws::one_derived, crate::proofs::EntryLaws::one_told))]
-fn check_entry(alloc: Global, unit: &CoreUnit, proofs: &Proofs, f: FnId) -> Result<(), CertifyFault>
+fn check_entry(
+    alloc: Global,
+    room: &mut Room,
+    unit: &CoreUnit,
+    resource: Resource,
+    proofs: &Proofs,
+    f: FnId,
+) -> Result<(), CertifyFault>
     requires { IsInOrder proofs.now.defines.items }
-    ensures { TellsEntries (unit_tree unit.now) (proofs_tree proofs.now) (f.0 ∷ []) result }
+    ensures { TellsEntries resource (unit_tree unit.now) (proofs_tree proofs.now) (f.0 ∷ []) result }
 {
-    match check_in_order(alloc, unit, f, proofs) {
+    match check_in_order_for(alloc, room, unit, resource, f, proofs) {
         Ok(()) => Ok(()),
         Err(fault) => Err(refused(f, fault)),
     }
 }
 
-/// Checks that the entries of these functions are derived, where the definitions are in order.
-/// Otherwise it answers the first of them whose entry isn't, with that entry's first fault.
+/// Checks that the entries of these functions are derived for what is bounded, where the definitions
+/// are in order. Otherwise it answers the first of them whose entry isn't, with that entry's first fault.
 #[tactic(auto, using(crate::proofs::EntryLaws::goes_on, crate::proofs::EntryLaws::ends_at))]
 pub fn check_entries(
     alloc: Global,
     unit: &CoreUnit,
+    resource: Resource,
     proofs: &Proofs,
     functions: &[FnId],
 ) -> Result<(), CertifyFault>
     requires { IsInOrder proofs.now.defines.items }
-    ensures { TellsEntriesIn unit.now proofs.now functions.now result }
+    ensures { TellsEntriesIn resource unit.now proofs.now functions.now result }
 {
+    let mut room = Room::to_make();
     for f in functions {
-        check_entry(alloc, unit, proofs, *f)?;
+        check_entry(alloc, &mut room, unit, resource, proofs, *f)?;
     }
     Ok(())
 }

@@ -9,7 +9,8 @@ mod given;
 mod laws;
 
 pub use bound::{bound_of_function, bound_of_main};
-pub use certification::{Certified, certify};
+pub use certification::{Certified, certify, check_proofs};
+pub use entries::functions_of;
 pub use fault::CertifyFault;
 pub use given::given_proofs;
 pub use laws::{

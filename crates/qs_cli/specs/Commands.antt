@@ -19,10 +19,20 @@ pub record UnelfWords : Type 0 where
 abbrev pub unelf_words : (file out : Text) → UnelfWords
 unelf_words file out = record { file = file; out = out }
 
+-- the words of `calls`: a source, its proof file, and main's arguments
+pub record CallsWords : Type 0 where
+  pub source : Text
+  pub proof : Text
+  pub args : List ℤ
+
+abbrev pub calls_words : (source proof : Text) (args : List ℤ) → CallsWords
+calls_words source proof args = record { source = source; proof = proof; args = args }
+
 pub data Command : Type 0 where
   Build : (source : Text) (proof : Option Text) (out : Text) → Command
   Check : (source : Text) (proof : Option Text) → Command
   Bound : (source : Text) (proof : Option Text) (args : List ℤ) → Command
+  Calls : (words : CallsWords) → Command
   Derive : (source out : Text) → Command
   Outline : (source : Text) → Command
   Run : (image : Text) (stack : ℕ) (args : List ℤ) (input : Option Text) (steps : ℕ) → Command
@@ -41,6 +51,9 @@ check_options = (codes "proof", false) ∷ []
 
 abbrev pub bound_options : Options
 bound_options = (codes "proof", false) ∷ (codes "args", false) ∷ []
+
+abbrev pub calls_options : Options
+calls_options = (codes "proof", true) ∷ (codes "args", false) ∷ []
 
 abbrev pub derive_options : Options
 derive_options = (codes "out", true) ∷ []
@@ -87,6 +100,9 @@ check_of at = Some (λ source proof. Check source proof) ⊛ at operand ⊛ Some
 abbrev pub bound_of : Values → Option Command
 bound_of at = Some (λ source proof args. Bound source proof args) ⊛ at operand ⊛ Some (at (codes "proof")) ⊛ arguments_of (at (codes "args"))
 
+abbrev pub calls_of : Values → Option Command
+calls_of at = Some (λ source proof args. Calls (calls_words source proof args)) ⊛ at operand ⊛ at (codes "proof") ⊛ arguments_of (at (codes "args"))
+
 abbrev pub derive_of : Values → Option Command
 derive_of at = Some (λ source out. Derive source out) ⊛ at operand ⊛ at (codes "out")
 
@@ -117,6 +133,7 @@ command_named name words =
     if bytes_eq name (codes "build") then command_with build_options build_of words
     else (if bytes_eq name (codes "check") then command_with check_options check_of words
     else (if bytes_eq name (codes "bound") then command_with bound_options bound_of words
+    else (if bytes_eq name (codes "calls") then command_with calls_options calls_of words
     else (if bytes_eq name (codes "derive") then command_with derive_options derive_of words
     else (if bytes_eq name (codes "outline") then command_with outline_options outline_of words
     else (if bytes_eq name (codes "run") then command_with run_options run_of words
@@ -124,7 +141,7 @@ command_named name words =
     else (if bytes_eq name (codes "sample") then command_with sample_options sample_of words
     else (if bytes_eq name (codes "elf") then command_with elf_options elf_of words
     else (if bytes_eq name (codes "unelf") then command_with unelf_options unelf_of words
-    else None)))))))))
+    else None))))))))))
 
 -- the command that the words mean, if they mean one
 unfoldable pub meaning : List Text → Option Command

@@ -7,7 +7,8 @@ use Rattle.qs_cli.specs.Words.{Text, Word, Plain, Assigned, Named, Excluded, Opt
 use Rattle.qs_cli.specs.Commands.{meaning, command_named}
 use Rattle.qs_cli.specs.Commands as meant
 use Rattle.qs_cli.specs.declared.commands.Command.{Command}
-use Rattle.qs_cli.specs.declared.commands.Command.TheVariants.{Build, Check, Bound, Derive, Outline, Run, Exec, Sample, Elf, Unelf}
+use Rattle.qs_cli.specs.declared.commands.Command.TheVariants.{Build, Check, Bound, Calls, Derive, Outline, Run, Exec, Sample, Elf, Unelf}
+use Rattle.qs_cli.specs.declared.commands.CallsWords.{CallsWords}
 use Rattle.qs_cli.specs.declared.commands.ElfWords.{ElfWords}
 use Rattle.qs_cli.specs.declared.commands.UnelfWords.{UnelfWords}
 use Rattle.qs_cli.specs.declared.commands.CliFault.{CliFault}
@@ -82,6 +83,9 @@ abbrev pub IsUsage : {A : Type 0} → Result A CliFault → Type 0
 IsUsage r = IsErrOf r Usage
 
 -- words as the code holds them
+abbrev pub calls_words_of : CallsWords → meant.CallsWords
+calls_words_of words = meant.calls_words (string_bytes words.source) (string_bytes words.proof) words.args.items
+
 abbrev pub elf_words_of : ElfWords → meant.ElfWords
 elf_words_of words = meant.elf_words (string_bytes words.image) (string_bytes words.out)
 
@@ -92,6 +96,7 @@ abbrev pub command_of : Command → meant.Command
 command_of (Build source proof out) = meant.Build (string_bytes source) (text_of proof) (string_bytes out)
 command_of (Check source proof) = meant.Check (string_bytes source) (text_of proof)
 command_of (Bound source proof args) = meant.Bound (string_bytes source) (text_of proof) args.items
+command_of (Calls words) = meant.Calls (calls_words_of words)
 command_of (Derive source out) = meant.Derive (string_bytes source) (string_bytes out)
 command_of (Outline source) = meant.Outline (string_bytes source)
 command_of (Run image stack args input steps) = meant.Run (string_bytes image) stack args.items (text_of input) steps

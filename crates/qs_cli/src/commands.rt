@@ -20,6 +20,14 @@ pub struct UnelfWords {
     pub out: String,
 }
 
+/// The words of `calls`: a source, its proof file, and main's arguments.
+#[derive(Debug, Drop)]
+pub struct CallsWords {
+    pub source: String,
+    pub proof: String,
+    pub args: Vec<i64>,
+}
+
 /// What the tool is asked to do. Files are named as in the words.
 #[derive(Debug, Drop)]
 pub enum Command {
@@ -40,6 +48,8 @@ pub enum Command {
         proof: Option<String>,
         args: Vec<i64>,
     },
+    /// Print the bound on the number of calls at these arguments of `main`.
+    Calls(CallsWords),
     /// Write the proofs that are found for a source file.
     Derive {
         source: String,

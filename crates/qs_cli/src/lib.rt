@@ -9,6 +9,6 @@ mod spelling;
 mod table;
 mod values;
 
-pub use commands::{CliFault, Command, ElfWords, UnelfWords};
+pub use commands::{CallsWords, CliFault, Command, ElfWords, UnelfWords};
 pub use numbers::{DEFAULT_STEPS, MOST_ARGUMENTS, MOST_SAMPLE_FUNCTIONS, MOST_STEPS};
 pub use reading::read_words;

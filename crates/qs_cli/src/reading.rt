@@ -1,10 +1,10 @@
 // The command that the words mean: by its name, from its values.
 ghost use Rattle.std.specs.Prelude.{◌≡◌, IfOk, None, Some};
 ghost use Rattle.qs_cli.specs.Commands.{build_of, check_of, bound_of, derive_of, outline_of};
-ghost use Rattle.qs_cli.specs.Commands.{run_of, exec_of, sample_of, elf_of, unelf_of};
+ghost use Rattle.qs_cli.specs.Commands.{calls_of, run_of, exec_of, sample_of, elf_of, unelf_of};
 ghost use Rattle.qs_cli.specs.Reading.{command_of, named_by, texts_of, values_of, IsUsage, Reads};
 
-use crate::commands::{CliFault, Command, ElfWords, UnelfWords};
+use crate::commands::{CallsWords, CliFault, Command, ElfWords, UnelfWords};
 use crate::table;
 use crate::table::OPERAND;
 use crate::values::Values;
@@ -40,6 +40,17 @@ fn bound(alloc: Global, values: &Values<'_>) -> Result<Command, CliFault>
         proof: values.optional_text(alloc, "proof")?,
         args: values.arguments(alloc)?,
     })
+}
+
+fn calls(alloc: Global, values: &Values<'_>) -> Result<Command, CliFault>
+    ensures ok { IfOk result (λ c. calls_of (values_of values.now) ≡ Some (command_of c)) }
+    ensures usage { IsUsage result → calls_of (values_of values.now) ≡ None }
+{
+    Ok(Command::Calls(CallsWords {
+        source: values.text(alloc, OPERAND)?,
+        proof: values.text(alloc, "proof")?,
+        args: values.arguments(alloc)?,
+    }))
 }
 
 fn derive(alloc: Global, values: &Values<'_>) -> Result<Command, CliFault>
@@ -126,6 +137,7 @@ fn named(alloc: Global, name: &str, words: &[String]) -> Result<Command, CliFaul
         "build" => build(alloc, &Values::read(alloc, &table::BUILD, words)?),
         "check" => check(alloc, &Values::read(alloc, &table::CHECK, words)?),
         "bound" => bound(alloc, &Values::read(alloc, &table::BOUND, words)?),
+        "calls" => calls(alloc, &Values::read(alloc, &table::CALLS, words)?),
         "derive" => derive(alloc, &Values::read(alloc, &table::DERIVE, words)?),
         "outline" => outline(alloc, &Values::read(alloc, &table::OUTLINE, words)?),
         "run" => run(alloc, &Values::read(alloc, &table::RUN, words)?),
@@ -149,6 +161,7 @@ fn named(alloc: Global, name: &str, words: &[String]) -> Result<Command, CliFaul
 /// - `build SRC`: `--proof`, `--out`*
 /// - `check SRC`: `--proof`
 /// - `bound SRC`: `--proof`, `--args`
+/// - `calls SRC`: `--proof`*, `--args`
 /// - `derive SRC`: `--out`*
 /// - `outline SRC`: none
 /// - `run IMG`: `--stack`*, `--args`, `--input`, `--steps`

@@ -38,6 +38,17 @@ pub(crate) static BOUND: [OptionRule; 2] = [
     },
 ];
 
+pub(crate) static CALLS: [OptionRule; 2] = [
+    OptionRule {
+        name: "proof",
+        required: true,
+    },
+    OptionRule {
+        name: "args",
+        required: false,
+    },
+];
+
 pub(crate) static DERIVE: [OptionRule; 1] = [OptionRule {
     name: "out",
     required: true,

@@ -2,6 +2,7 @@
 use Rattle.std.proofs.Common.{◌≡◌, inl, ℕ, zero, suc, ◌<◌, true, List, length, Option, Some, None, option_map, refl, ap, ◌∙◌, subst, arith}
 use Rattle.std.specs.Prelude.{is_some}
 use Rattle.std.specs.List.{slice_get}
+use Rattle.std.proofs.lemmas.List.{get_or-replicate}
 use Rattle.std.proofs.lemmas.Option.{slice_get-map, slice_get_within}
 use Rattle.qs_memory.specs.Memory.{Memory, make, release}
 use Rattle.qs_memory.specs.Values.{Value}
@@ -11,17 +12,20 @@ use Rattle.qs_events.specs.Weights.{Costs, run_count, calls_in}
 use Rattle.qs_calls.specs.World.{World, with_memory, RootRun, Return, leaves, no_values}
 use Rattle.qs_calls.specs.Calls.{CallsOf, Entered, pass, activate}
 use Rattle.qs_calls.specs.Starts.{Signature, Takes}
-use Rattle.qs_assert.specs.Values.{finite}
+use Rattle.qs_assert.specs.Values.{Extended, finite}
 use Rattle.qs_entail.specs.Meaning.{AtLeast}
 use Rattle.qs_core.specs.Trees.{CoreFunctionTree, CoreUnitTree}
 use Rattle.qs_core.specs.Interfaces.{signature}
-use Rattle.qs_core.specs.Units.{frame_of, body_of, after_function, calls_within}
+use Rattle.qs_core.specs.Units.{frame_of, body_of, after_function, calls_within, initial_memory, main_run}
 use Rattle.qs_triples.specs.Derivations.{EntryTree, entry_of}
 use Rattle.qs_triples.specs.declared.resource.Resource.TheVariants as resources
 use Rattle.qs_triples.proofs.BoundLaws.{root_is_bounded}
 use Rattle.qs_triples.proofs.FunctionLaws.{entry_is_of, derived_parts_for, derived_body}
 use Rattle.qs_triples.proofs.PropertyLaws.{IsKept, ReturnHas, CallsKeep, pass_keeps, stmts_keep}
-use Rattle.qs_count.specs.Laws.{cost_of_call, EntriesBoundCalls, CountsBoundCalls, MainIsCounted}
+use Rattle.qs_certify.specs.Bound.{costs_of, values_of}
+use Rattle.qs_certify.proofs.MainLaws.{bounds_are_needs, derived_mentions, HasMain, main_there, bound_is, main_may}
+use Rattle.qs_count.specs.MainCount.{ones}
+use Rattle.qs_count.specs.Laws.{cost_of_call, EntriesBoundCalls, CountsBoundCalls, MainIsCounted, MainCountBoundsCalls}
 
 pub entries_bound_calls : EntriesBoundCalls
 entries_bound_calls u proofs root f e arguments w h is has may cost n =
@@ -115,3 +119,19 @@ main_is_counted u proofs arguments w h covered may =
       stands = e.1;
       bounds = entries_bound_calls u proofs u.main f.0 e.0 arguments w h f.1 e.1 may;
     }
+
+pub main_count_bounds_calls : MainCountBoundsCalls
+main_count_bounds_calls u proofs zs count input n h covered are bytes is =
+    let main = main_there u h.fits in
+    let e = entry_there (entry_of proofs u.main) (covered u.main (inl refl)) in
+    let here : slice_get u.functions e.0.function ≡ Some main.function = ap (slice_get u.functions) (entry_is_of proofs u.main e.0 e.1) ∙ main.is in
+    let entry : HasMain u proofs main.function = record {
+      entry_tree = e.0;
+      stands = e.1;
+      parameters = derived_mentions resources.Calls u proofs main.function e.0 here (h.counted u.main e.0 e.1);
+    } in
+    let world : World = record { memory = initial_memory u; input = input } in
+    subst (λ (v : Extended). AtLeast v (finite (calls_in (events_of (main_run u (values_of zs) input n)))))
+    (bound_is u h.fits proofs h.closed entry (ones u) zs are count (bounds_are_needs u.main proofs (ones u) zs count is))
+    (counts_bound_calls u proofs u.main main.function e.0 (values_of zs) world (costs_of (ones u)) n h main.is e.1
+    (main_may u h.fits zs are input bytes) (λ g within. get_or-replicate (length u.functions) g 1 0 within))

@@ -6,6 +6,7 @@ use Rattle.qs_events.specs.Weights.{calls_in, run_weight}
 use Rattle.qs_calls.specs.declared.callee.Callee.TheVariants.{Function}
 use Rattle.qs_assert.specs.Trees.{AssertionTree, natural, cost, total, assertions_of}
 use Rattle.qs_assert.specs.Values.{finite}
+use Rattle.qs_assert.specs.declared.define.Amount.TheVariants.{Finite}
 use Rattle.qs_entail.specs.Certificates.{arithmetic}
 use Rattle.qs_core.specs.Trees as core
 use Rattle.qs_core.specs.Trees.{CoreStmtTree, CoreFunctionTree, CoreUnitTree, stmts_of}
@@ -14,6 +15,7 @@ use Rattle.qs_triples.specs.Derivations.{DerivationTree, leaf, sequence, call, n
 use Rattle.qs_triples.specs.Entries.{entry_fault_for}
 use Rattle.qs_triples.specs.declared.resource.Resource.TheVariants.{Calls}
 use Rattle.qs_count.specs.Laws.{cost_of_call}
+use Rattle.qs_count.specs.MainCount.{main_count}
 use Rattle.qs_count.specs.Missing.{with_functions}
 use Rattle.qs_count.proofs.MissingLaws.{needing}
 
@@ -91,6 +93,10 @@ four_calls = refl
 
 four_are_enough : cost_of_call (λ f. 1) proofs 2 main of_main [] ≡ finite 4
 four_are_enough = refl
+
+-- main's own call, and its precondition where f and g cost 1 each
+four_are_counted : main_count unit proofs [] ≡ Finite 4
+four_are_counted = refl
 
 -- three of them stand in one another
 three_on_the_stack : run_weight (λ f. 1) (main_run unit [] [] 3) ≡ 3

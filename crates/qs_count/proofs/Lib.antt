@@ -1,3 +1,4 @@
 pub mod MissingLaws
+pub mod CheckLaws
 pub mod CountLaws
 pub mod Examples

@@ -1,22 +1,25 @@
 -- What is promised where calls are counted.
-use Rattle.std.specs.Prelude.{◌≡◌, ℕ, ◌<◌, true, List, length, Some}
+use Rattle.std.specs.Prelude.{◌≡◌, ℕ, ◌<◌, ◌≤◌, ℤ, true, List, length, All, Some}
 use Rattle.std.specs.List.{slice_get}
 use Rattle.qs_memory.specs.Values.{Value}
 use Rattle.qs_events.specs.Runs.{events_of}
 use Rattle.qs_events.specs.Weights.{Costs, calls_in, run_count}
 use Rattle.qs_calls.specs.World.{World}
 use Rattle.qs_calls.specs.Starts.{MayStart}
+use Rattle.qs_assert.specs.declared.define.Amount.TheVariants.{Finite}
 use Rattle.qs_assert.specs.Values.{Extended, finite, plus}
 use Rattle.qs_entail.specs.Meaning.{AtLeast}
 use Rattle.qs_core.specs.Trees.{CoreFunctionTree, CoreUnitTree}
 use Rattle.qs_core.specs.Interfaces.{interface_of}
 use Rattle.qs_core.specs.Fits.{unit_fits}
-use Rattle.qs_core.specs.Units.{core_run}
+use Rattle.qs_core.specs.Units.{core_run, main_run}
 use Rattle.qs_triples.specs.Derivations.{EntryTree, ProofsTree, entry_of}
 use Rattle.qs_triples.specs.Entries.{AreClosed}
 use Rattle.qs_triples.specs.Valuations.{value_at_entry}
 use Rattle.qs_count.specs.Counted.{AreCounted}
+use Rattle.qs_certify.specs.Bound.{values_of, AreArguments}
 use Rattle.qs_count.specs.Covered.{IsCovered}
+use Rattle.qs_count.specs.MainCount.{main_count}
 
 -- what a call of a function costs, and the value of its precondition at these arguments
 abbrev pub cost_of_call : Costs → ProofsTree → (function : ℕ) → CoreFunctionTree → EntryTree → (arguments : List Value) → Extended
@@ -69,3 +72,12 @@ MainIsCounted =
     (u : CoreUnitTree) (proofs : ProofsTree) (arguments : List Value) (w : World)
     → CountsCalls u proofs → IsCovered u proofs → MayStart (interface_of u) u.main arguments w
     → HasCountedMain u proofs arguments w
+
+-- Where no function is missing, main's count at these arguments, if it is a number, is at least the number of calls of its run on
+-- each input, within each bound.
+abbrev pub MainCountBoundsCalls : Type 0
+MainCountBoundsCalls =
+    (u : CoreUnitTree) (proofs : ProofsTree) (arguments : List ℤ) (count : ℕ) (input : List ℕ) (n : ℕ)
+    → CountsCalls u proofs → IsCovered u proofs → AreArguments u arguments → All (λ byte. byte < 256) input
+    → main_count u proofs arguments ≡ Finite count
+    → calls_in (events_of (main_run u (values_of arguments) input n)) ≤ count

@@ -1,4 +1,5 @@
 pub mod Counted
 pub mod Covered
 pub mod Missing
+pub mod MainCount
 pub mod Laws

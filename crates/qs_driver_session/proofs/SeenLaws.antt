@@ -3,13 +3,14 @@ use Rattle.std.proofs.Common.{◌≡◌, arith}
 use Rattle.qs_driver_steps.proofs.RunsLaws.{AreNoEnds}
 use Rattle.qs_driver_session.specs.Statuses.{tool, exactly, seen_proof, seen_as}
 use Rattle.qs_driver_session.specs.declared.status.ProofFault.{ProofFault}
-use Rattle.qs_driver_session.specs.declared.status.ProofFault.TheVariants.{Text, Cycle, Order, Entry}
+use Rattle.qs_driver_session.specs.declared.status.ProofFault.TheVariants.{Text, Cycle, NoEntry, Order, Entry}
 use Rattle.qs_driver_session.specs.declared.status.Status.{Status}
 use Rattle.qs_driver_session.specs.declared.status.Status.TheVariants.{Done, Source, Proof, Words, Missing, StoreFailed, Image, Elf, Trapped, StepLimit, NoBound, StackTooLarge, SinkFailed, NoMemory}
 
 exact_proof : (fault : ProofFault) (r : Status) → seen_proof fault ≡ exactly r → Proof fault ≡ r
 exact_proof (Text fault pos) r e = cc
 exact_proof (Cycle functions) r e = absurd cc
+exact_proof (NoEntry name) r e = cc
 exact_proof (Order name) r e = cc
 exact_proof (Entry function spot text) r e = absurd cc
 

@@ -27,7 +27,7 @@ use Rattle.qs_driver_session.specs.declared.names.FileNames.{FileNames}
 use Rattle.qs_driver_session.specs.declared.status.Status.{Status}
 use Rattle.qs_driver_session.specs.declared.status.Status.TheVariants.{Done, Source, Proof, Words, Missing, StoreFailed, Image, Elf, Trapped, StepLimit, NoBound, StackTooLarge, SinkFailed, NoMemory}
 use Rattle.qs_driver_session.specs.declared.status.SourceFault.TheVariants.{TooLong, Lex, Syntax, Typing}
-use Rattle.qs_driver_session.specs.declared.status.ProofFault.TheVariants.{Text, Cycle, Order, Entry}
+use Rattle.qs_driver_session.specs.declared.status.ProofFault.TheVariants.{Text, Cycle, NoEntry, Order, Entry}
 use Rattle.qs_driver_session.specs.declared.status.TokenPlace.{TokenPlace}
 use Rattle.qs_driver_session.specs.declared.status.TokenPlace.TheVariants.{At, End}
 use Rattle.qs_driver_session.specs.declared.status.WordsFault.TheVariants.{Usage, SameName, ArgCount, ArgRange}
@@ -109,6 +109,8 @@ status_line names (Source (Syntax fault place)) = named_line names.source (synta
 status_line names (Source (Typing fault place)) = named_line names.source (typing_text fault place)
 status_line names (Proof (Text fault pos)) = named_line names.derivation (proof_file_text fault pos)
 status_line names (Proof (Cycle functions)) = named_line [] (texts.Cycle functions)
+status_line names (Proof (NoEntry name)) =
+    lines.fault_line names.derivation name texts.NoEntry
 status_line names (Proof (Order name)) = lines.fault_line names.derivation name texts.Order
 status_line names (Proof (Entry f spot text)) =
     lines.fault_line names.derivation f (texts.Proof spot text)

@@ -8,7 +8,7 @@ use Rattle.qs_driver_session.specs.Told.{EntryPlace, place_of}
 use Rattle.qs_driver_session.specs.declared.status.FileKind.{FileKind}
 use Rattle.qs_driver_session.specs.declared.status.FileKind.TheVariants as kinds
 use Rattle.qs_driver_session.specs.declared.status.ProofFault.{ProofFault}
-use Rattle.qs_driver_session.specs.declared.status.ProofFault.TheVariants.{Text, Cycle, Order, Entry}
+use Rattle.qs_driver_session.specs.declared.status.ProofFault.TheVariants.{Text, Cycle, NoEntry, Order, Entry}
 use Rattle.qs_driver_session.specs.declared.status.SourceFault.{SourceFault}
 use Rattle.qs_driver_session.specs.declared.status.SourceFault.TheVariants.{TooLong, Lex, Syntax, Typing}
 use Rattle.qs_driver_session.specs.declared.status.Status.{Status}
@@ -33,10 +33,11 @@ source_number (Lex fault pos) = 4
 source_number (Syntax fault place) = 5
 source_number (Typing fault place) = 6
 
--- before them, at 8, there is the core of the source, which has no fault
+-- Before them, at 8, there is the core of the source, which has no fault. No command fills in entries and needs all.
 abbrev pub proof_number : ProofFault → ℕ
 proof_number (Text fault pos) = 9
 proof_number (Cycle functions) = 10
+proof_number (NoEntry name) = 10
 proof_number (Order name) = 11
 proof_number (Entry function spot text) = 12
 
@@ -79,6 +80,7 @@ pub data SeenStatus : Type 0 where
 abbrev pub seen_proof : ProofFault → SeenStatus
 seen_proof (Text fault pos) = exactly (Proof (Text fault pos))
 seen_proof (Cycle functions) = some_cycle
+seen_proof (NoEntry name) = exactly (Proof (NoEntry name))
 seen_proof (Order name) = exactly (Proof (Order name))
 seen_proof (Entry function spot text) = some_entry function (place_of spot) text
 

@@ -175,6 +175,12 @@ fn put_proofs_fault<K: Sink>(
             proof_file_text(*fault, *pos),
         ),
         ProofFault::Cycle(functions) => put_cycle(log, functions),
+        ProofFault::NoEntry(name) => put_fault(
+            log,
+            names.derivation.as_bytes(),
+            name.bytes(),
+            &FaultText::NoEntry,
+        ),
         ProofFault::Order(name) => put_fault(
             log,
             names.derivation.as_bytes(),

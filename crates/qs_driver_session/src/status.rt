@@ -74,6 +74,9 @@ pub enum ProofFault {
     /// the last the first.
     #[error("recursion without derivation")]
     Cycle(Vec<Name>),
+    /// This function is the first that needs an entry in the file and has none.
+    #[error("no entry")]
+    NoEntry(Name),
     /// The definition of this name is the first that mentions a name that isn't defined earlier.
     #[error("order")]
     Order(Name),

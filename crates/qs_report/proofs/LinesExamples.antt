@@ -12,10 +12,10 @@ use Rattle.qs_types.specs.declared.limits.LimitKind.TheVariants as kinds
 use Rattle.qs_types.specs.declared.rules.Rule.TheVariants as rules
 use Rattle.qs_entail.specs.declared.fault.Rule.TheVariants as step_rules
 use Rattle.qs_entail.specs.declared.stop.Limit.TheVariants.{Terms, Degree}
-use Rattle.qs_report.specs.Lines.{bound_line, cost_line, count_line, end_line, fault_line}
+use Rattle.qs_report.specs.Lines.{bound_line, calls_line, cost_line, count_line, end_line, fault_line}
 use Rattle.qs_report.specs.declared.fault_texts.Count.TheVariants.{Checked, Derived, Functions, Output}
 use Rattle.qs_report.specs.declared.fault_texts.ElfText.TheVariants as elf
-use Rattle.qs_report.specs.declared.fault_texts.FaultText.TheVariants.{Usage, SameName, Missing, Failed, TooLong, Lex, UnexpectedToken, UnexpectedEnd, TooDeep, Rule, Limit, NoMain, NoBody, ProofFile, Cycle, Proof, Order, ArgCount, ArgRange, Image, Elf, Trapped, StepLimit, NoBound, StackTooLarge, NoMemory}
+use Rattle.qs_report.specs.declared.fault_texts.FaultText.TheVariants.{Usage, SameName, Missing, Failed, TooLong, Lex, UnexpectedToken, UnexpectedEnd, TooDeep, Rule, Limit, NoMain, NoBody, ProofFile, Cycle, Proof, NoEntry, Order, ArgCount, ArgRange, Image, Elf, Trapped, StepLimit, NoBound, StackTooLarge, NoMemory}
 use Rattle.qs_report.specs.declared.fault_texts.Path.{Path}
 use Rattle.qs_report.specs.declared.fault_texts.ProofFileText.TheVariants as proof_file
 use Rattle.qs_report.specs.declared.fault_texts.ProofText.TheVariants.{Shape, Mentions, Step}
@@ -47,6 +47,16 @@ bound_infinite = refl
 
 bound_wide : bound_line Wide ≡ ended (codes "bound wide")
 bound_wide = refl
+
+calls_number : calls_line (Number 7) ≡ ended (codes "calls 7")
+unfolding digits
+calls_number = refl
+
+calls_infinite : calls_line Infinite ≡ ended (codes "calls infinite")
+calls_infinite = refl
+
+calls_wide : calls_line Wide ≡ ended (codes "calls wide")
+calls_wide = refl
 
 exit : end_line 255 ≡ ended (codes "exit 255")
 unfolding digits
@@ -179,6 +189,9 @@ proof_file_duplicate = refl
 proof_file_no_such_function : fault_line (codes "p.drv") [] (ProofFile place proof_file.NoSuchFunction) ≡ ended (codes "p.drv:3:14: no such function")
 unfolding digits
 proof_file_no_such_function = refl
+
+no_entry : fault_line (codes "p.drv") (codes "main") NoEntry ≡ ended (codes "p.drv: no entry main")
+no_entry = refl
 
 order : fault_line (codes "p.drv") (codes "h") Order ≡ ended (codes "p.drv: order h")
 order = refl

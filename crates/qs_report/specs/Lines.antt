@@ -13,7 +13,7 @@ use Rattle.qs_report.specs.declared.fault_texts.ElfText.{ElfText}
 use Rattle.qs_report.specs.declared.fault_texts.ProofText.{ProofText}
 use Rattle.qs_report.specs.declared.fault_texts.Spot.{Spot}
 use Rattle.qs_report.specs.declared.fault_texts.FaultText.{FaultText}
-use Rattle.qs_report.specs.declared.fault_texts.FaultText.TheVariants.{Usage, SameName, Missing, Failed, TooLong, Lex, UnexpectedToken, UnexpectedEnd, TooDeep, Rule, Limit, NoMain, NoBody, ProofFile, Cycle, Proof, Order, ArgCount, ArgRange, Image, Elf, Trapped, StepLimit, NoBound, StackTooLarge, NoMemory}
+use Rattle.qs_report.specs.declared.fault_texts.FaultText.TheVariants.{Usage, SameName, Missing, Failed, TooLong, Lex, UnexpectedToken, UnexpectedEnd, TooDeep, Rule, Limit, NoMain, NoBody, ProofFile, Cycle, Proof, NoEntry, Order, ArgCount, ArgRange, Image, Elf, Trapped, StepLimit, NoBound, StackTooLarge, NoMemory}
 
 -- the parts one after the other, ended by a line feed
 abbrev pub line : List (List ℕ) → List ℕ
@@ -51,6 +51,9 @@ cost_line name cost = line (codes "cost " ∷ name ∷ codes " " ∷ decimal cos
 
 abbrev pub bound_line : Shown → List ℕ
 bound_line bound = line (codes "bound " ∷ shown_text bound ∷ [])
+
+abbrev pub calls_line : Shown → List ℕ
+calls_line bound = line (codes "calls " ∷ shown_text bound ∷ [])
 
 abbrev pub end_line : ℕ → List ℕ
 end_line status = line (codes "exit " ∷ decimal status ∷ [])
@@ -122,6 +125,7 @@ fault_line file name (NoBody pos) = line_at file pos (codes "no body")
 fault_line file name (ProofFile pos fault) = line_at file pos (proof_file_word fault)
 fault_line file name (Cycle names) = cycle_line names.items
 fault_line file name (Proof spot text) = spot_line file name spot text
+fault_line file name NoEntry = line (file ∷ codes ": no entry " ∷ name ∷ [])
 fault_line file name Order = line (file ∷ codes ": order " ∷ name ∷ [])
 fault_line file name (ArgCount expected given) = arguments_line expected given
 fault_line file name (ArgRange argument) = argument_line argument

@@ -6,12 +6,12 @@ use qs_lexer::FaultKind;
 use qs_machine::Cause;
 use qs_types::{LimitKind, Rule};
 
-/// A bound on the stack.
+/// A bound, on the stack in bytes or on the number of calls.
 #[derive(Clone, Copy)]
 pub enum Shown {
-    /// So many bytes.
+    /// So much.
     Number(u128),
-    /// No number of bytes.
+    /// No number.
     Infinite,
     /// A number that is too large to be computed.
     Wide,
@@ -134,6 +134,8 @@ pub enum FaultText {
     Cycle(Vec<Name>),
     /// A derivation is wrong at this place.
     Proof(Spot, ProofText),
+    /// A function has no entry in the proof file.
+    NoEntry,
     /// A definition mentions a name that isn't defined earlier.
     Order,
     /// The arguments that `main` expects, and those that were given.

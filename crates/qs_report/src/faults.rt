@@ -192,6 +192,7 @@ pub fn put_fault<K: Sink>(
         FaultText::ProofFile(pos, fault) => put_at(log, file, *pos, proof_file_word(*fault)),
         FaultText::Cycle(names) => put_cycle(log, names),
         FaultText::Proof(spot, text) => put_proof_fault(log, file, name, spot, text),
+        FaultText::NoEntry => put_parts(log, &[file, b": no entry ", name, b"\n"]),
         FaultText::Order => put_parts(log, &[file, b": order ", name, b"\n"]),
         FaultText::ArgCount(expected, given) => {
             put_arg_count(log, u64::from(*expected), u64::from(*given))

@@ -3,7 +3,9 @@ ghost use Rattle.std.specs.Prelude.{◌≡◌, IfOk};
 ghost use Rattle.qs_report.specs.Lines as meant;
 
 use crate::taking::Taking;
-use crate::{Count, FaultText, Shown, put_bound, put_cost, put_count, put_end, put_fault};
+use crate::{
+    Count, FaultText, Shown, put_bound, put_calls, put_cost, put_count, put_end, put_fault,
+};
 use qs_base::NoMemory;
 use std::alloc::Global;
 
@@ -22,6 +24,15 @@ pub fn bound_line(alloc: Global, bound: Shown) -> Result<Vec<u8>, NoMemory>
 {
     let mut line = Taking::new(alloc);
     let put = put_bound(&mut line, bound);
+    line.line(put)
+}
+
+/// The line `calls N`, `calls infinite` or `calls wide`.
+pub fn calls_line(alloc: Global, bound: Shown) -> Result<Vec<u8>, NoMemory>
+    ensures { IfOk result (λ line. line.items ≡ meant.calls_line bound) }
+{
+    let mut line = Taking::new(alloc);
+    let put = put_calls(&mut line, bound);
     line.line(put)
 }
 

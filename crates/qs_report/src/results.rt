@@ -2,7 +2,8 @@
 ghost use Rattle.std.specs.Prelude.{[], ◌∷◌};
 ghost use Rattle.qs_ports.specs.SinkView.{PutsOn};
 ghost use Rattle.qs_report.specs.Words.{shown_text};
-ghost use Rattle.qs_report.specs.Lines.{line, bound_line, cost_line, count_line, end_line};
+ghost use Rattle.qs_report.specs.Lines.{line, bound_line, calls_line, cost_line, count_line};
+ghost use Rattle.qs_report.specs.Lines.{end_line};
 
 use crate::parts::{put_number, put_pair, put_parts, put_two};
 use crate::{Count, Shown};
@@ -37,6 +38,13 @@ pub fn put_bound<K: Sink>(out: &mut K, bound: Shown) -> Result<(), SinkFault>
     ensures { PutsOn K.view out.old out.new (bound_line bound) result }
 {
     put_shown(out, b"bound ", bound)
+}
+
+/// Puts the line `calls N`, `calls infinite` or `calls wide`.
+pub fn put_calls<K: Sink>(out: &mut K, bound: Shown) -> Result<(), SinkFault>
+    ensures { PutsOn K.view out.old out.new (calls_line bound) result }
+{
+    put_shown(out, b"calls ", bound)
 }
 
 /// Puts the line `exit S` of a program that ended with this status.

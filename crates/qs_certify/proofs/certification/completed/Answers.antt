@@ -19,6 +19,6 @@ pub returns-clause-completed : goal.returns-clause-completed
 returns-clause-completed c =
     completes (unit_tree c.args.unit.now) c.args.unit.now.fits (proofs_tree c.args.given) c.requires c.in_ok-proofs.proofs c.in_ok-proofs.ensures.all c.in_ok-functions.functions.items
     (subst (λ (entries : List FunctionProof). numbers c.in_ok-functions.functions.items ≡ entry_functions (map entry_tree entries)) c.deref.ensures.value c.in_ok-functions.ensures)
-    (subst (λ (fs : List FnId). AreRight (unit_tree c.args.unit.now) (proofs_tree c.in_ok-proofs.proofs) (numbers fs)) c.deref-2.ensures.value c.in_ok-check_all.ensures.right)
+    (subst (λ (fs : List FnId). AreRight (unit_tree c.args.unit.now) (proofs_tree c.in_ok-proofs.proofs) (numbers fs)) c.deref-2.ensures.value c.in_ok-check_proofs.ensures.right)
     c.len.result c.len-3.result c.len-2.result
     (c.len.ensures ∙ c.in_ok-functions.functions.ok.0) (c.len-3.ensures ∙ c.in_ok-functions.functions.ok.0) (c.len-2.ensures ∙ c.in_ok-proofs.proofs.functions.ok.0)

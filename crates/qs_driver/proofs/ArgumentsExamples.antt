@@ -4,7 +4,7 @@ use Rattle.qs_core.specs.Interfaces.{main_types}
 use Rattle.qs_memory.specs.declared.scalar.Scalar.TheVariants.{Int, Unsigned}
 use Rattle.qs_certify.specs.Bound.{IsNumberOf}
 use Rattle.qs_prooftext_meaning.proofs.Examples.{u}
-use Rattle.qs_driver.specs.Misfits.{IsFirstUnfit}
+use Rattle.qs_driver_proofs.specs.Misfits.{IsFirstUnfit}
 use Rattle.qs_driver.proofs.MainLaws.{number_of_type, type_of_number}
 
 -- `unsigned f(unsigned n, int q)`, whose second parameter lies in a block

@@ -34,7 +34,7 @@ use Rattle.qs_compile.specs.Agree.{AgreesFrom, IsInput}
 use Rattle.qs_compile.specs.Compiled.{IsCompiled, IsImageOfSource, SourceHasStack}
 use Rattle.qs_ports.specs.StoreView.{StoreView}
 use Rattle.qs_driver.specs.Bounds.{bound_by, bytes_by, need_by, costs_in, if_finite, linear_runs, main_runs, seen_runs, IsBounded, IsBoundedByMain, IsImageOf, WeighsWithin}
-use Rattle.qs_driver.specs.Misfits.{IsMisfit}
+use Rattle.qs_driver_proofs.specs.Misfits.{IsMisfit}
 use Rattle.qs_driver.specs.Certified.{CertifiedSource, CertifyWords, IsCertifiedAs, ReadsCertified}
 use Rattle.qs_driver.proofs.MainLaws.{arguments_are_mains, parameters_are, misfits}
 

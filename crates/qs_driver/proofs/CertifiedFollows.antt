@@ -24,7 +24,8 @@ use Rattle.qs_driver_session.proofs.FilesLaws.{held_content, held_long}
 use Rattle.qs_driver_session.proofs.SourceFollows.{not_absent, not_long, one_content, source_own, source_no_unit}
 use Rattle.qs_driver_session.proofs.SourceLaws.{same_trees}
 use Rattle.qs_driver_session.proofs.rooms.Follows.{not_untouched, source_shows, unread_shows}
-use Rattle.qs_driver.specs.Certified.{CertifyWords, LacksCertified, HoldsRight, HoldsRightProofs, HasWrongProofs, ReadsWrong, WasReadProof, Tells, IsOfCertified, of_source, missing_proof, long_proof, wrong_proof}
+use Rattle.qs_driver_proofs.specs.Refusals.{Tells}
+use Rattle.qs_driver.specs.Certified.{CertifyWords, LacksCertified, HoldsRight, HoldsRightProofs, HasWrongProofs, ReadsWrong, WasReadProof, IsOfCertified, of_source, missing_proof, long_proof, wrong_proof}
 use Rattle.qs_driver.specs.Certified as meant
 
 -- ---- its own statuses

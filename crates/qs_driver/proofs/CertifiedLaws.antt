@@ -8,8 +8,6 @@ use Rattle.qs_syntax.specs.Units.{IsRead}
 use Rattle.qs_core.specs.Trees.{CoreUnitTree}
 use Rattle.qs_core.specs.UnitTrees.{unit_tree}
 use Rattle.qs_elaborate_bodies.specs.Units.{core_of}
-use Rattle.qs_elaborate_laws.specs.FitLaws.{HasCore}
-use Rattle.qs_elaborate_laws.proofs.FitCore.{units_have_cores}
 use Rattle.qs_triples.specs.TreeOf.{proofs_tree}
 use Rattle.qs_certify.specs.Certification.{CannotCertify}
 use Rattle.qs_certify.specs.declared.fault.CertifyFault.{CertifyFault}
@@ -20,20 +18,13 @@ use Rattle.qs_driver_session.specs.Source.{HasUnit, IsTypedAs, LacksSource}
 use Rattle.qs_driver_session.specs.declared.status.Status.{Status}
 use Rattle.qs_driver_session.specs.declared.status.FileKind.TheVariants as kinds
 use Rattle.qs_driver_session.proofs.LaterLaws.{both_untouched, unread_later, was_read_before}
-use Rattle.qs_driver.specs.Certified.{CertifyWords, CertifiedSource, IsCertifiedAs, Certifies, WasReadProof, ReadsProof, TellsFault, file_of, IsCertifiedUnit, CertifiesTyped, LacksCertified, ReadsAll}
+use Rattle.qs_driver_proofs.specs.Refusals.{Tells, TellsFault}
+use Rattle.qs_driver_proofs.proofs.SourceReads.{core_there, own_core}
+use Rattle.qs_driver.specs.Certified.{CertifyWords, CertifiedSource, IsCertifiedAs, Certifies, HasCertified, HasItsCore, WasReadProof, ReadsProof, file_of, IsCertifiedUnit, CertifiesTyped, LacksCertified, ReadsAll}
 use Rattle.qs_driver.specs.Certified as meant
 use Rattle.qs_driver.specs.declared.certified.CertifiedUnit.{CertifiedUnit}
 
 -- ---- a text has one core
-
--- the unit of a text has a core
-pub core_there : {text : List ℕ} {trees : List DeclTree} (h : IsTypedAs text trees) → IsRead trees → HasCore trees
-core_there {trees = trees} h read =
-    let same : h.typed.unit.trees ≡ trees = h.trees_are in
-    subst HasCore same (units_have_cores h.typed.unit.trees (subst IsRead (sym same) read) h.typed.well_typed h.typed.within_limits)
-
-own_core : {text : List ℕ} {trees : List DeclTree} (h : IsTypedAs text trees) → IsRead trees → HasCore h.typed.unit.trees
-own_core h read = subst HasCore (sym h.trees_are) (core_there h read)
 
 -- what the code holds of the certified unit of a text
 pub record HoldsCertified (text : List ℕ) (file : Option (List ℕ)) (c : CertifiedUnit) : Type 0 where
@@ -60,6 +51,10 @@ holds_certified {unit = unit} file c typed_as read k =
       };
       holds = record { unit = k.unit_is; core = refl; proofs = refl; counts = k.certified.counts };
     }
+
+-- what was read has its core
+pub has_its_core : {w : CertifyWords} {before after : StoreView} {c : CertifiedUnit} → HasCertified w before after c → HasItsCore c
+has_its_core h = ap core_of h.holds.unit ∙ h.reads.is.has_core.is ∙ ap Some (h.reads.is.core_is ∙ sym h.holds.core)
 
 -- ---- the proof file
 
@@ -125,7 +120,7 @@ was_refused c v u w core file fault status read h r is cause (inr (told, e, tell
         has_core = there;
         fault = fault;
         cause = subst (λ (u : CoreUnitTree). CannotCertify u (file_of file) fault) (sym same) cause;
-        tells = subst (λ (u : CoreUnitTree). meant.Tells u (file_of file) fault told) (sym same) tells;
+        tells = subst (λ (u : CoreUnitTree). Tells u (file_of file) fault told) (sym same) tells;
       };
     }) e
 

@@ -39,10 +39,11 @@ use Rattle.qs_driver_session.proofs.FilesLaws.{held_content, held_long}
 use Rattle.qs_driver_session.proofs.SourceFollows.{IsNoRefusal, SourceEnds, good, source_ends, source_no_unit, refuses_source, done_is_none, not_absent, not_long, one_content, same_content}
 use Rattle.qs_driver_session.proofs.SourceFollows as source
 use Rattle.qs_driver_session.proofs.SourceLaws.{same_pos}
-use Rattle.qs_driver.specs.Certified.{CertifyWords, CertifiedSource, LacksCertified, ReadsCertified, WasReadProof, HoldsProof, HoldsBoth, HoldsUnit, OfProof, Tells, IsTextPlace, HasTextFaultAt, LeavesCycle, IsCycleOf, HasFirstFault, LacksDerivation, IsCycleStatus, IsEntryStatus, RefusesCertified}
+use Rattle.qs_driver_proofs.specs.Refusals.{Tells, IsTextPlace, HasTextFaultAt}
+use Rattle.qs_driver.specs.Certified.{CertifyWords, CertifiedSource, LacksCertified, ReadsCertified, WasReadProof, HoldsProof, HoldsBoth, HoldsUnit, OfProof, LeavesCycle, IsCycleOf, HasFirstFault, LacksDerivation, IsCycleStatus, IsEntryStatus, RefusesCertified}
 use Rattle.qs_driver.specs.Certified as meant
 use Rattle.qs_driver.proofs.CertifiedFollows.{same_cores, tells_none}
-use Rattle.qs_driver.proofs.ToldPlaces.{told_by}
+use Rattle.qs_driver_proofs.proofs.ToldPlaces.{told_by}
 
 -- ---- how it ends
 

@@ -3,8 +3,6 @@ mod ArgumentsExamples
 pub mod BoundsLaws
 mod BoundsExamples
 pub mod SizesLaws
-pub mod ToldLaws
-pub mod ToldPlaces
 pub mod CertifiedLaws
 pub mod CertifiedFollows
 pub mod CertifiedRefusals

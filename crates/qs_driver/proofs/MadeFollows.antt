@@ -35,13 +35,13 @@ use Rattle.qs_driver_session.proofs.SourceFollows.{one_content}
 use Rattle.qs_driver_session.proofs.SourceLaws.{same_trees}
 use Rattle.qs_driver_session.proofs.rooms.Follows.{not_untouched}
 use Rattle.qs_driver.specs.Certified.{CertifyWords, CertifiedSource, ReadsCertified, WasReadProof, IsRightFile, HoldsRight, HoldsRightProofs, IsOfCertified, of_source, missing_proof, long_proof, wrong_proof}
-use Rattle.qs_driver.specs.Misfits.{CountDiffers, IsMisfit}
+use Rattle.qs_driver_proofs.specs.Misfits.{CountDiffers, IsMisfit}
 use Rattle.qs_driver.specs.Made.{MakeWords, IsMade, ReadsMain, CannotMake, HoldsMain, FitsMain, IsOfMade, RefusesMade}
 use Rattle.qs_driver.specs.Made as meant
 use Rattle.qs_driver.proofs.BoundsLaws.{core_is}
 use Rattle.qs_driver.proofs.CertifiedFollows.{certified_own, certified_shows, certified_no_right}
 use Rattle.qs_driver.proofs.CertifiedRefusals.{CertifiedEnds, IsNoCertifiedRefusal, certified_ends, was_right, refuses_certified}
-use Rattle.qs_driver.proofs.MainLaws.{as_many, one_unfit, none_unfit}
+use Rattle.qs_driver_proofs.proofs.NumberLaws.{as_many, one_unfit, none_unfit}
 
 -- ---- statuses at which a source or its proofs are refused
 

@@ -2,7 +2,6 @@
 use Rattle.std.proofs.Common.{◌≡◌, ℕ, zero, suc, ◌+◌, ◌-◌, ◌^◌, Bool, true, false, if◌then◌else◌, ℤ, pos, negsuc, List, [], ◌∷◌, length, Option, Some, None, refl, sym, ap, ◌∙◌, subst, arith, add-zero}
 use Rattle.std.specs.Prelude.{◌↔◌, ◌≤ℤ◌, ◌&&◌, int_le, bytes_eq}
 use Rattle.std.specs.List.{slice_get, list_all}
-use Rattle.std.proofs.lemmas.Int.{ints}
 use Rattle.std.proofs.lemmas.Bool.{and_parts}
 use Rattle.qs_memory.specs.Scalars.{same_scalar, is_type, is_promoted}
 use Rattle.qs_memory.specs.declared.scalar.Scalar.{Scalar}
@@ -17,15 +16,10 @@ use Rattle.qs_machine.specs.Arguments as image_arguments
 use Rattle.qs_compile.specs.Built.{IsBuiltFrom}
 use Rattle.qs_certify.specs.Bound.{IsNumberOf, AreNumbersOf}
 use Rattle.qs_certify.specs.Bound as certify
-use Rattle.qs_driver.specs.Misfits.{IsFirstUnfit, IsMisfit}
+use Rattle.qs_driver_proofs.specs.Misfits.{IsFirstUnfit, IsMisfit}
+use Rattle.qs_driver_proofs.proofs.NumberLaws.{least_below, below_least, as_many}
 
 -- ---- numbers
-
-least_below : (a z : ℤ) → int_le a z ≡ true → a ≤ℤ z
-least_below a z h = grind (arith, ints)
-
-below_least : (a z : ℤ) → a ≤ℤ z → int_le a z ≡ true
-below_least a z h = grind (arith, ints)
 
 between : (low high z : ℤ) → is_between low high z ≡ true → (low ≤ℤ z) × (z ≤ℤ high)
 between low high z h = let p = and_parts (int_le low z) (int_le z high) h in (least_below low z p.0, least_below z high p.1)
@@ -100,12 +94,6 @@ numbers_fit image i (s ∷ types) (z ∷ zs) promoted tells are =
     ap (λ b. if b then first_misfit image (i + 1) zs else Some i) (ap (λ b. is_number b z) (tells_first image i s types tells) ∙ type_of_number s z p.0 are.0)
     ∙ numbers_fit image (i + 1) types zs p.1 (tells_others image i s types tells) are.1
 
-pub as_many : (types : List Scalar) (zs : List ℤ) → AreNumbersOf types zs → length zs ≡ length types
-as_many [] [] are = refl
-as_many [] (z ∷ zs) are = absurd are
-as_many (s ∷ types) [] are = absurd are
-as_many (s ∷ types) (z ∷ zs) are = let e = as_many types zs are.1 in omega (arith, e)
-
 -- the first argument that doesn't fit is the first that is no number of its type, those from i on being given
 abbrev IsUnfitFrom : (i : ℕ) → List Scalar → List ℤ → (found : ℕ) → Type 0
 IsUnfitFrom i types zs found = (j : ℕ) × (found ≡ i + j) × IsFirstUnfit types zs j
@@ -140,21 +128,6 @@ unfit_from image i (s ∷ types) (z ∷ zs) found promoted tells long h =
     unfit_here image i s types z zs found p.0 (ap (λ b. is_number b z) (tells_first image i s types tells))
     (λ later. unfit_from image (i + 1) types zs found p.1 (tells_others image i s types tells) as_long later)
     (fits_parameter image i z) refl h
-
--- there is one such argument, and none where all are numbers of their types
-pub one_unfit : (types : List Scalar) (zs : List ℤ) (i j : ℕ) → IsFirstUnfit types zs i → IsFirstUnfit types zs j → i ≡ j
-one_unfit [] zs i j h k = absurd h
-one_unfit (s ∷ types) [] i j h k = absurd h
-one_unfit (s ∷ types) (z ∷ zs) zero zero h k = refl
-one_unfit (s ∷ types) (z ∷ zs) zero (suc j) h k = absurd (h k.0)
-one_unfit (s ∷ types) (z ∷ zs) (suc i) zero h k = absurd (k h.0)
-one_unfit (s ∷ types) (z ∷ zs) (suc i) (suc j) h k = ap suc (one_unfit types zs i j h.1 k.1)
-
-pub none_unfit : (types : List Scalar) (zs : List ℤ) (i : ℕ) → AreNumbersOf types zs → IsFirstUnfit types zs i → ⊥
-none_unfit [] zs i are h = h
-none_unfit (s ∷ types) [] i are h = h
-none_unfit (s ∷ types) (z ∷ zs) zero are h = h are.0
-none_unfit (s ∷ types) (z ∷ zs) (suc i) are h = none_unfit types zs i are.1 h.1
 
 -- ---- main
 

@@ -1,6 +1,6 @@
 -- The promises in plain words.
 use Rattle.std.proofs.Common.{◌≡◌, ℕ, List, Option, Some, None, sym, ap, subst, inl, inr}
-use Rattle.qs_cli.specs.Commands.{Command, meaning, Build, Check, Bound, Derive, Outline, Run, Exec, Sample, Elf, Unelf}
+use Rattle.qs_cli.specs.Commands.{Command, meaning, Build, Check, Bound, Calls, Derive, Outline, Run, Exec, Sample, Elf, Unelf}
 use Rattle.qs_core.specs.Trees.{CoreUnitTree}
 use Rattle.qs_syntax.specs.Trees.{UnitTree}
 use Rattle.qs_ports.specs.StoreView.{StoreView, Files}
@@ -29,11 +29,13 @@ use Rattle.qs_driver_session.proofs.OriginRefusals.{source_refused}
 use Rattle.qs_driver_session.proofs.PlainWordsLaws.{run_in_plain_words, usage_in_plain_words}
 use Rattle.qs_driver_session.proofs.SeenLaws.{no_ends}
 use Rattle.qs_driver_elf.proofs.PlainWords.{elf_in_plain_words, unelf_in_plain_words}
+use Rattle.qs_driver_calls.proofs.PlainWords.{calls_in_plain_words}
 use Rattle.qs_driver.specs.Asked.{Promises}
 use Rattle.qs_driver.specs.Certified.{CertifyWords, CertifiedSource, certify_words}
 use Rattle.qs_driver.specs.PlainWords.{HasCoreUnit, HasOutline, IsOfOutline, KeepsOutline, HasChecked, IsOfCheck, KeepsCheck, CertifiedAreBounded, Keeps, PromisesInPlainWords}
 use Rattle.qs_driver.specs.PlainWords as meant
-use Rattle.qs_driver.specs.Proved.{IsCoreOf, certified}
+use Rattle.qs_driver_proofs.specs.Steps.{IsCoreOf}
+use Rattle.qs_driver.specs.Proved.{certified}
 use Rattle.qs_driver.specs.Tool.{task_of}
 use Rattle.qs_driver.specs.commands.Check as check
 use Rattle.qs_driver.specs.commands.Check.{checked}
@@ -41,8 +43,10 @@ use Rattle.qs_driver.specs.commands.Outline as outline
 use Rattle.qs_driver.specs.commands.Outline.{OutlineWords, outline_words, outline_unit}
 use Rattle.qs_driver.proofs.BoundsLaws.{source_bounded}
 use Rattle.qs_driver.proofs.OwnLaws.{source_own, certified_own}
-use Rattle.qs_driver.proofs.ProvedReads.{HasText, passed_text, passed_certified}
-use Rattle.qs_driver.proofs.ProvedRefusals.{unit_leads, right_comes, certified_refused}
+use Rattle.qs_driver_proofs.proofs.SourceReads.{HasText, passed_text}
+use Rattle.qs_driver.proofs.ProvedReads.{passed_certified}
+use Rattle.qs_driver_proofs.proofs.SourceReads.{unit_leads}
+use Rattle.qs_driver.proofs.ProvedRefusals.{right_comes, certified_refused}
 use Rattle.qs_driver.proofs.rooms.Check.{check_good, check_ordered}
 use Rattle.qs_driver.proofs.rooms.Outline.{outline_good, outline_ordered}
 
@@ -157,6 +161,7 @@ keeps None v w status p = usage_in_plain_words v w status p
 keeps (Some (Build source proof out)) v w status p = tt
 keeps (Some (Check source proof)) v w status p = keeps_check (certify_words source proof) v w status p
 keeps (Some (Bound source proof args)) v w status p = tt
+keeps (Some (Calls words)) v w status p = calls_in_plain_words words v w status p
 keeps (Some (Derive source out)) v w status p = tt
 keeps (Some (Outline source)) v w status p = keeps_outline (outline_words source) v w status p
 keeps (Some (Run image stack args input most)) v w status p = run_in_plain_words (run_words image stack args input most) v w status p

@@ -1,13 +1,11 @@
 -- What was read where a source with its proofs passed, and how the code comes to it.
-use Rattle.std.proofs.Common.{◌≡◌, ◌∙◌, ℕ, List, Option, Some, None, Result, Ok, Err, refl, sym, subst, inl, inr}
-use Rattle.std.proofs.lemmas.Option.{same_Some}
+use Rattle.std.proofs.Common.{ℕ, List, Option, Some, None, Result, Ok, Err, refl, sym, subst, inl, inr}
 use Rattle.std.specs.Prelude.{Vec}
 use Rattle.std.specs.declared.alloc.Global.{Global}
 use Rattle.qs_syntax.specs.Trees.{UnitTree}
 use Rattle.qs_syntax.specs.Units.{IsRead}
 use Rattle.qs_core.specs.Trees.{CoreUnitTree}
 use Rattle.qs_core.specs.UnitTrees.{unit_tree}
-use Rattle.qs_elaborate_bodies.specs.Units.{core_of}
 use Rattle.qs_certify.specs.Certification.{CannotCertify}
 use Rattle.qs_certify.specs.declared.fault.CertifyFault.{CertifyFault}
 use Rattle.qs_triples.specs.TreeOf.{proofs_tree}
@@ -17,32 +15,21 @@ use Rattle.qs_driver_steps.specs.Runs.{Halted, Passed}
 use Rattle.qs_driver_steps.proofs.SharedLaws.{passed_untouched}
 use Rattle.qs_driver_steps.proofs.ThenLaws.{then_passed, passed_halted, then_halted, passed_both}
 use Rattle.qs_driver_session.specs.Limits.{source_limit, proof_limit}
-use Rattle.qs_driver_session.specs.Files.{WasReadAs}
 use Rattle.qs_driver_session.specs.Origin.{origin}
 use Rattle.qs_driver_session.specs.Source.{IsTypedAs}
 use Rattle.qs_driver_session.specs.declared.status.Status.{Status}
 use Rattle.qs_driver_session.proofs.FilesLaws.{was_read_as}
 use Rattle.qs_driver_session.proofs.LaterLaws.{was_read_before}
-use Rattle.qs_driver.specs.Certified.{CertifyWords, CertifiedSource, IsCertifiedAs, HoldsProof, WasReadProof, ReadsCertified, TellsFault, IsCertifiedUnit, LacksCertificate, cannot_certify, lacks_memory, CertifiesTyped, file_of}
-use Rattle.qs_driver.specs.Proved.{IsCoreOf, proof_file, of_file, source_of, proved, certified, ReadsProved}
+use Rattle.qs_driver_proofs.specs.Refusals.{TellsFault}
+use Rattle.qs_driver_proofs.proofs.SourceReads.{passed_text, is_core_of}
+use Rattle.qs_driver.specs.Certified.{CertifyWords, CertifiedSource, IsCertifiedAs, HoldsProof, WasReadProof, ReadsCertified, IsCertifiedUnit, LacksCertificate, cannot_certify, lacks_memory, CertifiesTyped, file_of}
+use Rattle.qs_driver_proofs.specs.Steps.{IsCoreOf}
+use Rattle.qs_driver.specs.Proved.{proof_file, of_file, source_of, proved, certified, ReadsProved}
 use Rattle.qs_driver.specs.declared.certified.CertifiedUnit.{CertifiedUnit}
-use Rattle.qs_driver.proofs.CertifiedLaws.{core_there}
-use Rattle.qs_driver.proofs.ProvedLaws.{no_core, core_passes, core_wants_memory, core_stops, of_status}
+use Rattle.qs_driver_proofs.proofs.StepsLaws.{no_core}
+use Rattle.qs_driver.proofs.ProvedLaws.{core_passes, core_wants_memory, core_stops, of_status}
 
 -- ---- what was read
-
--- the trees of a source are those of its text
-pub record HasText (v : StoreView) (name : List ℕ) (unit : UnitTree) : Type 0 where
-  pub text : List ℕ
-  pub read_as : WasReadAs v name source_limit text
-  pub typed_as : IsTypedAs text unit
-
-pub passed_text : (name : List ℕ) (v w : StoreView) (unit : UnitTree) → Passed (origin name) v w unit → HasText v name unit
-passed_text name v w unit (a, text, r, (b, u, l, (c, x, p, (d, trees, t, (e, is))))) = record {
-  text = text;
-  read_as = was_read_as v name source_limit text r.finds;
-  typed_as = subst (λ (y : UnitTree). IsTypedAs text y) (sym is) t.finds.so;
-}
 
 passed_file : (v u w : StoreView) (proof file : Option (List ℕ)) → IsUntouched v u → Passed (proof_file proof) u w file → WasReadProof v proof file
 passed_file v u w None file before (e, is) = is
@@ -83,11 +70,6 @@ pub record HoldsSource (c : CertifyWords) (f : Files) (s : CertifiedSource) : Ty
   pub is : IsCertifiedAs text file s
 
 -- ---- what the certifier answers
-
-pub is_core_of : {text : List ℕ} {unit : UnitTree} (core : CoreUnitTree) → IsTypedAs text unit → IsRead unit → core_of unit ≡ Some core → IsCoreOf unit core
-is_core_of core typed read is =
-    let there = core_there typed read in
-    record { has_core = there; is = same_Some there.core core (sym there.is ∙ is) }
 
 module _ (unit : UnitTree) (file : Option (List ℕ)) (v : StoreView) where
   -- the certifier's refusal is told

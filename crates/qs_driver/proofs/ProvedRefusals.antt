@@ -9,6 +9,7 @@ use Rattle.qs_core.specs.CallGraph.{IsWithoutRecursion}
 use Rattle.qs_core.specs.Trees.{CoreUnitTree}
 use Rattle.qs_elaborate_bodies.specs.Units.{core_of}
 use Rattle.qs_triples.specs.Derivations.{ProofsTree}
+use Rattle.qs_triples.specs.declared.resource.Resource.TheVariants.{Stack}
 use Rattle.qs_prooftext_meaning.specs.Proofs.{no_proofs}
 use Rattle.qs_prooftext_meaning.specs.declared.fault.TextFault.{TextFault}
 use Rattle.qs_analyse.specs.Fillable.{entry_functions}
@@ -41,20 +42,17 @@ use Rattle.qs_driver_session.specs.declared.status.Status.{Status}
 use Rattle.qs_driver_session.specs.declared.status.Status.TheVariants.{Source, Proof, Missing}
 use Rattle.qs_driver_session.proofs.OriginLaws.{origin_single, origin_within}
 use Rattle.qs_driver_session.proofs.OriginRefusals.{source_refused}
-use Rattle.qs_driver.specs.Certified.{CertifyWords, CertifiedSource, HoldsRight, HoldsRightProofs, HoldsProof, HoldsBoth, HoldsUnit, OfProof, HasTextFaultAt, LeavesCycle, IsCycleOf, IsCycleStatus, IsEntryStatus, RefusesCertified}
+use Rattle.qs_driver_proofs.specs.Refusals.{HasTextFaultAt}
+use Rattle.qs_driver_proofs.proofs.SourceReads.{unit_leads, core_is, exactly_same}
+use Rattle.qs_driver.specs.Certified.{CertifyWords, CertifiedSource, HoldsRight, HoldsRightProofs, HoldsProof, HoldsBoth, HoldsUnit, OfProof, LeavesCycle, IsCycleOf, IsCycleStatus, IsEntryStatus, RefusesCertified}
 use Rattle.qs_driver.specs.Certified as meant
-use Rattle.qs_driver.specs.Proved.{IsCoreOf, proof_file, reading_proofs, leaving_no_cycle, filling, AreOrdered, LacksDerivation, AreCovering, source_of, of_proofs, of_given, of_core, of_file, proved, certified}
+use Rattle.qs_driver_proofs.specs.Steps.{IsCoreOf, reading_proofs, LacksDerivation}
+use Rattle.qs_driver.specs.Proved.{proof_file, leaving_no_cycle, filling, AreOrdered, AreCovering, source_of, of_proofs, of_given, of_core, of_file, proved, certified}
 use Rattle.qs_driver.proofs.ProvedReads.{HoldsSource}
-use Rattle.qs_driver.proofs.ProvedLaws.{text_sound, text_one, cycle_sound, cycle_one, filling_sound, filling_one, one_lack, all_derived, file_single, file_within, proved_within}
-
-exactly_same : (a b : Status) → exactly a ≡ exactly b → a ≡ b
-exactly_same a b e = cc
+use Rattle.qs_driver_proofs.proofs.StepsLaws.{text_sound, text_one, one_lack}
+use Rattle.qs_driver.proofs.ProvedLaws.{cycle_sound, cycle_one, filling_sound, filling_one, all_derived, file_single, file_within, proved_within}
 
 -- ---- what the files give
-
--- a typed unit comes of the steps of its source
-pub unit_leads : (name : List ℕ) (files : Files) (text : List ℕ) → HoldsContent (files name) source_limit text → (typed : IsTypedUnit text) → Leads (origin name) files typed.unit.trees
-unit_leads name files text there typed = (text, there, (tt, record { tokens = typed.unit.tokens; are_tokens = typed.unit.are_tokens }, (tt, typed.unit, (typed.unit.trees, record { typed = typed; trees_are = refl }, refl))))
 
 file_leads : (files : Files) (proof file : Option (List ℕ)) → HoldsProof files proof file → Leads (proof_file proof) files file
 file_leads files None file h = h
@@ -64,9 +62,6 @@ file_leads files (Some name) (Some text) h = (text, h, refl)
 leads_file : (files : Files) (proof file : Option (List ℕ)) → Leads (proof_file proof) files file → HoldsProof files proof file
 leads_file files None file e = e
 leads_file files (Some name) file (text, h, e) = subst (λ (x : Option (List ℕ)). HoldsProof files (Some name) x) (sym e) h
-
-core_is : (unit : UnitTree) (core : CoreUnitTree) → IsCoreOf unit core → core_of unit ≡ Some core
-core_is unit core is = is.has_core.is ∙ ap Some is.is
 
 -- proofs that stop nowhere, of the core of a unit
 record HasRight (core : CoreUnitTree) (file : Option (List ℕ)) : Type 0 where
@@ -232,12 +227,12 @@ module _ (w : CertifyWords) (next : CertifiedSource → Command tool) (files : F
         let of = h.so.first in
         let unit : UnitTree = h.typed.unit.trees in
         let proofs : ProofsTree = of.so.proofs in
-        let lacks : LacksDerivation h.core of.given proofs function place wrong = record { function = h.so.function; fault = h.so.fault; named = h.so.named; first = of.so.first; place_is = h.so.place_is; wrong_is = h.so.wrong_is } in
+        let lacks : LacksDerivation Stack h.core of.given proofs function place wrong = record { function = h.so.function; fault = h.so.fault; named = h.so.named; first = of.so.first; place_is = h.so.place_is; wrong_is = h.so.wrong_is } in
         let there = past_text unit h.file h.core of.given of.given_is (past_both (meant.LacksDerivation function place wrong) h comes) in
         let filled = past_cycle unit h.file h.core of.given of.so.all.no_cycle there in
         elim (past_filling unit h.file h.core of.given proofs (record { all = of.so.all; in_order = of.so.in_order }) filled) [
           | inl (f, c, e) ↦ (
-              let one = one_lack h.core of.given proofs f.function function (place_of f.spot) place f.wrong wrong c lacks in
+              let one = one_lack Stack h.core of.given proofs f.function function (place_of f.spot) place f.wrong wrong c lacks in
               (f.spot, one.1, e ∙ ap (λ (x : List ℕ). Proof (Entry x f.spot f.wrong)) one.0 ∙ ap (λ (x : ProofText). Proof (Entry function f.spot x)) one.2)
               )
           | inr (u, covers, rest) ↦ (

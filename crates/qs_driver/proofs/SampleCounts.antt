@@ -4,7 +4,7 @@ use Rattle.std.specs.Prelude.{option_and_then}
 use Rattle.std.proofs.lemmas.Bool.Decides.{nat_tests}
 use Rattle.qs_cli.specs.Words.{Text, Values, operand, reading}
 use Rattle.qs_cli.specs.Numbers.{most_sample_functions, number_of, within, steps_of, arguments_of}
-use Rattle.qs_cli.specs.Commands.{Command, Build, Check, Bound, Derive, Outline, Run, Exec, Sample, Elf, Unelf, elf_words, unelf_words, ◌⊛◌, stack_of, sample_count_of, build_options, check_options, bound_options, derive_options, outline_options, run_options, exec_options, sample_options, elf_options, unelf_options, build_of, check_of, bound_of, derive_of, outline_of, run_of, exec_of, sample_of, elf_of, unelf_of, command_named, meaning}
+use Rattle.qs_cli.specs.Commands.{Command, Build, Check, Bound, Calls, Derive, Outline, Run, Exec, Sample, Elf, Unelf, calls_words, elf_words, unelf_words, ◌⊛◌, stack_of, sample_count_of, build_options, check_options, bound_options, calls_options, derive_options, outline_options, run_options, exec_options, sample_options, elf_options, unelf_options, build_of, check_of, bound_of, calls_of, derive_of, outline_of, run_of, exec_of, sample_of, elf_of, unelf_of, command_named, meaning}
 use Rattle.qs_driver.specs.SampleLaws.{IsSampleCount}
 
 -- if this is a sample, it has such a count
@@ -13,6 +13,7 @@ HasCount None = Unit {0}
 HasCount (Some (Build source proof out)) = Unit {0}
 HasCount (Some (Check source proof)) = Unit {0}
 HasCount (Some (Bound source proof args)) = Unit {0}
+HasCount (Some (Calls words)) = Unit {0}
 HasCount (Some (Derive source out)) = Unit {0}
 HasCount (Some (Outline source)) = Unit {0}
 HasCount (Some (Run image stack args input steps)) = Unit {0}
@@ -36,6 +37,12 @@ bound_has : (a p : Option Text) (z : Option (List ℤ)) → HasCount (Some (λ s
 bound_has None p z = tt
 bound_has (Some a) p None = tt
 bound_has (Some a) p (Some z) = tt
+
+calls_has : (a p : Option Text) (z : Option (List ℤ)) → HasCount (Some (λ source proof args. Calls (calls_words source proof args)) ⊛ a ⊛ p ⊛ z)
+calls_has None p z = tt
+calls_has (Some a) None z = tt
+calls_has (Some a) (Some p) None = tt
+calls_has (Some a) (Some p) (Some z) = tt
 
 derive_has : (a c : Option Text) → HasCount (Some (λ source out. Derive source out) ⊛ a ⊛ c)
 derive_has None c = tt
@@ -102,13 +109,14 @@ named_has name words =
     either (bytes_eq name (codes "build")) _ _ (read_has build_of (λ at. build_has (at operand) (at (codes "proof")) (at (codes "out"))) (reading build_options words))
     (either (bytes_eq name (codes "check")) _ _ (read_has check_of (λ at. check_has (at operand) (at (codes "proof"))) (reading check_options words))
     (either (bytes_eq name (codes "bound")) _ _ (read_has bound_of (λ at. bound_has (at operand) (at (codes "proof")) (arguments_of (at (codes "args")))) (reading bound_options words))
+    (either (bytes_eq name (codes "calls")) _ _ (read_has calls_of (λ at. calls_has (at operand) (at (codes "proof")) (arguments_of (at (codes "args")))) (reading calls_options words))
     (either (bytes_eq name (codes "derive")) _ _ (read_has derive_of (λ at. derive_has (at operand) (at (codes "out"))) (reading derive_options words))
     (either (bytes_eq name (codes "outline")) _ _ (read_has outline_of (λ at. outline_has (at operand)) (reading outline_options words))
     (either (bytes_eq name (codes "run")) _ _ (read_has run_of (λ at. run_has (at operand) (stack_of (at (codes "stack"))) (arguments_of (at (codes "args"))) (at (codes "input")) (steps_of (at (codes "steps")))) (reading run_options words))
     (either (bytes_eq name (codes "exec")) _ _ (read_has exec_of (λ at. exec_has (at operand) (at (codes "proof")) (arguments_of (at (codes "args"))) (at (codes "input")) (steps_of (at (codes "steps")))) (reading exec_options words))
     (either (bytes_eq name (codes "sample")) _ _ (read_has sample_of (λ at. sample_has (at operand) (at (codes "out"))) (reading sample_options words))
     (either (bytes_eq name (codes "elf")) _ _ (read_has elf_of (λ at. elf_has (at operand) (at (codes "out"))) (reading elf_options words))
-    (either (bytes_eq name (codes "unelf")) _ _ (read_has unelf_of (λ at. unelf_has (at operand) (at (codes "out"))) (reading unelf_options words)) tt)))))))))
+    (either (bytes_eq name (codes "unelf")) _ _ (read_has unelf_of (λ at. unelf_has (at operand) (at (codes "out"))) (reading unelf_options words)) tt))))))))))
 
 words_have : (words : List Text) → HasCount (meaning words)
 unfolding meaning

@@ -16,7 +16,7 @@ use Rattle.qs_driver_session.specs.Starting.{IsStackOf}
 use Rattle.qs_driver_session.specs.declared.status.Status.{Status}
 use Rattle.qs_driver_session.specs.declared.status.Status.TheVariants.{NoMemory}
 use Rattle.qs_driver_session.proofs.SourceLaws.{no_unit, syntax_no_unit, lex_or_unit, ill_typed_or_typed, same_trees}
-use Rattle.qs_driver.specs.Certified.{TellsFault}
+use Rattle.qs_driver_proofs.specs.Refusals.{TellsFault}
 use Rattle.qs_driver.specs.SampleLaws.{IsGoodSource}
 use Rattle.qs_driver.proofs.CertifiedFollows.{tells_none}
 

@@ -1,7 +1,6 @@
 pub mod Certified
 pub mod Bounds
 pub mod Sizes
-pub mod Misfits
 pub mod Made
 pub mod Proved
 pub mod commands

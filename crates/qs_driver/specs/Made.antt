@@ -18,7 +18,7 @@ use Rattle.qs_driver_steps.specs.Files.{IsUntouched}
 use Rattle.qs_driver_session.specs.declared.status.Status.{Status}
 use Rattle.qs_driver_session.specs.declared.status.Status.TheVariants.{Words, NoMemory}
 use Rattle.qs_driver_session.specs.declared.status.WordsFault.TheVariants.{ArgCount, ArgRange}
-use Rattle.qs_driver.specs.Misfits.{CountDiffers, IsMisfit}
+use Rattle.qs_driver_proofs.specs.Misfits.{CountDiffers, IsMisfit}
 use Rattle.qs_driver.specs.Certified.{CertifyWords, CertifiedSource, ReadsCertified, LacksCertified, HoldsRight, IsOfCertified, RefusesCertified}
 use Rattle.qs_driver.specs.Bounds.{IsImageOf, bound_by, costs_in}
 use Rattle.qs_driver.specs.declared.certified.CertifiedUnit.{CertifiedUnit}

@@ -2,7 +2,7 @@
 use Rattle.std.specs.Prelude.{◌≡◌, ℕ, List, map, IsTrue, Option, Some, None, string_bytes}
 use Rattle.std.specs.declared.alloc.Global.{Global}
 use Rattle.std.specs.declared.string.String.{String}
-use Rattle.qs_cli.specs.Commands.{Command, meaning, Build, Check, Bound, Derive, Outline, Run, Exec, Sample, Elf, Unelf}
+use Rattle.qs_cli.specs.Commands.{Command, meaning, Build, Check, Bound, Calls, Derive, Outline, Run, Exec, Sample, Elf, Unelf}
 use Rattle.qs_core.specs.Outline as core
 use Rattle.qs_core.specs.Trees.{CoreUnitTree}
 use Rattle.qs_elaborate_laws.specs.FitLaws.{HasCore}
@@ -23,6 +23,7 @@ use Rattle.qs_driver_session.specs.Statuses.{tool}
 use Rattle.qs_driver_session.specs.declared.status.Status.{Status}
 use Rattle.qs_driver_session.specs.declared.status.Status.TheVariants.{Done}
 use Rattle.qs_driver_elf.specs.Laws.{KeepsElf, KeepsUnelf}
+use Rattle.qs_driver_calls.specs.Laws.{KeepsCalls}
 use Rattle.qs_driver.specs.Asked.{Promises}
 use Rattle.qs_driver.specs.Bounds.{IsBounded}
 use Rattle.qs_driver.specs.Certified.{CertifyWords, CertifiedSource, certify_words, ReadsCertified, HoldsRight, IsOfCertified, RefusesCertified}
@@ -110,6 +111,7 @@ Keeps (Some (Build source proof out)) before after status = Unit {0}
 Keeps (Some (Check source proof)) before after status =
     KeepsCheck (certify_words source proof) before after status
 Keeps (Some (Bound source proof args)) before after status = Unit {0}
+Keeps (Some (Calls words)) before after status = KeepsCalls words before after status
 Keeps (Some (Derive source out)) before after status = Unit {0}
 Keeps (Some (Outline source)) before after status =
     KeepsOutline (outline_words source) before after status

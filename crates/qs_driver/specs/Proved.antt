@@ -1,25 +1,17 @@
 -- A unit with proofs that cover it, step by step: its core, the proofs that a file gives, and all proofs.
 use Rattle.std.specs.Prelude.{◌≡◌, ℕ, List, map, Option, Some, None, Result, Ok, Err, Vec}
 use Rattle.std.specs.declared.alloc.Global.{Global}
-use Rattle.qs_base.specs.declared.places.Pos.{Pos}
 use Rattle.qs_syntax.specs.Trees.{UnitTree}
 use Rattle.qs_core.specs.CallGraph.{IsCycle}
 use Rattle.qs_core.specs.FunctionNames.{function_name}
 use Rattle.qs_core.specs.Trees.{CoreUnitTree}
-use Rattle.qs_elaborate_laws.specs.FitLaws.{HasCore}
 use Rattle.qs_assert.specs.Order.{IsInOrder}
 use Rattle.qs_triples.specs.Derivations.{ProofsTree}
 use Rattle.qs_triples.specs.Entries.{has_entry, Covers}
-use Rattle.qs_triples.specs.Rules.{DerivFault}
-use Rattle.qs_prooftext_meaning.specs.declared.fault.TextFault.{TextFault}
-use Rattle.qs_analyse.specs.Fillable.{entry_functions}
+use Rattle.qs_triples.specs.declared.resource.Resource.TheVariants.{Stack}
 use Rattle.qs_analyse.specs.Laws.{HasNoCycle}
 use Rattle.qs_certify.specs.Certification.{AreAll, HasNoOrder}
-use Rattle.qs_certify.specs.Entries.{first_fault}
-use Rattle.qs_certify.specs.Given.{GivenIs}
-use Rattle.qs_report.specs.declared.fault_texts.ProofText.{ProofText}
-use Rattle.qs_report.specs.declared.fault_texts.Spot.{Spot}
-use Rattle.qs_driver_steps.specs.Reading.{deciding, finding}
+use Rattle.qs_driver_steps.specs.Reading.{deciding}
 use Rattle.qs_driver_steps.specs.Runs.{Halted, Passed}
 use Rattle.qs_driver_steps.specs.Steps.{Step, Steps, gives, first, then}
 use Rattle.qs_ports.specs.StoreView.{StoreView}
@@ -27,24 +19,16 @@ use Rattle.qs_driver_session.specs.Limits.{proof_limit}
 use Rattle.qs_driver_session.specs.Origin.{origin}
 use Rattle.qs_driver_session.specs.Shared.{reading_file}
 use Rattle.qs_driver_session.specs.Statuses.{tool}
-use Rattle.qs_driver_session.specs.Told.{EntryPlace, place_of, fault_place, fault_text}
+use Rattle.qs_driver_session.specs.Told.{place_of}
 use Rattle.qs_driver_session.specs.declared.status.FileKind.TheVariants as kinds
-use Rattle.qs_driver_session.specs.declared.status.ProofFault.TheVariants.{Text, Cycle, Order, Entry}
+use Rattle.qs_driver_session.specs.declared.status.ProofFault.TheVariants.{Cycle}
 use Rattle.qs_driver_session.specs.declared.status.Status.{Status}
 use Rattle.qs_driver_session.specs.declared.status.Status.TheVariants.{Proof}
-use Rattle.qs_driver.specs.Certified.{CertifyWords, CertifiedSource, Certifies, HasTextFaultAt}
+use Rattle.qs_driver_proofs.specs.Steps.{coring, reading_proofs, order_status, EntryRefusal, entry_status, LacksDerivation}
+use Rattle.qs_driver.specs.Certified.{CertifyWords, CertifiedSource, Certifies}
 use Rattle.qs_driver.specs.declared.certified.CertifiedUnit.{CertifiedUnit}
 
 -- ---- the core of a unit
-
--- the unit has this core, as which it runs
-pub record IsCoreOf (unit : UnitTree) (core : CoreUnitTree) : Type 0 where
-  pub has_core : HasCore unit
-  pub is : has_core.core ≡ core
-
--- each typed unit has a core: nothing but memory can be wanting
-abbrev pub coring : (unit : UnitTree) → Step tool
-coring unit = finding 8 (λ (core : CoreUnitTree). IsCoreOf unit core)
 
 -- ---- the proofs that a file gives
 
@@ -55,20 +39,6 @@ as_file text = gives (Some text)
 abbrev pub proof_file : (proof : Option (List ℕ)) → Steps tool (Option (List ℕ))
 proof_file None = gives None
 proof_file (Some name) = first (reading_file kinds.Derivation proof_limit name) as_file
-
--- what is wrong with its text, and where
-pub record TextRefusal : Type 0 where
-  pub fault : TextFault
-  pub pos : Pos
-
-abbrev pub text_status : TextRefusal → Status
-text_status f = Proof (Text f.fault f.pos)
-
--- the text reads as these proofs
-abbrev pub reading_proofs : CoreUnitTree → (file : Option (List ℕ)) → Step tool
-reading_proofs core file =
-    deciding 9 (λ (given : ProofsTree). GivenIs core file given)
-    (λ (f : TextRefusal). HasTextFaultAt core file f.fault f.pos) text_status
 
 -- ---- all proofs
 
@@ -93,34 +63,10 @@ pub record AreOrdered (core : CoreUnitTree) (given proofs : ProofsTree) : Type 0
   pub all : AreAll core given proofs
   pub in_order : IsInOrder proofs.defines
 
-abbrev pub order_status : List ℕ → Status
-order_status name = Proof (Order name)
-
 abbrev pub filling : CoreUnitTree → (given : ProofsTree) → Step tool
 filling core given =
     deciding 11 (λ (proofs : ProofsTree). AreOrdered core given proofs)
     (λ (name : List ℕ). HasNoOrder core given name) order_status
-
--- what is wrong with an entry, and where
-pub record EntryRefusal : Type 0 where
-  pub function : List ℕ
-  pub spot : Spot
-  pub wrong : ProofText
-
-abbrev pub entry_status : EntryRefusal → Status
-entry_status f = Proof (Entry f.function f.spot f.wrong)
-
--- the entry of this function is the first of the file that isn't derived, and this is wrong first, at this place of it
-pub record LacksDerivation (core : CoreUnitTree) (given proofs : ProofsTree) (name : List ℕ)
-    (place : EntryPlace) (wrong : ProofText) : Type 0 where
-  pub function : ℕ
-  pub fault : DerivFault
-  pub named : name ≡ function_name core function
-  pub first :
-      first_fault core proofs (entry_functions given.functions)
-      ≡ Some (record { function = function; fault = fault })
-  pub place_is : place ≡ fault_place fault
-  pub wrong_is : wrong ≡ fault_text core function fault
 
 -- the proofs cover the unit: of the file each entry is derived
 pub record AreCovering (core : CoreUnitTree) (given proofs : ProofsTree) : Type 0 where
@@ -130,7 +76,7 @@ pub record AreCovering (core : CoreUnitTree) (given proofs : ProofsTree) : Type 
 abbrev pub covering : CoreUnitTree → (given proofs : ProofsTree) → Step tool
 covering core given proofs =
     deciding 12 (λ (u : Unit {0}). AreCovering core given proofs)
-    (λ (f : EntryRefusal). LacksDerivation core given proofs f.function (place_of f.spot) f.wrong)
+    (λ (f : EntryRefusal). LacksDerivation Stack core given proofs f.function (place_of f.spot) f.wrong)
     entry_status
 
 -- ---- together

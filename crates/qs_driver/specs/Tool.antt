@@ -4,12 +4,13 @@ use Rattle.std.specs.declared.alloc.Global.{Global}
 use Rattle.std.specs.declared.string.String.{String}
 use Rattle.qs_cli.specs.Reading.{command_of}
 use Rattle.qs_cli.specs.declared.commands.Command as code
-use Rattle.qs_cli.specs.Commands.{Command, meaning, Build, Check, Bound, Derive, Outline, Run, Exec, Sample, Elf, Unelf}
+use Rattle.qs_cli.specs.Commands.{Command, meaning, Build, Check, Bound, Calls, Derive, Outline, Run, Exec, Sample, Elf, Unelf}
 use Rattle.qs_driver_session.specs.commands.Run as run
 use Rattle.qs_driver_session.specs.commands.Usage.{none}
 use Rattle.qs_driver_session.specs.Starting.{run_words}
 use Rattle.qs_driver_elf.specs.Elf as elf
 use Rattle.qs_driver_elf.specs.Unelf as unelf
+use Rattle.qs_driver_calls.specs.Calls as calls
 use Rattle.qs_driver.specs.Asked.{Asked, by_steps, by_task}
 use Rattle.qs_driver.specs.Certified.{certify_words}
 use Rattle.qs_driver.specs.commands.Build.{build, build_words}
@@ -30,6 +31,7 @@ task_of None = by_steps none
 task_of (Some (Build source proof out)) = by_task (build (build_words source proof out))
 task_of (Some (Check source proof)) = by_steps (check.order_of (certify_words source proof))
 task_of (Some (Bound source proof args)) = by_task (bound (bound_words source proof args))
+task_of (Some (Calls words)) = by_steps (calls.order_of words)
 task_of (Some (Derive source out)) = by_task (derive (derive_words source out))
 task_of (Some (Outline source)) = by_steps (outline.order_of (outline.outline_words source))
 task_of (Some (Run image stack args input steps)) =

@@ -7,7 +7,6 @@ mod commands;
 mod laws;
 mod made;
 mod orders;
-mod told;
 mod tool;
 
 pub use laws::{

@@ -2,14 +2,14 @@
 // some arguments.
 ghost use Rattle.std.specs.Prelude.{◌≡◌, IfOk};
 ghost use Rattle.qs_driver.specs.Bounds.{costs_in};
-ghost use Rattle.qs_driver.specs.Certified.{words_in};
+ghost use Rattle.qs_driver.specs.Certified.{words_in, HasItsCore};
 ghost use Rattle.qs_driver.specs.Made.{MakesCertified, MakesOn};
 
 use crate::certified::{CertifiedUnit, CertifyOrder, read_certified};
 use qs_assert::Amount;
 use qs_base::NoMemory;
 use qs_certify::bound_of_main;
-use qs_compile::compile;
+use qs_compile::compile_core;
 use qs_driver_session::{Status, image_words};
 use qs_image::{FunctionRecord, Image};
 use qs_ports::Store;
@@ -45,9 +45,10 @@ pub fn make_certified(
     certified: &CertifiedUnit,
     args: &[i64],
 ) -> Result<Made, Status>
+    requires { HasItsCore certified.now }
     ensures { MakesCertified certified.now args.now result }
 {
-    let image = compile(alloc, &certified.typed)?;
+    let image = compile_core(alloc, &certified.core)?;
     image_words(alloc, &image, args)?;
     let costs = image_costs(alloc, &image)?;
     let proofs = &certified.certified.proofs;

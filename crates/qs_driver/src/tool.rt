@@ -16,6 +16,7 @@ use crate::orders::{
     to_bound, to_build, to_check, to_derive, to_exec, to_outline, to_run, to_sample,
 };
 use qs_cli::{CliFault, Command, read_words};
+use qs_driver_calls::calls;
 use qs_driver_elf::{elf, unelf};
 use qs_driver_session::{Devices, Status, nameless, refuse, run, usage};
 use qs_ports::{Sink, Store};
@@ -48,6 +49,7 @@ fn perform<S: Store, O: Sink, L: Sink>(
             proof,
             args,
         } => bound(alloc, &to_bound(source, proof, args), devices),
+        Command::Calls(words) => calls(alloc, words, devices),
         Command::Derive { source, out } => derive(alloc, &to_derive(source, out), devices),
         Command::Exec {
             source,

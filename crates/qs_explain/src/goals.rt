@@ -1,6 +1,6 @@
 // What the certificates of an entry are to show. The walk over a body goes down to a statement, and
 // computes what must be free behind it as the check does.
-use qs_assert::Assertion;
+use qs_assert::{Assertion, Room};
 use qs_base::FnId;
 use qs_calls::Callee;
 use qs_core::{CoreExpr, CoreStmt};
@@ -66,8 +66,8 @@ impl<'a> Walk<'a> {
     // What must be free before this code, by this derivation.
     fn needed(&self, d: &Derivation, code: Code<'_>, q: Posts<'_>) -> Result<Assertion, Stop> {
         let answer = match code {
-            Code::Body(body) => body_pre(self.alloc, d, self.scope, body, q),
-            Code::Statement(s) => pre(self.alloc, d, self.scope, s, q),
+            Code::Body(body) => body_pre(self.alloc, &mut Room::to_make(), d, self.scope, body, q),
+            Code::Statement(s) => pre(self.alloc, &mut Room::to_make(), d, self.scope, s, q),
         };
         match answer {
             Ok(needed) => Ok(needed),

@@ -21,6 +21,7 @@ use Rattle.qs_driver_session.specs.declared.status.Status.{Status}
 use Rattle.qs_driver_session.specs.declared.status.Status.TheVariants.{Proof, NoMemory}
 use Rattle.qs_driver_session.proofs.SourceFollows.{source_own}
 use Rattle.qs_driver_session.proofs.rooms.Follows.{Follows}
+use Rattle.qs_driver_proofs.specs.Refusals.{Tells}
 use Rattle.qs_driver.specs.Certified.{LacksCertified}
 use Rattle.qs_driver.specs.Certified as certified
 use Rattle.qs_driver.specs.commands.Derive.{DeriveWords, inputs, derive, CannotDerive, IsDueToDerive, Accepts, Refuses, IsOfDerive}
@@ -48,7 +49,7 @@ derive_ends d v w due (meant.refused differ status c is) =
 -- ---- its own statuses
 
 -- without a proof file nothing but a cycle is wrong with proofs
-cycle_alone : (u : CoreUnitTree) (file : Option (List ℕ)) (fault : CertifyFault) (told : ProofFault) → file ≡ None → CannotCertify u file fault → certified.Tells u file fault told → (functions : Vec (List ℕ) Global) × (told ≡ Cycle functions)
+cycle_alone : (u : CoreUnitTree) (file : Option (List ℕ)) (fault : CertifyFault) (told : ProofFault) → file ≡ None → CannotCertify u file fault → Tells u file fault told → (functions : Vec (List ℕ) Global) × (told ≡ Cycle functions)
 cycle_alone u file faults.NoMemory told none cause tells = absurd tells
 cycle_alone u file (faults.Text fault) told none cause tells = absurd (let never : None ≡ Some cause.text = sym none ∙ cause.is in (let no : ⊥ = cc in no))
 cycle_alone u file (faults.Cycle fs) told none cause (functions, is, named) = (functions, is)

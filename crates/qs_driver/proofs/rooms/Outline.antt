@@ -24,10 +24,10 @@ use Rattle.qs_driver_session.specs.declared.status.Status.{Status}
 use Rattle.qs_driver_session.specs.declared.status.Status.TheVariants.{Done, NoMemory}
 use Rattle.qs_driver_session.proofs.OriginLaws.{origin_single, origin_within}
 use Rattle.qs_driver_session.proofs.PieceLaws.{log_last, out_last}
-use Rattle.qs_driver.specs.Proved.{IsCoreOf}
+use Rattle.qs_driver_proofs.specs.Steps.{IsCoreOf}
 use Rattle.qs_driver.specs.commands.Outline.{OutlineWords, names_of, printed, outline_end, outline_unit, outline, order_of, due_of, Outlines}
-use Rattle.qs_driver.proofs.ProvedLaws.{coring_sound, coring_one, is_core, no_core}
-use Rattle.qs_driver.proofs.ProvedReads.{HasText, passed_text, is_core_of}
+use Rattle.qs_driver_proofs.proofs.StepsLaws.{coring_sound, coring_one, is_core, no_core}
+use Rattle.qs_driver_proofs.proofs.SourceReads.{HasText, passed_text, is_core_of}
 
 -- ---- it is good
 

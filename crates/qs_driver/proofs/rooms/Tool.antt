@@ -2,7 +2,7 @@
 use Rattle.std.proofs.Common.{◌≡◌, ◌≢◌, ◌⊎◌, ◌∙◌, ◌<◌, Option, Some, None, sym, subst, inl, inr}
 use Rattle.qs_ports.specs.StoreView.{StoreView}
 use Rattle.qs_ports.specs.SinkView.{SinkView}
-use Rattle.qs_cli.specs.Commands.{Command, Build, Check, Bound, Derive, Outline, Run, Exec, Sample, Elf, Unelf}
+use Rattle.qs_cli.specs.Commands.{Command, Build, Check, Bound, Calls, Derive, Outline, Run, Exec, Sample, Elf, Unelf}
 use Rattle.qs_driver_session.specs.Names.{no_names}
 use Rattle.qs_driver_session.specs.Faults.{status_line}
 use Rattle.qs_driver_steps.specs.Devices.{DevicesView, streams_of, views_of}
@@ -25,6 +25,7 @@ use Rattle.qs_driver_steps.specs.Promises as steps
 use Rattle.qs_driver_steps.proofs.Follows.{promised as steps_promised, promised_without_memory}
 use Rattle.qs_driver_elf.proofs.ElfSteps.{elf_good}
 use Rattle.qs_driver_elf.proofs.UnelfSteps.{unelf_good}
+use Rattle.qs_driver_calls.proofs.CallsSteps.{calls_good}
 use Rattle.qs_driver.specs.Asked.{Asked, by_steps, by_task, Answers, Promises}
 use Rattle.qs_driver.specs.Certified.{CertifyWords}
 use Rattle.qs_driver.specs.Tool.{task_of}
@@ -106,6 +107,7 @@ promised None v w result a = steps_promised none usage_good v w result a
 promised (Some (Build source proof out)) v w result a = of_task _ (build_follows _) v w result a
 promised (Some (Check source proof)) v w result a = steps_promised _ (check_good _) v w result a
 promised (Some (Bound source proof args)) v w result a = of_task _ (bound_follows _) v w result a
+promised (Some (Calls words)) v w result a = steps_promised _ (calls_good words) v w result a
 promised (Some (Derive source out)) v w result a = of_task _ (derive_follows _) v w result a
 promised (Some (Outline source)) v w result a = steps_promised _ (outline_good _) v w result a
 promised (Some (Run image stack args input steps)) v w result a = steps_promised _ (run_good _) v w result a

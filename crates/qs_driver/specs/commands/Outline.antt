@@ -15,7 +15,7 @@ use Rattle.qs_driver_session.specs.Origin.{origin}
 use Rattle.qs_driver_session.specs.Statuses.{tool}
 use Rattle.qs_driver_session.specs.declared.status.Status.{Status}
 use Rattle.qs_driver_session.specs.declared.status.Status.TheVariants.{Done}
-use Rattle.qs_driver.specs.Proved.{coring}
+use Rattle.qs_driver_proofs.specs.Steps.{coring}
 use Rattle.qs_driver.specs.declared.commands.outline.OutlineOrder.{OutlineOrder}
 
 -- ---- the words

@@ -8,7 +8,7 @@ ghost use Rattle.qs_driver.specs.commands.Build.{due_to, inputs, names_of, to_do
 ghost use Rattle.qs_driver.specs.commands.Build.{NamesDiffer, NamesOneTwice};
 
 use crate::certified::{CertifyOrder, read_certified};
-use qs_compile::compile;
+use qs_compile::compile_core;
 use qs_driver_session::{
     Devices, FileNames, Status, Streams, WordsFault, nameless, put_costs, refuse, status_after,
 };
@@ -78,7 +78,7 @@ fn build_file<S: Store>(
         return Err(Status::Words(WordsFault::SameName));
     }
     let certified = read_certified(alloc, store, &inputs_of(order))?;
-    let image = compile(alloc, &certified.typed)?;
+    let image = compile_core(alloc, &certified.core)?;
     let bytes = write(alloc, &image)?;
     write_whole(store, order.out, &bytes)?;
     Ok(image)

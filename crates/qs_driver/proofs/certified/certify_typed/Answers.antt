@@ -13,4 +13,4 @@ pub returns-in-Ok : goal.returns-in-Ok
 returns-in-Ok c = record { unit_is = refl; core_is = c.in_ok-core.ensures; certified = c.in-Ok.ensures.certified }
 
 pub returns-in-Err : goal.returns-in-Err
-returns-in-Err c = cannot_certify (unit_tree c.in_ok-core.core) c.in-Err.fault c.in_ok-core.ensures c.in-Err.ensures.fault c.told.ensures
+returns-in-Err c = cannot_certify (unit_tree c.in_ok-core.core) c.in-Err.fault c.in_ok-core.ensures c.in-Err.ensures.fault c.proofs_told.ensures

@@ -1,6 +1,7 @@
 use Rattle.std.proofs.lemmas.Result.{err_from_is_err_and}
 use Rattle.qs_driver.specs.Certified.{words_in}
 use Rattle.qs_driver.specs.Made.{make_words}
+use Rattle.qs_driver.proofs.CertifiedLaws.{has_its_core}
 use Rattle.qs_driver.proofs.MadeLaws.{made_or_not, not_certified}
 use Rattle.qs_driver.proofs.made.make.Goals as goal
 
@@ -11,3 +12,6 @@ returns-in_err-certified g c =
 
 pub returns : goal.returns
 returns g c = made_or_not (make_words (words_in c.args.inputs.now) c.args.args.now) _ _ c.in_ok-certified.certified c.make_certified.result c.in_ok-certified.ensures.reads c.make_certified.ensures
+
+pub make_certified-requires : goal.make_certified-requires
+make_certified-requires g c = has_its_core c.in_ok-certified.ensures.reads

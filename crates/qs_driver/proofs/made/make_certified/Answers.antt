@@ -14,7 +14,7 @@ returns-in_err-image c =
 pub returns-in_err-image_words : goal.returns-in_err-image_words
 returns-in_err-image_words c =
     let p = err_from_is_err_and c.from_residual-in_err-image_words.result c.from_residual-in_err-image_words.ensures.1 in
-    rw (p.1, p.2) (lacks_words _ c.in_ok-image.ensures c.in_err-image_words.ensures)
+    rw (p.1, p.2) (lacks_words _ (c.in_ok-image.ensures c.args.certified.now.typed c.requires) c.in_err-image_words.ensures)
 
 pub returns-in_err-costs : goal.returns-in_err-costs
 returns-in_err-costs c =
@@ -28,7 +28,7 @@ returns-in_err-bound c =
 
 pub returns : goal.returns
 returns c = record {
-  compiled = c.in_ok-image.ensures;
+  compiled = c.in_ok-image.ensures c.args.certified.now.typed c.requires;
   arguments = c.in_ok-image_words.ensures.arguments;
   bound_is =
       c.in_ok-bound.ensures

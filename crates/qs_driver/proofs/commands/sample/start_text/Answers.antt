@@ -1,6 +1,7 @@
-use Rattle.std.proofs.Common.{Ok, subst}
+use Rattle.std.proofs.Common.{◌∙◌, Ok, ap, subst}
 use Rattle.std.proofs.lemmas.Result.{err_from_is_err_and}
 use Rattle.qs_typing_findings.proofs.TypedLaws.{is_read}
+use Rattle.qs_elaborate_bodies.specs.Units.{core_of}
 use Rattle.qs_driver_session.specs.Starting.{RunWords, LoadsImage}
 use Rattle.qs_driver.specs.declared.commands.sample.SampleStart.{SampleStart}
 use Rattle.qs_driver.proofs.rooms.Sample.{has_started}
@@ -37,3 +38,6 @@ pub returns-in_err-machine : goal.returns-in_err-machine
 returns-in_err-machine c =
     let p = err_from_is_err_and c.from_residual-in_err-machine.result c.from_residual-in_err-machine.ensures.1 in
     rw (p.1, p.2) (λ can. not_unloaded _ _ _ c.run_order.ensures c.in_ok-made.ensures c.in_ok-stack.ensures c.in_err-machine.ensures)
+
+pub make_certified-requires : goal.make_certified-requires
+make_certified-requires c = ap core_of c.in_ok-certified.ensures.unit_is ∙ c.in_ok-certified.ensures.core_is

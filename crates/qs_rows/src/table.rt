@@ -80,33 +80,72 @@ fn is_as_wanted<R: Print>(rt: &R, row: &Row, ran: &Ran) -> bool {
     status && out && log && after && untouched && gone
 }
 
+/// A line of a row, and its number in the table.
+#[derive(Clone, Copy)]
+struct RowLine<'a> {
+    number: usize,
+    text: &'a str,
+}
+
+/// A row whose lines are read: it is run once for each number from the first to the last.
+#[derive(Drop)]
+struct OpenRow<'a> {
+    name: &'a str,
+    // Whether the files are those that the row before left.
+    goes_on: bool,
+    first: u64,
+    last: u64,
+    lines: Vec<RowLine<'a>>,
+}
+
+impl<'a> OpenRow<'a> {
+    // A row of one run.
+    fn new(alloc: Global, name: &'a str, goes_on: bool) -> OpenRow<'a> {
+        OpenRow {
+            name,
+            goes_on,
+            first: 0,
+            last: 0,
+            lines: Vec::new(alloc),
+        }
+    }
+
+    fn add(&mut self, line: RowLine<'a>) -> Result<(), TableFault> {
+        if let Some(Line::Each(first, last)) = line_of(line.text) {
+            self.first = first;
+            self.last = last;
+        } else {
+            self.lines.push(line)?;
+        }
+        Ok(())
+    }
+
+    // The row of the run with this number, which stands for each `~n`.
+    fn row(&self, alloc: Global, run: u64) -> Result<Row, TableFault> {
+        let run = format!(in alloc; "{run}")?;
+        let name = self.name.replace(alloc, "~n", run.as_str())?;
+        let mut row = Row::new(alloc, name.as_str(), self.goes_on)?;
+        for line in &self.lines {
+            let text = line.text.replace(alloc, "~n", run.as_str())?;
+            let meant = line_of(text.as_str()).ok_or(TableFault::Line(line.number))?;
+            row.add(alloc, meant, line.number)?;
+        }
+        Ok(row)
+    }
+}
+
 /// How far a table was run.
 #[derive(Drop)]
-struct Progress {
+struct Progress<'a> {
     // The row that is open.
-    row: Option<Row>,
+    row: Option<OpenRow<'a>>,
     // The files that the row before left.
     left: Option<MemStore>,
     rows: usize,
     differing: usize,
 }
 
-impl Progress {
-    // Opens a row.
-    fn open(
-        &mut self,
-        alloc: Global,
-        name: &str,
-        goes_on: bool,
-        number: usize,
-    ) -> Result<(), TableFault> {
-        if self.row.is_some() {
-            return Err(TableFault::Place(number));
-        }
-        self.row = Some(Row::new(alloc, name, goes_on)?);
-        Ok(())
-    }
-
+impl<'a> Progress<'a> {
     // The store that a row begins with.
     fn store(&mut self, alloc: Global, row: &Row, number: usize) -> Result<MemStore, TableFault> {
         let left = self.left.take();
@@ -117,40 +156,56 @@ impl Progress {
         }
     }
 
-    // Runs the row that is open.
-    fn close<R: Print>(&mut self, rt: &R, alloc: Global, number: usize) -> Result<(), TableFault> {
-        let row = self.row.take().ok_or(TableFault::Place(number))?;
-        let store = self.store(alloc, &row, number)?;
-        let ran = run(alloc, &row, store)?;
+    fn run<R: Print>(
+        &mut self,
+        rt: &R,
+        alloc: Global,
+        row: &Row,
+        number: usize,
+    ) -> Result<(), TableFault> {
+        let store = self.store(alloc, row, number)?;
+        let ran = run(alloc, row, store)?;
         self.rows = self.rows.saturating_add(1);
-        if !is_as_wanted(rt, &row, &ran) {
+        if !is_as_wanted(rt, row, &ran) {
             self.differing = self.differing.saturating_add(1);
         }
         self.left = Some(ran.store);
         Ok(())
     }
 
-    // Adds a line to the row that is open. Outside of rows only comments stand.
-    fn add(&mut self, alloc: Global, line: Line<'_>, number: usize) -> Result<(), TableFault> {
-        match (&mut self.row, line) {
-            (Some(row), line) => row.add(alloc, line, number),
-            (None, Line::Nothing) => Ok(()),
-            (None, _) => Err(TableFault::Place(number)),
+    // Runs the row that is open, once for each of its numbers.
+    fn close<R: Print>(&mut self, rt: &R, alloc: Global, number: usize) -> Result<(), TableFault> {
+        let open = self.row.take().ok_or(TableFault::Place(number))?;
+        for run in open.first..open.last.saturating_add(1) {
+            let row = open.row(alloc, run)?;
+            self.run(rt, alloc, &row, number)?;
         }
+        Ok(())
+    }
+
+    // Takes a line outside of rows: a row begins, or nothing is meant.
+    fn begin(&mut self, alloc: Global, line: RowLine<'a>) -> Result<(), TableFault> {
+        match line_of(line.text).ok_or(TableFault::Line(line.number))? {
+            Line::Row(name) => self.row = Some(OpenRow::new(alloc, name, false)),
+            Line::Then(name) => self.row = Some(OpenRow::new(alloc, name, true)),
+            Line::Nothing => {}
+            _ => return Err(TableFault::Place(line.number)),
+        }
+        Ok(())
     }
 
     fn take<R: Print>(
         &mut self,
         rt: &R,
         alloc: Global,
-        line: Line<'_>,
-        number: usize,
+        line: RowLine<'a>,
     ) -> Result<(), TableFault> {
-        match line {
-            Line::Row(name) => self.open(alloc, name, false, number),
-            Line::Then(name) => self.open(alloc, name, true, number),
-            Line::End => self.close(rt, alloc, number),
-            other => self.add(alloc, other, number),
+        if line.text == "end" {
+            return self.close(rt, alloc, line.number);
+        }
+        match &mut self.row {
+            Some(row) => row.add(line),
+            None => self.begin(alloc, line),
         }
     }
 }
@@ -171,8 +226,8 @@ pub fn run_table<R: Print + AllocGlobal>(
     let mut number: usize = 0;
     for line in text.split('\n') {
         number = number.saturating_add(1);
-        let line = line_of(line).ok_or(TableFault::Line(number))?;
-        progress.take(rt, rt.alloc(), line, number)?;
+        let line = RowLine { number, text: line };
+        progress.take(rt, rt.alloc(), line)?;
     }
     if progress.row.is_some() {
         return Err(TableFault::Open);

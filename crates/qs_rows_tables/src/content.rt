@@ -62,3 +62,27 @@ pub fn add_hex(
     }
     Ok(())
 }
+
+/// Leaves so many of the first bytes.
+pub fn cut(bytes: &mut Vec<u8>, count: usize, number: usize) -> Result<(), TableFault> {
+    if count > bytes.len() {
+        return Err(TableFault::Place(number));
+    }
+    bytes.truncate(count);
+    Ok(())
+}
+
+/// Puts the byte of two hexadecimal digits in the place of the one that is there.
+pub fn set_byte(
+    bytes: &mut [u8],
+    at: usize,
+    digits: &str,
+    number: usize,
+) -> Result<(), TableFault> {
+    let byte = byte_of(digits.as_bytes()).ok_or(TableFault::Line(number))?;
+    if at >= bytes.len() {
+        return Err(TableFault::Place(number));
+    }
+    bytes[at] = byte;
+    Ok(())
+}

@@ -41,6 +41,8 @@ pub enum Line<'a> {
     Chunk(usize),
     /// The call of the device with this number, from 0, fails.
     Fails(Device, u64),
+    /// The row is run once for each number from the first to the last.
+    Each(u64, u64),
     /// The number of the status.
     Status(u8),
     /// What standard output gets follows.
@@ -59,6 +61,10 @@ pub enum Line<'a> {
     Times(usize, &'a str),
     /// Content: these bytes, two digits each.
     Hex(&'a str),
+    /// Content: only so many of its first bytes.
+    Cut(usize),
+    /// Content: its byte with this number, from 0, is this one, of two digits.
+    Byte(usize, &'a str),
     /// The row ends.
     End,
 }
@@ -81,6 +87,19 @@ fn fails_of<'a>(rest: &'a str) -> Option<Line<'a>> {
     Some(Line::Fails(device_of(device)?, number))
 }
 
+fn each_of<'a>(rest: &'a str) -> Option<Line<'a>> {
+    let (first, last) = rest.split_once(' ')?;
+    let first = first.parse::<u64>().ok()?;
+    let last = last.parse::<u64>().ok()?;
+    Some(Line::Each(first, last))
+}
+
+fn byte_of<'a>(rest: &'a str) -> Option<Line<'a>> {
+    let (number, digits) = rest.split_once(' ')?;
+    let number = number.parse::<usize>().ok()?;
+    Some(Line::Byte(number, digits))
+}
+
 fn times_of<'a>(rest: &'a str) -> Option<Line<'a>> {
     let (count, text) = rest.split_once(' ')?;
     let count = count.parse::<usize>().ok()?;
@@ -94,6 +113,8 @@ fn content_of<'a>(word: &str, rest: &'a str) -> Option<Line<'a>> {
         "put" => Some(Line::Put(rest)),
         "times" => times_of(rest),
         "hex" => Some(Line::Hex(rest)),
+        "cut" => Some(Line::Cut(rest.parse::<usize>().ok()?)),
+        "byte" => byte_of(rest),
         _ => None,
     }
 }
@@ -123,6 +144,7 @@ fn given_of<'a>(word: &str, rest: &'a str) -> Option<Line<'a>> {
         "decode" => Some(Line::Decode),
         "chunk" => Some(Line::Chunk(rest.parse::<usize>().ok()?)),
         "fails" => fails_of(rest),
+        "each" => each_of(rest),
         _ => wanted_of(word, rest),
     }
 }

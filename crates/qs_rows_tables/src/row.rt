@@ -1,5 +1,5 @@
 // Rows, and how lines fill them.
-use crate::content::{add_hex, add_text, add_times};
+use crate::content::{add_hex, add_text, add_times, cut, set_byte};
 use crate::fault::TableFault;
 use crate::line::{Device, Line};
 use qs_ports::StoreCall;
@@ -131,6 +131,8 @@ impl Row {
             }
             Line::Times(count, text) => add_times(alloc, bytes, count, text, number),
             Line::Hex(text) => add_hex(alloc, bytes, text, number),
+            Line::Cut(count) => cut(bytes, count, number),
+            Line::Byte(at, digits) => set_byte(bytes, at, digits, number),
             _ => Err(TableFault::Place(number)),
         }
     }

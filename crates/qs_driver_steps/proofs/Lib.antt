@@ -8,3 +8,4 @@ pub mod StoreLaws
 pub mod RunsLaws
 pub mod ReadingLaws
 pub mod Follows
+pub mod StepsExamples

@@ -23,7 +23,7 @@ use Rattle.qs_driver_session.specs.Told.{place_of}
 use Rattle.qs_driver_session.specs.declared.status.ProofFault.{ProofFault}
 use Rattle.qs_driver_session.specs.declared.status.ProofFault.TheVariants.{Text, Order, Entry}
 use Rattle.qs_driver_session.specs.declared.status.Status.{Status}
-use Rattle.qs_driver_session.specs.declared.status.Status.TheVariants.{Proof, NoMemory}
+use Rattle.qs_driver_session.specs.declared.status.Status.TheVariants.{Proof}
 use Rattle.qs_driver_proofs.specs.Refusals.{Tells, TellsFault}
 use Rattle.qs_driver_proofs.specs.Steps.{reading_proofs, LacksDerivation}
 use Rattle.qs_driver_proofs.proofs.StepsLaws.{is_given, wrong_text, no_proofs_memory}

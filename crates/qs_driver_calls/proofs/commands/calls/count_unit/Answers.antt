@@ -1,4 +1,3 @@
-use Rattle.std.proofs.Common.{sym, subst}
 use Rattle.std.proofs.lemmas.Result.{err_from_is_err_and}
 use Rattle.qs_typing_findings.specs.TypedOf.{typed_tree}
 use Rattle.qs_driver_calls.proofs.CallsLaws.{has_core, few_parameters, no_core_ends, no_proofs, no_arguments, no_count, was_counted}

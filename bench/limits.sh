@@ -31,7 +31,7 @@ endless_conditionals() { conditionals 1000; }
 in_conditionals() { printf '(function f (pre (guard (le 1 0) 0)) (post (num (result))) (entry (assume (absurd ((1 1))))) (body (seq %s(leaf))))' "$(each "$1" '(if (leaf) (leaf)) ')" >a.proof; }
 deepest_list() { echo "$of_one" >a.c && in_file 0 "(split (le $(around 1019 '(wraps ' x ')') 0) (same) (same))"; }
 definitions() { echo "$of_one" >a.c && seq 930000 | sed 's/.*/(define d& 0)/' | head -c 16777000 | sed '$d' >a.proof; }
-terms() { echo "$of_one" >a.c && in_file 0 "(via (mul (add $(each 64 '(num (add (mul 2 x) %)) ')) (add $(each 64 '(num (add (mul 3 x) %)) '))) (same) (same))"; }
+terms() { echo "$of_one" >a.c && in_file 0 "(via (mul (add $(each 64 '(num (add (mul 2 x) %)) ')) (add $(each 64 '(num (add (mul 3 x) %)) '))) (arith ()) (arith ()))"; }
 
 wrong=0
 # name of the case, pattern of the first line of the answer, words of the call

@@ -2,7 +2,7 @@
 # Refuses each allocation of a call in turn: bench/refuse.sh [PROGRAM [STEP [SOURCE ..]]]
 #
 # The calls are `build`, `check`, `exec`, `derive`, `outline` and `run`, the sources those of examples/ that are named, by
-# default crc32, calc, derivations/countdown and sha256, and one of 2,000 nodes that is made here. Of the allocations each
+# default crc32, calc, derivations/countdown and scanner, and one of 2,000 nodes that is made here. Of the allocations each
 # STEPth is refused, by default each. Where one is, the status must be 12, with the line `out of memory` and nothing on
 # standard output, and no file was made; or all is as with ample memory. Prints for each call how many allocations it
 # makes, how many were refused, how many of these ended with status 12, and the seconds; ends with 1 where an answer is
@@ -13,18 +13,24 @@ source "$here/program.sh"
 source "$here/shapes.sh"
 step=${2:-1}
 sources=("${@:3}")
-[ ${#sources[@]} != 0 ] || sources=(crc32 calc derivations/countdown sha256 generated)
+[ ${#sources[@]} != 0 ] || sources=(crc32 calc derivations/countdown scanner generated)
+mkdir made
 gcc -shared -fPIC -O2 -o refuse.so "$here/refuse.c" || exit 2
 
 wrong=0
+is_made() { compgen -G 'made/*' >/dev/null; }
 # the words of a call, with the number of the allocation that is refused, or 0: sets `status`; `out`, `line` and made/ hold
 # the rest
 call() {
-  rm -rf made && mkdir made
-  timeout 60 env REFUSED="$1" COUNTED=count LD_PRELOAD="$PWD/refuse.so" "$program" "${@:2}" >out 2>line </dev/null
+  ! is_made || rm made/*
+  (
+    ulimit -t 60
+    export REFUSED="$1" COUNTED=count LD_PRELOAD="$PWD/refuse.so"
+    exec "$program" "${@:2}"
+  ) >out 2>line </dev/null
   status=$?
 }
-is_refused() { [ $status = 12 ] && [ ! -s out ] && [ "$(cat line)" = 'out of memory' ] && [ -z "$(ls made)" ]; }
+is_refused() { [ $status = 12 ] && [ ! -s out ] && [ "$(<line)" = 'out of memory' ] && ! is_made; }
 is_as_ample() { [ $status = "$ample" ] && cmp -s out ample.out && cmp -s line ample.line && diff -rq made ample.made >ample.diff; }
 
 # each allocation of one call

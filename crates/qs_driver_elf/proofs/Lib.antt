@@ -2,3 +2,5 @@ pub mod NameLaws
 pub mod ElfSteps
 pub mod UnelfSteps
 pub mod PlainWords
+pub mod ElfExamples
+pub mod UnelfExamples

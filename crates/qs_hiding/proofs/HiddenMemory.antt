@@ -1,5 +1,5 @@
 -- Steps of memory where blocks are hidden: at pointers that stay in the reach they do the same, and leave a memory of which the same is so.
-use Rattle.std.proofs.Common.{◌≡◌, ◌⊎◌, inl, inr, ⊎_elim, ℕ, zero, suc, ◌+◌, ◌-◌, ◌/◌, ◌<◌, ◌≤◌, not, Bool, true, false, List, [], ◌∷◌, length, map, take, drop, Option, Some, None, refl, sym, ap, ap₂, ◌∙◌, subst, arith}
+use Rattle.std.proofs.Common.{◌≡◌, ◌⊎◌, inl, inr, ⊎_elim, ℕ, zero, suc, ◌+◌, ◌-◌, ◌/◌, ◌<◌, ◌≤◌, not, Bool, true, false, List, [], ◌∷◌, length, map, Option, Some, None, refl, sym, ap, ap₂, ◌∙◌, subst, arith}
 use Rattle.std.specs.Prelude.{slice_set, option_map}
 use Rattle.std.proofs.lemmas.Bool.{cases_eq, cases_lt}
 use Rattle.std.proofs.lemmas.Option.{same_Some}
@@ -45,7 +45,7 @@ module _ (r : Reach) where
   seen_none true = refl
   seen_none false = refl
 
-  block_hidden : (n : ℕ) (m : Memory) (b : ℕ) → block_at (hidden_from r n m) b ≡ seen (r.keeps (n + b)) (block_at m b)
+  pub block_hidden : (n : ℕ) (m : Memory) (b : ℕ) → block_at (hidden_from r n m) b ≡ seen (r.keeps (n + b)) (block_at m b)
   block_hidden n [] b = seen_none (r.keeps (n + b))
   block_hidden n (x ∷ m) zero = let here : n ≡ n + 0 = omega arith in ap (λ (k : ℕ). seen (r.keeps k) x) here
   block_hidden n (x ∷ m) (suc b) = let here : n + 1 + b ≡ n + suc b = omega arith in block_hidden (n + 1) m b ∙ ap (λ (k : ℕ). seen (r.keeps k) (block_at m b)) here

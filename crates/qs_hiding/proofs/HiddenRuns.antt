@@ -1,5 +1,5 @@
 -- A run in which what it can't touch is hidden is the run in the whole memory, and leaves that as it was.
-use Rattle.std.proofs.Common.{◌≡◌, ℕ, zero, suc, ◌+◌, ◌-◌, ◌%◌, ◌^◌, ◌==◌, ◌≤◌, ◌&&◌, Bool, true, false, List, [], ◌∷◌, length, Option, Some, None, refl, sym, ap, ◌∙◌, subst, arith, if◌then◌else◌}
+use Rattle.std.proofs.Common.{◌≡◌, ℕ, zero, suc, ◌+◌, ◌-◌, ◌%◌, ◌^◌, ◌==◌, ◌≤◌, ◌&&◌, Bool, true, false, List, [], ◌∷◌, length, Option, Some, None, refl, sym, ap, subst, arith, if◌then◌else◌}
 use Rattle.std.specs.Prelude.{option_map}
 use Rattle.std.specs.List.{slice_get, list_all}
 use Rattle.std.proofs.lemmas.Bool.{and_parts, and_from}
@@ -11,8 +11,8 @@ use Rattle.qs_memory.specs.Memory as blocks
 use Rattle.qs_memory.specs.Pointers.{member_of, truth}
 use Rattle.qs_memory.specs.Operations.{apply_unary}
 use Rattle.qs_memory.specs.declared.scalar.Scalar.{Scalar}
-use Rattle.qs_events.specs.Events.{Calls, Returns}
-use Rattle.qs_events.specs.Runs.{emit, undefined, short, given}
+use Rattle.qs_events.specs.Events.{Returns}
+use Rattle.qs_events.specs.Runs.{emit, short, given}
 use Rattle.qs_calls.specs.World.{World, with_memory, RootRun, Return, leaves, Environment, no_values, with_value}
 use Rattle.qs_calls.specs.Calls.{CallsOf, take_byte, get_char, put_char, invoke, Entered, pass}
 use Rattle.qs_calls.specs.Relations.{Relation, Keeps}
@@ -20,11 +20,11 @@ use Rattle.qs_calls.specs.declared.callee.Callee.{Callee}
 use Rattle.qs_calls.specs.declared.callee.Callee.TheVariants as callees
 use Rattle.qs_calls.specs.declared.parameter.Parameter.{Parameter}
 use Rattle.qs_calls.specs.declared.parameter.Parameter.TheVariants.{Plain, Placed}
-use Rattle.qs_meaning.specs.Typed.{Conversion, unchanged, as_written, Object, local, static, Expr, constant, value, pointer_to, member, called, stepped_after, unary, cast, binary, logical_and, logical_or, conditional, assigned, sequence, Lvalue, variable, object, Arguments, no_arguments, argument_and, Assignment, set, update, Effect, nothing, discard, assign, perform, copy, fill, in_order, Stmt, evaluate, block, branch, switch, case_label, default_label, while_loop, do_loop, for_loop, break, continue, return, return_nothing, Stmts, no_stmts, stmt_and, Function}
+use Rattle.qs_meaning.specs.Typed.{Conversion, unchanged, Object, local, static, Expr, constant, value, pointer_to, member, called, stepped_after, unary, cast, binary, logical_and, logical_or, conditional, assigned, sequence, Lvalue, variable, object, Arguments, no_arguments, argument_and, Assignment, set, update, Effect, nothing, discard, assign, perform, copy, fill, in_order, Stmt, evaluate, block, branch, switch, case_label, default_label, while_loop, do_loop, for_loop, break, continue, return, return_nothing, Stmts, no_stmts, stmt_and, Function}
 use Rattle.qs_meaning.specs.States.{Next, Here, choose, test, convert_by, conversion_then, pointer_at, Place, in_variable, in_object, read, write}
 use Rattle.qs_meaning.specs.Meaning.{operation_value, updated_value, step_amount, expression, lvalue, arguments, assignment, effect, Targets, in_loop, in_switch, is_case, is_default, turns, condition, for_condition, statement, statements, behind_label}
 use Rattle.qs_meaning.specs.Runs.{result_at_end, targets, body_of, calls_within}
-use Rattle.qs_hiding.specs.Hidden.{Reach, hidden, hidden_world, hidden_run, pointer_stays, value_stays, option_stays, IsClosed, object_stays, callee_stays, expression_stays, lvalue_stays, arguments_stay, assignment_stays, effect_stays, condition_stays, statement_stays, statements_stay, IsReach, IsBehind, IsHidden, HidingKeepsRuns}
+use Rattle.qs_hiding.specs.Hidden.{Reach, hidden, hidden_world, value_stays, option_stays, object_stays, callee_stays, expression_stays, lvalue_stays, arguments_stay, assignment_stays, effect_stays, condition_stays, statement_stays, statements_stay, IsReach, IsBehind, IsHidden, HidingKeepsRuns}
 use Rattle.qs_hiding.proofs.HiddenMemory.{length-hidden, store_hidden, store_behind, make_hidden, make_behind, release_hidden, release_behind}
 use Rattle.qs_hiding.proofs.HiddenValues.{Stays, conversion_stays, truth_hidden, member_hidden, member_stays, unary_value_hidden, unary_value_stays, operation_hidden, operation_stays, updated_hidden, updated_stays, place_stays, HoldsStaying, read_hidden, read_stays, store_at_hidden, store_at_behind, copy_at_hidden, copy_at_behind, fill_at_hidden, fill_at_behind}
 

@@ -1,12 +1,12 @@
 -- What steps give on values that stay in the reach is the same where blocks are hidden, and stays in the reach.
-use Rattle.std.proofs.Common.{◌≡◌, ℕ, zero, suc, ◌==◌, ◌&&◌, not, Bool, true, false, Option, Some, None, ℤ, pos, ◌+ℤ◌, refl, sym, ap, ap₂, ◌∙◌, subst}
+use Rattle.std.proofs.Common.{◌≡◌, ℕ, zero, suc, ◌==◌, ◌&&◌, not, Bool, true, false, Option, Some, ℤ, pos, ◌+ℤ◌, refl, ap, ap₂, subst}
 use Rattle.std.specs.Prelude.{nat_lt, option_map, if◌then◌else◌}
 use Rattle.std.proofs.lemmas.Option.{same_Some}
 use Rattle.qs_memory.specs.Partial.{◌>>=◌, only_if}
 use Rattle.qs_memory.specs.Values.{Pointer, null, into, Value, integer, address, as_integer, as_pointer, pointer_of_integer, convert}
 use Rattle.qs_memory.specs.Integers.{calculate}
-use Rattle.qs_memory.specs.Memory.{Block, Memory, block_at, Target, target, load, store, copy, fill, BlankTree}
-use Rattle.qs_memory.specs.Pointers.{within, moved, moved_by, directed, member_of, in_one_block, difference, is_inside, same_target, equal, compares_pointers, truth}
+use Rattle.qs_memory.specs.Memory.{Block, Memory, block_at, Target, target, store, copy, fill, BlankTree}
+use Rattle.qs_memory.specs.Pointers.{within, moved, moved_by, member_of, in_one_block, difference, same_target, equal, compares_pointers, truth}
 use Rattle.qs_memory.specs.Operations.{of_truth, apply_unary, apply_binary}
 use Rattle.qs_memory.specs.declared.scalar.Scalar.{Scalar}
 use Rattle.qs_memory.specs.declared.scalar.Scalar.TheVariants as scalars
@@ -17,7 +17,6 @@ use Rattle.qs_memory.specs.declared.operation.UnaryOperation.TheVariants as unar
 use Rattle.qs_memory.specs.declared.operation.BinaryOperation.{BinaryOperation}
 use Rattle.qs_memory.specs.declared.operation.BinaryOperation.TheVariants as binaries
 use Rattle.qs_memory.proofs.Options.{followed, only_if_some, only_if_value}
-use Rattle.qs_memory.proofs.BlockLaws.{target_is}
 use Rattle.qs_calls.specs.World.{World, Environment}
 use Rattle.qs_meaning.specs.Typed.{Conversion, unchanged, converted, Order, as_written, exchanged}
 use Rattle.qs_meaning.specs.States.{convert_by, Place, in_variable, in_object, read}

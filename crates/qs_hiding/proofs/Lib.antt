@@ -1,3 +1,4 @@
 pub mod HiddenMemory
 pub mod HiddenValues
 pub mod HiddenRuns
+pub mod HiddenExamples

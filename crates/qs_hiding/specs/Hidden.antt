@@ -4,7 +4,7 @@ use Rattle.std.specs.List.{slice_get, list_all}
 use Rattle.qs_memory.specs.Values.{Pointer, null, into, Value, integer, address}
 use Rattle.qs_memory.specs.Memory.{Cell, unset, byte, part, Block, Memory, block_at, released}
 use Rattle.qs_memory.specs.Soundness.{IsLive}
-use Rattle.qs_events.specs.Runs.{emit, ended, undefined, short, Left}
+use Rattle.qs_events.specs.Runs.{emit, ended, undefined, short}
 use Rattle.qs_calls.specs.World.{World, with_memory, RootRun}
 use Rattle.qs_calls.specs.declared.callee.Callee.{Callee}
 use Rattle.qs_calls.specs.declared.callee.Callee.TheVariants.{Function, PutChar, GetChar}

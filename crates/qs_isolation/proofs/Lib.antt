@@ -1,0 +1,4 @@
+pub mod Examples
+pub mod LinkLaws
+pub mod SourceNames
+pub mod TaskReach

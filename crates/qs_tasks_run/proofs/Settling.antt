@@ -67,7 +67,7 @@ module _ (y : System) where
       by true z = let same : arrive y a.task (record s { coming = coming }) ≡ x = cc in subst (IsLess (most_due s)) same (come_less a coming running s r size)
       by false z = cc
 
-  due_less : (running : List ℕ) (coming : List Arrival) (s : Scene) → s.running ≡ running → s.coming ≡ coming → IsSize s running coming → (x : Outcome) → due_by y running coming s ≡ Some x → IsLess (most_due s) x
+  pub due_less : (running : List ℕ) (coming : List Arrival) (s : Scene) → s.running ≡ running → s.coming ≡ coming → IsSize s running coming → (x : Outcome) → due_by y running coming s ≡ Some x → IsLess (most_due s) x
   due_less [] [] s r k size x e = cc
   due_less [] (a ∷ coming) s r k size x e = let same : arrive y a.task (record s { coming = coming }) ≡ x = cc in subst (IsLess (most_due s)) same (come_less a coming [] s r size)
   due_less (task ∷ running) coming s r k size x e = by (s.context.pc == 0) e
@@ -76,7 +76,7 @@ module _ (y : System) where
       by true z = let same : return_from y task running s ≡ x = cc in let len = ap length r in let more = ap length k in subst (IsLess (most_due s)) same (return_less task running s (most_due s) (omega (arith, len, more, size)))
       by false z = arrival_less coming (task ∷ running) s r size x z
 
-  size_is : (running : List ℕ) (coming : List Arrival) (s : Scene) → s.running ≡ running → s.coming ≡ coming → IsSize s running coming
+  pub size_is : (running : List ℕ) (coming : List Arrival) (s : Scene) → s.running ≡ running → s.coming ≡ coming → IsSize s running coming
   size_is running coming s r k = let len = ap length r in let more = ap length k in omega (arith, len, more)
 
   -- nothing is due where a run has settled
@@ -88,7 +88,7 @@ module _ (y : System) where
   settles_on turns more s le (Some (trapped task cause pc p)) e v q = cc
   settles_on turns more s le (Some (going t)) e v q = let lt : most_due t < most_due s = due_less s.running s.coming s refl refl (size_is s.running s.coming s refl refl) (going t) e in more t (omega (arith, lt, le)) v q
 
-  nothing_due : (running : List ℕ) (coming : List Arrival) (s : Scene) → s.running ≡ running → s.coming ≡ coming → most_due s ≤ 0 → due y s ≡ None
+  pub nothing_due : (running : List ℕ) (coming : List Arrival) (s : Scene) → s.running ≡ running → s.coming ≡ coming → most_due s ≤ 0 → due y s ≡ None
   nothing_due [] [] s r c le =
       let none : due_by y [] [] s ≡ None = refl in
       subst (λ (l : List ℕ). due_by y l s.coming s ≡ None) (sym r) (subst (λ (l : List Arrival). due_by y [] l s ≡ None) (sym c) none)

@@ -13,3 +13,4 @@ pub mod Returning
 pub mod Instructing
 pub mod LevelLaws
 pub mod TasksSafe
+pub mod TaskExamples

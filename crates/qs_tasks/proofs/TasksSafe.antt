@@ -152,7 +152,7 @@ module _ (p : Program) (bound times below : ℕ → ℕ) (works : IsWork p bound
 
 -- ---- what is asked of tasks
 
-arrives_known : (arrivals : List Arrival) (n task : ℕ) → All (λ (a : Arrival). a.task < n) arrivals → 0 < arrivals_of arrivals task → task < n
+pub arrives_known : (arrivals : List Arrival) (n task : ℕ) → All (λ (a : Arrival). a.task < n) arrivals → 0 < arrivals_of arrivals task → task < n
 arrives_known [] n task all lt = absurd (omega (arith, lt))
 arrives_known (a ∷ arrivals) n task all lt = ⊎_elim same (different (λ some. arrives_known arrivals n task (All-tail (λ (b : Arrival). b.task < n) a arrivals all) some)) (cases_eq a.task task)
   where
